@@ -100,6 +100,8 @@ module _ (part : Keyed) (area areas : ℕ) (top : Block) where
   head_keeps head rules.EndOfFile broken = broken
   head_keeps head rules.Record broken = broken
   head_keeps head rules.Order broken = broken
+  head_keeps head rules.Roster broken = broken
+  head_keeps head rules.Slots broken = broken
 
   -- what is no head breaks some rule
   pub head_or_broken : (IsHead part top → ⊥)

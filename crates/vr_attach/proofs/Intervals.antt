@@ -55,6 +55,8 @@ module _ (part : Keyed) (range : Range) (block : Block) where
   none_8 rules.EndOfFile less broken = omega (arith, less)
   none_8 rules.Record less broken = omega (arith, less)
   none_8 rules.Order less broken = omega (arith, less)
+  none_8 rules.Roster less broken = broken
+  none_8 rules.Slots less broken = broken
 
   pub least_8 : ((value : ci.Interval) → Spells part block value → ⊥)
       → IsLeastBroken Breaks rules.ControlInterval
@@ -131,6 +133,8 @@ module _ (part : Keyed) (range : Range) (block : Block) where
   range_keeps is rules.Order broken = broken.2 (subst (AreInOrder part range)
       (one_spelled shown broken.0 (holds-spells is) broken.1)
       (record { ascends = is.ascends; within = is.within }))
+  range_keeps is rules.Roster broken = broken
+  range_keeps is rules.Slots broken = broken
 
   -- what is none breaks some rule
   pub range_or_broken : (HoldsRange part range block → ⊥)

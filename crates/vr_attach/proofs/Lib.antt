@@ -4,5 +4,6 @@ pub mod Intervals
 pub mod Walks
 pub mod Passing
 pub mod Owning
+pub mod Reaching
 pub mod Claiming
 pub mod CallerLemmas

@@ -12,7 +12,8 @@ rule_of n =
     cond (nat_eq n 3) rules.AreaNumber (cond (nat_eq n 4) rules.AreaTwice
     (cond (nat_eq n 5) rules.SequenceSet (cond (nat_eq n 6) rules.PartNumber
     (cond (nat_eq n 7) rules.Places (cond (nat_eq n 8) rules.ControlInterval
-    (cond (nat_eq n 9) rules.EndOfFile (cond (nat_eq n 10) rules.Record rules.Order)))))))
+    (cond (nat_eq n 9) rules.EndOfFile (cond (nat_eq n 10) rules.Record
+    (cond (nat_eq n 11) rules.Order (cond (nat_eq n 13) rules.Roster rules.Slots)))))))))
 
 rule-is : (rule : Rule) → rule_of (rule_number rule) ≡ rule
 rule-is rules.AreaNumber = refl
@@ -24,6 +25,8 @@ rule-is rules.ControlInterval = refl
 rule-is rules.EndOfFile = refl
 rule-is rules.Record = refl
 rule-is rules.Order = refl
+rule-is rules.Roster = refl
+rule-is rules.Slots = refl
 
 -- rules of one number are one
 pub same_rule : (rule other : Rule) → rule_number rule ≡ rule_number other → rule ≡ other
@@ -57,6 +60,8 @@ none_first Breaks rules.ControlInterval less broken = omega (arith, less)
 none_first Breaks rules.EndOfFile less broken = omega (arith, less)
 none_first Breaks rules.Record less broken = omega (arith, less)
 none_first Breaks rules.Order less broken = omega (arith, less)
+none_first Breaks rules.Roster less broken = omega (arith, less)
+none_first Breaks rules.Slots less broken = omega (arith, less)
 
 -- nor with one more, where this one isn't broken
 pub none_more : (Breaks : Rule → Type 0) (rule : Rule) → NoneBelow Breaks (rule_number rule)

@@ -32,6 +32,8 @@ rule_number rules.ControlInterval = 8
 rule_number rules.EndOfFile = 9
 rule_number rules.Record = 10
 rule_number rules.Order = 11
+rule_number rules.Roster = 13
+rule_number rules.Slots = 14
 
 -- A rule is broken, and none with a lower number.
 pub record IsLeastBroken (Breaks : Rule → Type 0) (rule : Rule) : Type 0 where
@@ -85,6 +87,8 @@ HeadBreaks part area areas top rules.ControlInterval = ⊥
 HeadBreaks part area areas top rules.EndOfFile = ⊥
 HeadBreaks part area areas top rules.Record = ⊥
 HeadBreaks part area areas top rules.Order = ⊥
+HeadBreaks part area areas top rules.Roster = ⊥
+HeadBreaks part area areas top rules.Slots = ⊥
 
 -- ---- an interval
 
@@ -120,6 +124,8 @@ IntervalBreaks part range block rules.Record =
     (value : ci.Interval) × Spells part block value × (HasRecords part value → ⊥)
 IntervalBreaks part range block rules.Order =
     (value : ci.Interval) × Spells part block value × (AreInOrder part range value → ⊥)
+IntervalBreaks part range block rules.Roster = ⊥
+IntervalBreaks part range block rules.Slots = ⊥
 
 -- ---- the walk
 

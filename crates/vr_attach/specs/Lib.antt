@@ -3,4 +3,5 @@ pub mod CatalogRules
 pub mod Laid
 pub mod Owning
 pub mod Damage
+pub mod Chain
 pub mod Attached

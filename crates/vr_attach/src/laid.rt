@@ -1,10 +1,10 @@
-//! Where a keyed part is on the blocks of a volume.
+//! Where a part is on the blocks of a volume.
 ghost use Rattle.std.specs.Prelude.{◌≡◌, ◌<◌, ◌≤◌, ◌+◌};
 ghost use Rattle.vr_types.specs.Geometry.{IsAllowed, area_count};
-ghost use Rattle.vr_attach.specs.Laid.{keyed_part};
+ghost use Rattle.vr_attach.specs.Laid.{keyed_part, numbered_part};
 
 use vr_catalog::Definition;
-use vr_space::Layout;
+use vr_space::{ChainLayout, Layout};
 use vr_types::{Geometry, PartNo};
 
 /// Where a keyed part of this definition is, whose first area this is. A record of the maximum has
@@ -23,5 +23,27 @@ pub fn layout_of(geometry: Geometry, part: PartNo, area: u32, definition: &Defin
         key: definition.key_length,
         offset: definition.key_offset,
         most: definition.maximum,
+    }
+}
+
+/// Where a relative part of this definition is, whose first area this is. A record has room in an
+/// interval.
+pub fn chain_layout_of(
+    geometry: Geometry,
+    part: PartNo,
+    area: u32,
+    definition: &Definition,
+) -> ChainLayout
+    requires allowed { IsAllowed geometry }
+    requires area { area < area_count geometry }
+    requires some { 0 < definition.now.maximum }
+    requires room { definition.now.maximum + 7 ≤ geometry.size }
+    ensures { result ≡ numbered_part geometry part.0 area definition.now }
+{
+    ChainLayout {
+        part,
+        first: area,
+        geometry,
+        most: definition.maximum as u16,
     }
 }

@@ -15,7 +15,7 @@ mod part_no;
 mod rule;
 
 pub use damage::{Damage, first_damage};
-pub use laid::layout_of;
+pub use laid::{chain_layout_of, layout_of};
 pub use laws::{damage_or_content, damaged_blocks_stand_for_none, one_damage};
 pub use part_no::PartNo2;
 pub use rule::Rule;

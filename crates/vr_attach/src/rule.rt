@@ -1,8 +1,8 @@
-//! The rules that a block of a keyed part may break.
+//! The rules that a block of a part may break.
 ghost use Rattle.std.specs.Prelude.{◌≡◌};
 ghost use Rattle.vr_attach.specs.Damage.{rule_number};
 
-/// A rule that a block of a keyed part may break. They are this project's own.
+/// A rule that a block of a part may break. They are this project's own.
 #[derive(Clone, Copy, PartialEq, Eq)]
 pub enum Rule {
     /// Each area that a head names is one of the volume's.
@@ -23,6 +23,10 @@ pub enum Rule {
     Record,
     /// They ascend, and none is beyond its range unless the interval is busy.
     Order,
+    /// A roster is spelled, and leads on only where its area is used whole.
+    Roster,
+    /// An interval of a relative part has slots of its length.
+    Slots,
 }
 
 impl Rule {
@@ -40,6 +44,8 @@ impl Rule {
             Rule::EndOfFile => 9,
             Rule::Record => 10,
             Rule::Order => 11,
+            Rule::Roster => 13,
+            Rule::Slots => 14,
         }
     }
 }

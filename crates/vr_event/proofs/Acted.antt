@@ -16,7 +16,8 @@ use Rattle.vr_browse.specs.declared.positions.FilePosition.{FilePosition}
 use Rattle.vr_history.specs.Merged.{last_stamp}
 use Rattle.vr_history.specs.declared.entry.Entry.{Entry}
 use Rattle.vr_history.specs.declared.entry.What.{What}
-use Rattle.vr_history.specs.declared.entry.What.TheVariants.{Asked, Faulted, Split, Undone}
+use Rattle.vr_history.specs.declared.entry.What.TheVariants.{Asked, Claimed, Faulted, Split}
+use Rattle.vr_history.specs.declared.entry.What.TheVariants.{Undone}
 use Rattle.vr_history.proofs.CallerLemmas.{last_stamp-append}
 use Rattle.vr_record_file.specs.Now.{FileNow, asked_failing, ended, entry_next, failed, has_deck}
 use Rattle.vr_record_file.specs.Now.{number_of, raised_for, with_event}
@@ -106,9 +107,16 @@ stepped-made after unit line request given old new is = ⊎_elim
     (λ split. event-made (Again given) after unit line 0 request (Split split.0) old new old.locks
     old.files old.files_room old.numbers split.1 (λ deck. refl)
     (λ other differs. refl) (ap (λ (f : FileNow). f.numbers) split.1) (inr (_, refl, (refl, inl (split.0, refl)))))
+    (λ further. ⊎_elim
+    (λ claimed. event-made (Again given) after unit line 0 request (Claimed claimed.0 claimed.1) old
+    new old.locks old.files old.files_room old.numbers claimed.2 (λ deck. refl)
+    (λ other differs. refl) (ap (λ (f : FileNow). f.numbers) claimed.2)
+    (inr (_, refl, (refl, inr (inl (claimed.0, claimed.1, refl))))))
     (λ back. event-made (Again given) after unit line 0 request (Undone back.1 back.2) old new
     old.locks old.files old.files_room old.numbers back.3 (λ deck. refl)
-    (λ other differs. refl) (ap (λ (f : FileNow). f.numbers) back.3) (inr (_, refl, (refl, inr (back.0, back.1, back.2, refl)))))
+    (λ other differs. refl) (ap (λ (f : FileNow). f.numbers) back.3)
+    (inr (_, refl, (refl, inr (inr (back.0, back.1, back.2, refl))))))
+    further)
     step) is
 
 -- a request that was asked

@@ -139,7 +139,8 @@ acted_room before now act after unit line request old new acted =
     by_step (inl same) =
         let is : new.room ≡ old.room = ap (λ (f : FileNow). f.room) same in omega (arith, is)
     by_step (inr (inl split)) = by_one (ap (λ (f : FileNow). f.room) split.1)
-    by_step (inr (inr undone)) = by_one (ap (λ (f : FileNow). f.room) undone.3)
+    by_step (inr (inr (inl claimed))) = by_one (ap (λ (f : FileNow). f.room) claimed.2)
+    by_step (inr (inr (inr undone))) = by_one (ap (λ (f : FileNow). f.room) undone.3)
 
     by_act : (act : Act) → ByAct act before now after unit line request old new
         → old.room ≤ new.room + 2

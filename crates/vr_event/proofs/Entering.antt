@@ -1,6 +1,8 @@
 -- What an entry leaves of the state of a volume, as far as its blocks know of it.
 use Rattle.std.proofs.Common.{◌≡◌, ◌∷◌, ◌++◌, [], ℕ, List, Option, Some, None, refl, ap, sym, ◌∙◌}
 use Rattle.std.proofs.Common.{subst}
+use Rattle.vr_catalog.specs.Catalog.{entries_in}
+use Rattle.vr_types.specs.Content.{Content}
 use Rattle.vr_types.specs.declared.geometry.Geometry.{Geometry}
 use Rattle.vr_types.specs.declared.position.Stand.{Stand}
 use Rattle.vr_types.specs.declared.reply.Refusal.{Refusal}
@@ -20,6 +22,7 @@ use Rattle.vr_types.specs.declared.unit.Unit.{Unit as UnitOfRecovery}
 use Rattle.vr_record_file.specs.Now.{FileNow, IsStateOf, entry_next, state_now, with_event}
 use Rattle.vr_event.specs.Alike.{AreAlike}
 use Rattle.vr_event.specs.Volume.{IsHeld, VolumeNow}
+use Rattle.vr_event.proofs.Areas.{owned-same, unlaid-same}
 use Rattle.vr_event.proofs.Like.{stored-alike}
 
 -- a file that lets go
@@ -69,6 +72,11 @@ pub held-alike : {B : Type 0} (seen : B → Seen) (opening : State) (volume : Vo
 held-alike seen opening volume to geometry stopped alike held file = record {
   file = file;
   free = cc (held.free, geometry, alike.owned);
+  owned = owned-same volume.store.space volume.store.space _ _ refl alike.owned held.owned;
+  unlaid = λ going. unlaid-same volume.file.geometry to.geometry volume.file.catalog to.catalog
+      volume.store.space volume.store.space geometry
+      (file.now.catalog ∙ ap (λ (contents : ℕ → Content). entries_in (contents 0)) alike.contents
+      ∙ sym held.file.now.catalog) refl (held.unlaid (sym stopped ∙ going));
   stored = λ going. stored-alike volume.number volume.store (state_now opening volume.file)
       (state_now opening to) (seen volume.blocks) alike (held.stored (sym stopped ∙ going));
 }

@@ -19,6 +19,7 @@ use Rattle.vr_record_file.specs.Now.{FileNow, IsStateOf, MayBeAsked, asked_faili
 use Rattle.vr_record_file.specs.Now.{failed, state_now}
 use Rattle.vr_event.specs.Getting.{IsAsked}
 use Rattle.vr_event.specs.Volume.{IsFileHeld, IsHeld, VolumeNow}
+use Rattle.vr_event.proofs.Areas.{owned-same}
 use Rattle.vr_event.proofs.Entering.{alike_refused}
 
 -- it may be entered with each reply that it may have
@@ -60,12 +61,15 @@ held-known seen opening volume to after unit line request leaves known file =
     record {
       file = file;
       free = cc (known.free, geometry, owned);
+      owned = owned-same volume.store.space volume.store.space _ _ refl owned known.owned;
+      unlaid = λ going. absurd (none-some _ (sym going ∙ ap (λ (f : FileNow). f.stopped) leaves));
       stored = λ going. absurd (none-some _ (sym going ∙ ap (λ (f : FileNow). f.stopped) leaves));
     }
 
 pub file-held : {B : Type 0} (seen : B → Seen) (opening : State) (volume : VolumeNow B)
     → IsHeld seen opening volume → IsFileHeld opening volume
-file-held seen opening volume held = record { file = held.file; free = held.free }
+file-held seen opening volume held =
+    record { file = held.file; free = held.free; owned = held.owned }
 
 -- also one that was held
 pub held-failed : {B : Type 0} (seen : B → Seen) (opening : State) (volume : VolumeNow B)

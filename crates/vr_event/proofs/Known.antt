@@ -37,48 +37,49 @@ use Rattle.vr_answer.specs.Opening.{as_opened, definition_here}
 use Rattle.vr_answer.specs.Tried.{file_refusals}
 use Rattle.vr_answer.specs.declared.case.Case.{Case as CaseInHand}
 use Rattle.vr_answer.proofs.CallerLemmas.{opened_is}
-use Rattle.vr_event.specs.Getting.{IsRead, fits_in, is_long_as}
+use Rattle.vr_space.proofs.CallerLemmas.{place-is}
+use Rattle.vr_event.specs.Getting.{IsRead, fits_in, is_place_by, is_place_for}
 
--- ---- a place that is as long as a part's keys is one of its shape
+-- ---- a place that fits the definition of a part is one of its shape
 
 module _ (geometry : Geometry) (place : List ℕ) where
   abbrev IsPlace : Shape → Type 0
   IsPlace shape = IsPlaceOf shape place
 
   by_kind : (part area : ℕ) (definition : Definition) (kind : Kind)
-      → is_long_as place definition ≡ true
+      → is_place_for kind place definition ≡ true
       → IfSome (shape_by_kind geometry part area definition kind) IsPlace
-  by_kind part area definition Keyed long = eqb-true (length place) definition.key_length long
-  by_kind part area definition Entry long = tt
-  by_kind part area definition Relative long = tt
+  by_kind part area definition Keyed fits = eqb-true (length place) definition.key_length fits
+  by_kind part area definition Entry fits = tt
+  by_kind part area definition Relative fits = place-is place fits
 
   by_area : (part : ℕ) (area : Option AreaNo) (o : Option Definition)
-      → option_map_or (is_long_as place) o false ≡ true
+      → option_map_or (is_place_by place) o false ≡ true
       → IfSome (option_and_then (shape_from geometry part area) o) IsPlace
-  by_area part area None long = tt
-  by_area part None (Some definition) long = tt
-  by_area part (Some area) (Some definition) long =
-      by_kind part area.0 definition definition.kind long
+  by_area part area None fits = tt
+  by_area part None (Some definition) fits = tt
+  by_area part (Some area) (Some definition) fits =
+      by_kind part area.0 definition definition.kind fits
 
   by_entry : (o : Option CatEntry)
-      → option_map_or (is_long_as place) (option_and_then
+      → option_map_or (is_place_by place) (option_and_then
       (λ (entry : CatEntry). cluster_definition entry.entry_kind entry) o) false ≡ true
       → IfSome (option_and_then (shape_of geometry) o) IsPlace
-  by_entry None long = tt
-  by_entry (Some entry) long = by_area entry.part.0 entry.first_area
-      (cluster_definition entry.entry_kind entry) long
+  by_entry None fits = tt
+  by_entry (Some entry) fits = by_area entry.part.0 entry.first_area
+      (cluster_definition entry.entry_kind entry) fits
 
   by_zero : (b : Bool) (o : Option CatEntry)
-      → option_map_or (is_long_as place) (cond b (Some catalog_definition) (option_and_then
+      → option_map_or (is_place_by place) (cond b (Some catalog_definition) (option_and_then
       (λ (entry : CatEntry). cluster_definition entry.entry_kind entry) o)) false ≡ true
       → IfSome (cond b (Some (catalog_shape geometry)) (option_and_then (shape_of geometry) o))
       IsPlace
-  by_zero true o long = eqb-true (length place) catalog_definition.key_length long
-  by_zero false o long = by_entry o long
+  by_zero true o fits = eqb-true (length place) catalog_definition.key_length fits
+  by_zero false o fits = by_entry o fits
 
   pub fits-shape : (entries : List CatEntry) (part : ℕ) → fits_in entries part place ≡ true
       → IfSome (shape_in geometry entries part) IsPlace
-  fits-shape entries part long = by_zero (part == 0) (entry_with_part entries part) long
+  fits-shape entries part fits = by_zero (part == 0) (entry_with_part entries part) fits
 
 -- ---- a read that nothing in memory refuses
 

@@ -1,5 +1,5 @@
 -- Which refusals are for want of areas: that of a part that lacks room, with the part's numbers, and
--- no other of a change of a key-sequenced cluster.
+-- of a data set whose places are numbers the one that the state says.
 use Rattle.std.proofs.Common.{◌≡◌, ◌≢◌, ◌⊎◌, ⊎_elim, ℕ, Bool, true, false, List, [], ◌∷◌}
 use Rattle.std.proofs.Common.{Option, Some, None, refl, sym, ap, subst, ◌∙◌, length}
 use Rattle.std.specs.Prelude.{IfSome}
@@ -35,23 +35,19 @@ use Rattle.vr_history.specs.RefusedFile.{record_wrong, refused_if, slot_named}
 use Rattle.vr_history.specs.RefusedRecord.{absent_to, conflict_in, held_by, taken_twice}
 use Rattle.vr_history.specs.RefusedRoom.{free_areas, lacks, log_full, need_at, no_space}
 use Rattle.vr_history.specs.Replies.{done_by, first_of, lacks_area}
-use Rattle.vr_history.specs.State.{State}
 use Rattle.vr_undo.specs.Records.{images_in}
 use Rattle.vr_volume.specs.PutBack.{lengths_kept}
-use Rattle.vr_answer.specs.InHand.{IsCaseOf, whole}
-use Rattle.vr_answer.specs.Scope.{AreKeyedClusters}
 use Rattle.vr_answer.specs.Tried.{file_refusals, record_refusals}
-use Rattle.vr_answer.specs.declared.case.Case.{Case as CaseInHand}
 use Rattle.vr_event.specs.Getting.{refusal_of}
-use Rattle.vr_event.specs.Lacking.{AreElse, IfLacks, IfNoSpace, IsElse, LacksRoomIn}
-use Rattle.vr_event.specs.Putting.{IsChange, IsKeyedIn, IsKeyedShape}
+use Rattle.vr_event.specs.Lacking.{AreElse, AreWanting, IfLacks, IfNoSpace, IsElse, IsWanting}
+use Rattle.vr_event.specs.Lacking.{LacksRoomIn}
+use Rattle.vr_event.specs.Putting.{IsChange, IsKeyedShape}
 use Rattle.vr_store.specs.Room.{IsRoomAt}
 use Rattle.vr_store.specs.Store.{PartNow, StoreNow, part_among}
 use Rattle.vr_store.specs.declared.no.LookNo.{LookNo}
 use Rattle.vr_store.specs.declared.no.LookNo.TheVariants.{Fault, Memory}
 use Rattle.vr_event.specs.declared.weighing.Weighed.{Weighed}
 use Rattle.vr_event.specs.declared.weighing.Weighed.TheVariants as weighed
-use Rattle.vr_event.proofs.Weighs.{on-keyed}
 
 -- ---- what a part answers
 
@@ -69,7 +65,7 @@ lacks-after None false None None need left is =
     ap (λ (n : ℕ). NoSpace n left) needs ∙ ap (λ (n : ℕ). NoSpace 1 n) lefts
 
 -- A keyed part that lacks room needs one area, and none is free to it.
-room-lacks : (shape : Shape) (known : Known) (image : Image) (free : ℕ) (kept : Lengths)
+pub room-lacks : (shape : Shape) (known : Known) (image : Image) (free : ℕ) (kept : Lengths)
     (place : List ℕ) (n need left : ℕ) → IsKeyedShape shape
     → room_of shape known image free kept place n ≡ answers.NoSpace need left
     → NoSpace need left ≡ lacks_area
@@ -81,20 +77,6 @@ room-lacks (KeyedShape part) known image free kept place n need left keyed is =
 module _ (store : StoreNow) (image : Image) (number : ℕ) (place : List ℕ) (n need left : ℕ)
     (laid : part_among store.parts number ≢ None)
     (room : IsRoomAt store image number place n (answers.NoSpace need left)) where
-  pub lacks-is : IsKeyedIn store.parts number
-      → NoSpace need left ≡ lacks_area
-  lacks-is keyed = of (part_among store.parts number) laid keyed room
-    where
-      of : (found : Option PartNow) → found ≢ None
-          → IfSome (option_map (λ (one : PartNow). one.shape) found) IsKeyedShape
-          → IfSome found (λ (one : PartNow). answers.NoSpace need left
-          ≡ room_of one.shape one.known image (free_count store.space)
-          (lengths_kept (images_in store.undo) number) place n)
-          → NoSpace need left ≡ lacks_area
-      of None some shaped is = absurd (some refl)
-      of (Some one) some shaped is = room-lacks one.shape one.known image (free_count store.space)
-          (lengths_kept (images_in store.undo) number) place n need left shaped (sym is)
-
   -- it lacks room for the record that the request gives
   pub lacking : (request : Request) (bytes : List ℕ) → new_record request ≡ Some bytes
       → n ≡ length bytes → LacksRoomIn store image number place request need left
@@ -121,84 +103,99 @@ pub long-some : (request : Request) (n : ℕ) (bytes : List ℕ) → new_record 
 long-some request n bytes given long =
     subst (λ (o : Option (List ℕ)). IfSome o (λ (bytes : List ℕ). n ≡ length bytes)) given long
 
--- ---- what other refusals are
+-- ---- what refusals are
 
-else-if : (test : Bool) (refusal : Refusal) → IsElse refusal → AreElse (refused_if test refusal)
-else-if false refusal is = tt
-else-if true refusal is = is
+-- of some, a fact of the numbers of each that is for want of areas
+abbrev Are : (ℕ → ℕ → Type 0) → Option Refusal → Type 0
+Are fact refused = IfSome refused (IfNoSpace fact)
 
-else-map : {T : Type 0} (f : T → Refusal) → ((t : T) → IsElse (f t)) → (o : Option T)
-    → AreElse (option_map f o)
-else-map f each None = tt
-else-map f each (Some t) = each t
+module _ (fact : ℕ → ℕ → Type 0) where
+  are-if : (test : Bool) (refusal : Refusal) → IfNoSpace fact refusal
+      → Are fact (refused_if test refusal)
+  are-if false refusal is = tt
+  are-if true refusal is = is
 
-else-then : {T : Type 0} (f : T → Option Refusal) → ((t : T) → AreElse (f t)) → (o : Option T)
-    → AreElse (option_and_then f o)
-else-then f each None = tt
-else-then f each (Some t) = each t
+  are-map : {T : Type 0} (f : T → Refusal) → ((t : T) → IfNoSpace fact (f t)) → (o : Option T)
+      → Are fact (option_map f o)
+  are-map f each None = tt
+  are-map f each (Some t) = each t
 
--- each of some is no refusal for want of areas
-abbrev EachElse : List (Option Refusal) → Type 0
-EachElse [] = Unit {0}
-EachElse (refused ∷ rest) = AreElse refused × EachElse rest
+  are-then : {T : Type 0} (f : T → Option Refusal) → ((t : T) → Are fact (f t)) → (o : Option T)
+      → Are fact (option_and_then f o)
+  are-then f each None = tt
+  are-then f each (Some t) = each t
 
-first-else : (refusals : List (Option Refusal)) → EachElse refusals → AreElse (first_of refusals)
-first-else [] each = tt
-first-else (None ∷ rest) each = first-else rest each.1
-first-else (Some refusal ∷ rest) each = each.0
+  abbrev EachIs : List (Option Refusal) → Type 0
+  EachIs [] = Unit {0}
+  EachIs (refused ∷ rest) = Are fact refused × EachIs rest
 
-record-else : (opened : Opened) (bytes : List ℕ) → AreElse (record_wrong opened bytes)
-record-else Unknown bytes = tt
-record-else (Cluster definition) bytes = else-if _ _ tt
-record-else (ByPath definition alternate) bytes = else-if _ _ tt
+  first-is : (refusals : List (Option Refusal)) → EachIs refusals → Are fact (first_of refusals)
+  first-is [] each = tt
+  first-is (None ∷ rest) each = first-is rest each.1
+  first-is (Some refusal ∷ rest) each = each.0
 
-length-else : (opened : Opened) (request : Request) → IsChange request
-    → AreElse (length_wrong opened request)
-length-else opened (Add on place bytes) change = record-else opened bytes
-length-else opened (Update on bytes) change = record-else opened bytes
-length-else opened (Erase on) change = tt
-length-else opened (Get on find update integrity) change = absurd change
-length-else opened (Point on find) change = absurd change
-length-else opened (EndReq on) change = absurd change
-length-else opened Commit change = absurd change
-length-else opened Backout change = absurd change
+  record-is : (opened : Opened) (bytes : List ℕ) → Are fact (record_wrong opened bytes)
+  record-is Unknown bytes = tt
+  record-is (Cluster definition) bytes = are-if _ _ tt
+  record-is (ByPath definition alternate) bytes = are-if _ _ tt
 
-absent-else : (case : Case) (request : Request) → IsChange request
-    → AreElse (absent_to case request)
-absent-else case (Add on place bytes) change = tt
-absent-else case (Update on bytes) change = tt
-absent-else case (Erase on) change = tt
-absent-else case (Get on find update integrity) change = absurd change
-absent-else case (Point on find) change = absurd change
-absent-else case (EndReq on) change = absurd change
-absent-else case Commit change = absurd change
-absent-else case Backout change = absurd change
+  length-is : (opened : Opened) (request : Request) → IsChange request
+      → Are fact (length_wrong opened request)
+  length-is opened (Add on place bytes) change = record-is opened bytes
+  length-is opened (Update on bytes) change = record-is opened bytes
+  length-is opened (Erase on) change = tt
+  length-is opened (Get on find update integrity) change = absurd change
+  length-is opened (Point on find) change = absurd change
+  length-is opened (EndReq on) change = absurd change
+  length-is opened Commit change = absurd change
+  length-is opened Backout change = absurd change
+
+  absent-is : (case : Case) (request : Request) → IsChange request
+      → Are fact (absent_to case request)
+  absent-is case (Add on place bytes) change = tt
+  absent-is case (Update on bytes) change = tt
+  absent-is case (Erase on) change = tt
+  absent-is case (Get on find update integrity) change = absurd change
+  absent-is case (Point on find) change = absurd change
+  absent-is case (EndReq on) change = absurd change
+  absent-is case Commit change = absurd change
+  absent-is case Backout change = absurd change
+
+-- each is itself
+self-wanting : (refused : Option Refusal)
+    → Are (λ need free. refused ≡ Some (NoSpace need free)) refused
+self-wanting None = tt
+self-wanting (Some (NoSpace need free)) = refl
+self-wanting (Some _) = tt
 
 module _ (case : Case) (change : IsChange case.request) where
-  -- by what is in memory,
+  abbrev Never : ℕ → ℕ → Type 0
+  Never need free = ⊥
+
+  -- by what is in memory none is for want of areas,
   no-file-else : AreElse (no_file case)
-  no-file-else = else-then (λ (file : FileRef). refused_if _ NoFile) (λ file. else-if _ NoFile tt)
-      (file_of case.request)
+  no-file-else = are-then Never (λ (file : FileRef). refused_if _ NoFile)
+      (λ file. are-if Never _ NoFile tt) (file_of case.request)
 
   slot-else : AreElse (bad_slot case)
-  slot-else =
-      else-then (λ (place : List ℕ). refused_if (is_slot_zero (opened case) place) BadSlot)
-      (λ place. else-if _ BadSlot tt) (slot_named case.request)
+  slot-else = are-then Never
+      (λ (place : List ℕ). refused_if (is_slot_zero (opened case) place) BadSlot)
+      (λ place. are-if Never _ BadSlot tt) (slot_named case.request)
 
   pub file-else : AreElse (first_of (file_refusals case))
-  file-else = first-else (file_refusals case) (
+  file-else = first-is Never (file_refusals case) (
     no-file-else,
     (
-      else-map Stopped (λ stamp. tt) case.state.stopped,
+      are-map Never Stopped (λ stamp. tt) case.state.stopped,
       (
-        else-if _ NotAllowed tt,
+        are-if Never _ NotAllowed tt,
         (
           slot-else,
           (
-            length-else (opened case) case.request change,
+            length-is Never (opened case) case.request change,
             (
-              else-if _ NoPosition tt,
-              (else-if _ NoGet tt, tt),
+              are-if Never _ NoPosition tt,
+              (are-if Never _ NoGet tt, tt),
             ),
           ),
         ),
@@ -206,23 +203,23 @@ module _ (case : Case) (change : IsChange case.request) where
     ),
   )
 
-  -- by the record at its place and by locks, where the file is key-sequenced,
-  record-else-by : no_space case ≡ None → AreElse (first_of (record_refusals case))
-  record-else-by none = first-else (record_refusals case) (
-    else-if _ NotFound tt,
+  -- and by the record at its place and by locks the one that the state says
+  pub refused-wanting : AreWanting case (first_of (record_refusals case))
+  refused-wanting = first-is (IsWanting case) (record_refusals case) (
+    are-if (IsWanting case) _ NotFound tt,
     (
-      else-if _ KeyChanged tt,
+      are-if (IsWanting case) _ KeyChanged tt,
       (
-        else-if _ LengthChanged tt,
+        are-if (IsWanting case) _ LengthChanged tt,
         (
-          else-map held_by (λ lock. tt) (conflict_in case),
+          are-map (IsWanting case) held_by (λ lock. tt) (conflict_in case),
           (
-            absent-else case case.request change,
+            absent-is (IsWanting case) case case.request change,
             (
-              else-if _ _ tt,
+              are-if (IsWanting case) _ _ tt,
               (
-                else-map _ (λ move. tt) (taken_twice case),
-                (subst AreElse (sym none) tt, tt),
+                are-map (IsWanting case) _ (λ move. tt) (taken_twice case),
+                (self-wanting (no_space case), tt),
               ),
             ),
           ),
@@ -246,28 +243,19 @@ no-need case definition keyed (Some at) (Some bytes) = need-none case definition
         subst (λ (kind : _). need_at case (record definition { kind = kind }) at bytes ≡ None)
         (sym keyed) refl
 
-keyed-none : (case : Case) (definition : Definition) → opened case ≡ Cluster definition
-    → definition.kind ≡ Keyed → no_space case ≡ None
+pub keyed-none : (case : Case) (definition : Definition)
+    → definition_in (opened case) ≡ Some definition → definition.kind ≡ Keyed
+    → no_space case ≡ None
 keyed-none case definition on keyed =
     ap (λ (need : Option ℕ). option_and_then (lacks (free_areas case)) need)
-    (ap (λ (o : Opened). option_and_then (λ (one : Definition).
+    (ap (λ (o : Option Definition). option_and_then (λ (one : Definition).
     option_and_then (λ (at : List ℕ).
-    option_and_then (need_at case one at) (new_record case.request)) (place_changed case))
-    (definition_in o)) on
+    option_and_then (need_at case one at) (new_record case.request)) (place_changed case)) o) on
     ∙ no-need case definition keyed (place_changed case) (new_record case.request))
 
-pub refused-else : (case : CaseInHand) (state : State) → IsCaseOf case state
-    → AreKeyedClusters case.catalog.now → IsChange case.request.now
-    → first_of (file_refusals (whole case state)) ≡ None
-    → AreElse (first_of (record_refusals (whole case state)))
-refused-else case state is keyed change none =
-    let on = on-keyed case state is keyed change none in
-    record-else-by (whole case state) change
-    (keyed-none (whole case state) on.definition on.on on.keyed)
-
--- and by the log
+-- by the log none is
 pub log-else : (case : Case) → AreElse (log_full case)
-log-else case = else-if _ (LogFull _ _ _) tt
+log-else case = are-if (λ need free. ⊥) _ (LogFull _ _ _) tt
 
 any-fact : (fact : ℕ → ℕ → Type 0) (refusal : Refusal) → IsElse refusal → IfNoSpace fact refusal
 any-fact fact (NoSpace need free) other = absurd other
@@ -280,10 +268,21 @@ lacks-any fact (weighed.Refused refusal) other = any-fact fact refusal other
 lacks-any fact (weighed.Stage place n) other = tt
 lacks-any fact (weighed.Ready place old reply names) other = tt
 
-pub unless-else : (fact : ℕ → ℕ → Type 0) (refusal result : Refusal)
-    → (result ≡ refusal) ⊎ (result ≡ NoMemory) → IsElse refusal → IfNoSpace fact result
-unless-else fact refusal result is other = ⊎_elim
-    (λ same. any-fact fact result (subst IsElse (sym same) other))
+-- and of those of some of which one is said
+pub are-fact : (one fact : ℕ → ℕ → Type 0) → ((need free : ℕ) → one need free → fact need free)
+    → (refusal : Refusal) → IfNoSpace one refusal → IfNoSpace fact refusal
+are-fact one fact each (NoSpace need free) has = each need free has
+are-fact one fact each _ has = tt
+
+pub are-any : (fact : ℕ → ℕ → Type 0) (refused : Option Refusal) → AreElse refused
+    → IfSome refused (IfNoSpace fact)
+are-any fact None other = tt
+are-any fact (Some refusal) other = any-fact fact refusal other
+
+pub unless-is : (fact : ℕ → ℕ → Type 0) (refusal result : Refusal)
+    → (result ≡ refusal) ⊎ (result ≡ NoMemory) → IfNoSpace fact refusal → IfNoSpace fact result
+unless-is fact refusal result is has = ⊎_elim
+    (λ same. subst (IfNoSpace fact) (sym same) has)
     (λ memory. subst (IfNoSpace fact) (sym memory) tt) is
 
 pub look-else : (fact : ℕ → ℕ → Type 0) (no : LookNo) → IfNoSpace fact (refusal_of no)

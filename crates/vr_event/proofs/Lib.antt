@@ -1,3 +1,5 @@
+pub mod Served
+pub mod Areas
 pub mod Like
 pub mod Entering
 pub mod Readings
@@ -22,8 +24,13 @@ pub mod Replied
 pub mod MetParts
 pub mod RecordShapes
 pub mod WeighsAt
+pub mod PartKinds
+pub mod SpaceHeld
+pub mod SlotAreas
+pub mod SlotPlaces
+pub mod Wanting
 pub mod Recovering
-pub mod KeyedParts
+pub mod Staged
 pub mod Puts
 pub mod Wholes
 pub mod Makes

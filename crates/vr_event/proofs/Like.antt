@@ -51,7 +51,8 @@ module _ (number : ℕ) (store : StoreNow) (old new : State) (now : Seen)
         current = logged.current;
       }
 
-  stored_other : IsStored number store (other old new) now
+  -- a store is that of the state with others of these
+  pub stored_other : IsStored number store (other old new) now
   stored_other = record {
     volume = record {
       safe = stored.volume.safe;

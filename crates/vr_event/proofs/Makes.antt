@@ -66,6 +66,7 @@ use Rattle.vr_event.specs.Putting.{IsChange, IsReadyAt, IsReadyFor, IsToMake, ne
 use Rattle.vr_store.specs.Store.{IsStored, PartNow, StoreNow, part_among}
 use Rattle.vr_event.specs.Volume.{IsHeld, IsWhole, VolumeNow}
 use Rattle.vr_store.proofs.CallerLemmas.{number-at, record-read, rested-at}
+use Rattle.vr_event.proofs.Areas.{owned-same, unlaid-same}
 use Rattle.vr_event.proofs.Weighs.{asks-change}
 
 none-some : {X : Type 0} {x : X} → None ≡ Some x → ⊥
@@ -422,13 +423,14 @@ module _ {B : Type 0} (seen : B → Seen) (opening : State) (volume : VolumeNow 
   -- a volume of which it was made is held by the state after it
   pub held-put : (to file : FileNow) (store : StoreNow) (blocks : B) (after line : ℕ)
       → file.entries ≡ volume.file.entries → file.geometry ≡ volume.file.geometry
+      → file.catalog ≡ volume.file.catalog
       → to ≡ with_event after unit line (Asked request reply) (lets_go unit.deck request file)
       → store.space ≡ volume.store.space → IsStateOf opening to
       → ((next : State) → IsMadeOf unit part place (option_map Standing (new_record request))
       (need_at volume.store unit part place old) state next
       → IsStored volume.number store next (seen blocks))
       → IsHeld seen opening (record volume { blocks = blocks; store = store; file = to })
-  held-put to file store blocks after line entries geometries leaves space is stored-by =
+  held-put to file store blocks after line entries geometries catalogs leaves space is stored-by =
       let entry : Entry = entry_next file.entries after unit line (Asked request reply) in
       let done = replied in
       let next : State = after_asked case (Done done.feedback done.shown done.bytes) in
@@ -449,6 +451,10 @@ module _ {B : Type 0} (seen : B → Seen) (opening : State) (volume : VolumeNow 
       record {
         file = is;
         free = cc (is-held.free, geometry, owned, space);
+        owned = owned-same volume.store.space store.space _ _ space owned is-held.owned;
+        unlaid = λ on. unlaid-same volume.file.geometry to.geometry volume.file.catalog to.catalog
+            volume.store.space store.space geometry
+            (ap (λ (f : FileNow). f.catalog) leaves ∙ catalogs) space (is-held.unlaid going);
         stored = λ on. subst (λ (s : State). IsStored volume.number store s (seen blocks))
             (sym leads) (stored-by next (made-of next made));
       }

@@ -15,6 +15,7 @@ use Rattle.vr_space.specs.Part.{IsRecordOf, Shape}
 use Rattle.vr_space.proofs.CallerLemmas.{record-length}
 use Rattle.vr_volume.specs.Laid.{catalog_shape, shape_by_kind, shape_from, shape_of}
 use Rattle.vr_event.specs.Putting.{AreLaidBy, FitsItem, FitsLength, FitsRecord, IsRecordBy}
+use Rattle.vr_event.specs.Putting.{IsRecordFor}
 use Rattle.vr_store.specs.Store.{PartNow, shape_among}
 
 module _ (geometry : Geometry) (place bytes : List ℕ) where
@@ -22,14 +23,14 @@ module _ (geometry : Geometry) (place bytes : List ℕ) where
   IsRecord shape = IsRecordOf shape place bytes
 
   by_kind : (part area : ℕ) (definition : Definition) (kind : Kind)
-      → IsRecordBy definition place bytes
+      → IsRecordFor kind definition place bytes
       → IfSome (shape_by_kind geometry part area definition kind) IsRecord
   by_kind part area definition Keyed is = (
     record { least = is.least; most = is.most },
     is.key,
   )
   by_kind part area definition Entry is = tt
-  by_kind part area definition Relative is = tt
+  by_kind part area definition Relative is = record { numbered = is.slot; whole = is.whole }
 
   by_area : (part : ℕ) (area : Option AreaNo) (o : Option Definition)
       → IfSome o (λ (definition : Definition). IsRecordBy definition place bytes)

@@ -6,10 +6,11 @@ use Rattle.vr_types.specs.declared.reply.Refusal.TheVariants.{WriteFault}
 use Rattle.vr_types.specs.declared.reply.Reply.{Reply}
 use Rattle.vr_types.specs.declared.reply.Reply.TheVariants.{Refused}
 use Rattle.vr_types.specs.declared.request.Request.{Request}
+use Rattle.vr_types.specs.declared.unit.AreaNo.{AreaNo}
 use Rattle.vr_types.specs.declared.unit.PartNo.{PartNo}
 use Rattle.vr_types.specs.declared.unit.Unit.{Unit as UnitOfRecovery}
 use Rattle.vr_history.specs.declared.entry.Entry.{Entry}
-use Rattle.vr_history.specs.declared.entry.What.TheVariants.{Asked, Faulted, Split}
+use Rattle.vr_history.specs.declared.entry.What.TheVariants.{Asked, Claimed, Faulted, Split}
 use Rattle.vr_record_file.specs.Now.{FileNow, asked_failing, entry_next, failed, with_event}
 use Rattle.vr_event.specs.Getting.{IsEntered}
 
@@ -77,7 +78,7 @@ module _ (after : ℕ) (unit : UnitOfRecovery) (line : ℕ) (request : Request) 
       (entry_next old.entries after unit line (Asked request entered.reply))
       (sym (ap (λ (f : FileNow). f.entries) is) ∙ entries-are)
 
-  -- and it wasn't that an interval was split
+  -- and it wasn't that an interval was split,
   pub not-split : (part : PartNo) → new ≡ with_event after unit 0 (Split part) old → ⊥
   not-split part is =
       let same = last-same old.entries
@@ -85,5 +86,17 @@ module _ (after : ℕ) (unit : UnitOfRecovery) (line : ℕ) (request : Request) 
       (entry_next old.entries after unit 0 (Split part))
       (sym entries-are ∙ ap (λ (f : FileNow). f.entries) is) in
       let what : Asked request entered.reply ≡ Split part =
+      ap (λ (entry : Entry). entry.what) same in
+      cc
+
+  -- nor that an area was given to a part
+  pub not-claimed : (part : PartNo) (area : AreaNo)
+      → new ≡ with_event after unit 0 (Claimed part area) old → ⊥
+  not-claimed part area is =
+      let same = last-same old.entries
+      (entry_next old.entries after unit line (Asked request entered.reply))
+      (entry_next old.entries after unit 0 (Claimed part area))
+      (sym entries-are ∙ ap (λ (f : FileNow). f.entries) is) in
+      let what : Asked request entered.reply ≡ Claimed part area =
       ap (λ (entry : Entry). entry.what) same in
       cc

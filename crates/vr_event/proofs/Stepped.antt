@@ -9,37 +9,23 @@ use Rattle.vr_types.specs.Content.{Item, item_at}
 use Rattle.vr_types.specs.Seen.{Seen}
 use Rattle.vr_types.specs.Space.{free_count}
 use Rattle.vr_types.specs.declared.unit.Kind.{Kind}
-use Rattle.vr_types.specs.declared.unit.Kind.TheVariants.{Keyed}
+use Rattle.vr_types.specs.declared.unit.Kind.TheVariants.{Entry, Keyed, Relative}
 use Rattle.vr_types.specs.declared.unit.PartNo.{PartNo}
 use Rattle.vr_types.specs.declared.unit.Unit.{Unit as UnitOfRecovery}
-use Rattle.vr_history.specs.declared.entry.What.TheVariants.{Split, Undone}
+use Rattle.vr_history.specs.declared.entry.What.TheVariants.{Undone}
 use Rattle.vr_history.specs.Effects.{changes, last_kept, takes_out}
 use Rattle.vr_history.specs.Opened.{catalog_of}
 use Rattle.vr_history.specs.State.{BeforeImage, State}
 use Rattle.vr_history.specs.Step.{change_back, put_back, puts_back, withdrawn_by}
 use Rattle.vr_history.proofs.CallerLemmas.{state_of-append}
-use Rattle.vr_answer.specs.Scope.{HasKeyedAlone}
-use Rattle.vr_answer.proofs.CallerLemmas.{definition_keyed}
 use Rattle.vr_record_file.specs.Now.{FileNow, IsStateOf, entry_next, state_now, with_event}
-use Rattle.vr_event.specs.Alike.{AreAlike}
 use Rattle.vr_store.specs.LastImage.{IsBackIn}
 use Rattle.vr_store.specs.Store.{IsStored, StoreNow}
-use Rattle.vr_event.specs.Volume.{IsFileHeld, IsHeld, VolumeNow}
-use Rattle.vr_event.proofs.Entering.{held-alike}
+use Rattle.vr_event.specs.Volume.{AreServedClusters, IsFileHeld, IsHeld, IsServedKind, VolumeNow}
+use Rattle.vr_event.proofs.Areas.{owned-same, unlaid-same}
+use Rattle.vr_event.proofs.Served.{definition_served}
 
--- where the store is that of the same state, and has the areas that it had
-pub held-with : {B : Type 0} (seen : B → Seen) (opening : State) (volume : VolumeNow B)
-    (store : StoreNow) (blocks : B) → store.space ≡ volume.store.space
-    → (volume.file.stopped ≡ None
-    → IsStored volume.number store (state_now opening volume.file) (seen blocks))
-    → IsHeld seen opening volume
-    → IsHeld seen opening (record volume { blocks = blocks; store = store })
-held-with seen opening volume store blocks space stored held = record {
-  file = held.file;
-  free = ap free_count space ∙ held.free;
-  stored = stored;
-}
-
+-- where a write failed, the areas are as they were
 pub known-with : {B : Type 0} (seen : B → Seen) (opening : State) (volume : VolumeNow B)
     (store : StoreNow) (blocks : B) → store.space ≡ volume.store.space
     → IsHeld seen opening volume
@@ -47,28 +33,8 @@ pub known-with : {B : Type 0} (seen : B → Seen) (opening : State) (volume : Vo
 known-with seen opening volume store blocks space held = record {
   file = held.file;
   free = ap free_count space ∙ held.free;
+  owned = owned-same volume.store.space store.space _ _ space refl held.owned;
 }
-
--- a split of an interval that is entered leaves the state
-pub held-split : {B : Type 0} (seen : B → Seen) (opening : State) (volume : VolumeNow B)
-    (to : FileNow) (after : ℕ) (unit : UnitOfRecovery) (part : PartNo)
-    → to ≡ with_event after unit 0 (Split part) volume.file → IsHeld seen opening volume
-    → IsStateOf opening to → IsHeld seen opening (record volume { file = to })
-held-split seen opening volume to after unit part leaves held file =
-    let before : State = state_now opening volume.file in
-    let same : state_now opening to ≡ before = ap (λ (f : FileNow). state_now opening f) leaves
-    ∙ state_of-append volume.file.geometry opening volume.file.entries
-    (entry_next volume.file.entries after unit 0 (Split part)) in
-    held-alike seen opening volume to (ap (λ (f : FileNow). f.geometry) leaves)
-    (ap (λ (f : FileNow). f.stopped) leaves)
-    (subst (AreAlike before) (sym same) (record {
-      contents = refl;
-      befores = refl;
-      logged = refl;
-      used = refl;
-      numbers = refl;
-      owned = refl;
-    })) held file
 
 -- a volume is what its fields are
 pub held-at : {B : Type 0} (seen : B → Seen) (opening : State) (volume : VolumeNow B) (blocks : B)
@@ -87,26 +53,32 @@ held-at {B} seen opening volume blocks number store same-blocks same-number same
 
 -- ---- a before-image that is put back
 
--- of a key-sequenced cluster an added record goes
+-- of a cluster that is served an added record goes
+kind-withdraws : (kind : Kind) (found : Option Item) → IsServedKind kind
+    → withdrawn_by kind found ≡ None
+kind-withdraws Keyed found is = refl
+kind-withdraws Relative found is = refl
+kind-withdraws Entry found is = absurd is
+
 none-withdrawn : (found : Option Item) (o : Option Definition)
-    → ((definition : Definition) → o ≡ Some definition → definition.kind ≡ Keyed)
+    → ((definition : Definition) → o ≡ Some definition → IsServedKind definition.kind)
     → option_and_then (λ (definition : Definition). withdrawn_by definition.kind found) o ≡ None
 none-withdrawn found None each = refl
 none-withdrawn found (Some definition) each =
-    ap (λ (kind : Kind). withdrawn_by kind found) (each definition refl)
+    kind-withdraws definition.kind found (each definition refl)
 
-back-item : (state : State) (last : BeforeImage) → HasKeyedAlone state → (old : Option Item)
-    → put_back state last old ≡ old
-back-item state last alone (Some old) = refl
-back-item state last alone None =
+back-item : (state : State) (last : BeforeImage) → AreServedClusters (catalog_of state)
+    → (old : Option Item) → put_back state last old ≡ old
+back-item state last served (Some old) = refl
+back-item state last served None =
     none-withdrawn (item_at (state.contents last.part) last.place)
     (definition_of (catalog_of state) last.part)
-    (λ definition there. definition_keyed (catalog_of state) last.part definition alone there)
+    (λ definition there. definition_served (catalog_of state) last.part definition served there)
 
 pub undone-in : (state : State) (unit : UnitOfRecovery) (last : BeforeImage)
-    → HasKeyedAlone state → last_kept state unit ≡ Some last
+    → AreServedClusters (catalog_of state) → last_kept state unit ≡ Some last
     → IsBackIn unit state (puts_back unit state)
-undone-in state unit last alone is =
+undone-in state unit last served is =
     subst (λ (found : Option BeforeImage). IsBackIn unit state (option_map_or
     (λ (kept : BeforeImage). takes_out unit (changes (change_back state kept) state)) found state))
     (sym is)
@@ -115,7 +87,7 @@ undone-in state unit last alone is =
       is = is;
       contents = ap (λ (item : Option Item). Rattle.vr_history.specs.Effects.with_change
           (record { part = last.part; place = last.place; new = item }) state.contents)
-          (back-item state last alone last.old);
+          (back-item state last served last.old);
       befores = refl;
       logged = refl;
       used = refl;
@@ -157,6 +129,10 @@ held-undone seen opening volume to store blocks after unit part place leaves spa
     record {
       file = file;
       free = cc (held.free, geometry, owned, space);
+      owned = owned-same volume.store.space store.space _ _ space owned held.owned;
+      unlaid = λ on. unlaid-same volume.file.geometry to.geometry volume.file.catalog to.catalog
+          volume.store.space store.space geometry (ap (λ (f : FileNow). f.catalog) leaves) space
+          (held.unlaid going);
       stored = λ on. subst (λ (s : State). IsStored volume.number store s (seen blocks))
           (sym state) stored;
     }

@@ -37,6 +37,7 @@ use Rattle.vr_volume.specs.Steps.{IsEndedIn}
 use Rattle.vr_event.specs.EndedFile.{IsEnded}
 use Rattle.vr_store.specs.Store.{IsStored, StoreNow}
 use Rattle.vr_event.specs.Volume.{IsHeld, VolumeNow}
+use Rattle.vr_event.proofs.Areas.{owned-same, unlaid-same}
 use Rattle.vr_event.proofs.Entries.{held-failed}
 
 -- a part that no entry of the catalog has isn't laid
@@ -46,7 +47,7 @@ none_with part [] none = refl
 none_with part (entry ∷ entries) none =
     grind (arith, nat_tests, none_with part entries, none)
 
-unlaid : (geometry : Geometry) (part : ℕ) (entries : List CatEntry)
+pub unlaid : (geometry : Geometry) (part : ℕ) (entries : List CatEntry)
     → has_part (parts_in entries) part ≡ false → shape_in geometry entries part ≡ None
 unlaid geometry part entries none = by_test (part == 0) refl none
   where
@@ -198,6 +199,10 @@ held-ended seen opening volume to store blocks after unit line request is leaves
     record {
       file = file;
       free = cc (held.free, geometry, owned, space);
+      owned = owned-same volume.store.space store.space _ _ space owned held.owned;
+      unlaid = λ on. unlaid-same volume.file.geometry to.geometry volume.file.catalog to.catalog
+          volume.store.space store.space geometry (ap (λ (f : FileNow). f.catalog) leaves) space
+          (held.unlaid going);
       stored = λ on. subst (λ (s : State). IsStored volume.number store s (seen blocks))
           (sym state) (stored (ends_unit unit before) (ended-in before unit
           volume.store.log.geometry (held.stored going).volume.laid));
@@ -214,5 +219,7 @@ held-stopped seen opening volume to store blocks after unit line request leaves 
     record {
       file = file;
       free = ap free_count space ∙ fails.free;
+      owned = owned-same volume.store.space store.space _ _ space refl fails.owned;
+      unlaid = λ going. absurd (none-some _ (sym going ∙ ap (λ (f : FileNow). f.stopped) leaves));
       stored = λ going. absurd (none-some _ (sym going ∙ ap (λ (f : FileNow). f.stopped) leaves));
     }

@@ -1,40 +1,34 @@
 -- How a change is refused.
-use Rattle.std.proofs.Common.{◌≡◌, ◌≢◌, ◌⊎◌, ◌||◌, ℕ, Bool, true, false, List, ◌∷◌, Option}
+use Rattle.std.proofs.Common.{◌≡◌, ◌⊎◌, ◌||◌, ℕ, Bool, true, false, List, [], ◌∷◌, Option}
 use Rattle.std.proofs.Common.{Some, None, refl, sym, ap, subst, ◌∙◌, inl, inr, IsTrue}
 use Rattle.std.specs.Option.{option_and_then, option_or}
 use Rattle.vr_catalog.specs.declared.definition.Definition.{Definition}
 use Rattle.vr_types.specs.declared.fault.DeviceFault.TheVariants.{Read, Write}
 use Rattle.vr_types.specs.declared.reply.Refusal.{Refusal}
-use Rattle.vr_types.specs.declared.reply.Refusal.TheVariants.{Memory as NoMemory, NoFile}
+use Rattle.vr_types.specs.declared.reply.Refusal.TheVariants.{Memory as NoMemory, NoFile, NoSpace}
 use Rattle.vr_types.specs.declared.reply.Reply.TheVariants.{Refused}
 use Rattle.vr_types.specs.declared.request.FileRef.{FileRef}
 use Rattle.vr_types.specs.declared.request.Find.{Find}
 use Rattle.vr_types.specs.declared.request.Request.{Request}
 use Rattle.vr_types.specs.declared.request.Request.TheVariants.{Get, Point, Add, Update, Erase}
 use Rattle.vr_types.specs.declared.request.Request.TheVariants.{EndReq, Commit, Backout}
-use Rattle.vr_types.specs.declared.unit.Kind.TheVariants.{Keyed}
 use Rattle.vr_history.specs.Case.{Case, file_of, find_of, new_record}
 use Rattle.vr_history.specs.Change.{place_asked, place_changed}
 use Rattle.vr_history.specs.Found.{found, place_in}
-use Rattle.vr_history.specs.Opened.{Cluster, opened}
+use Rattle.vr_history.specs.Opened.{ByPath, Cluster, Opened, Unknown, definition_in, opened}
 use Rattle.vr_history.specs.RefusedFile.{is_catalog_changing, is_unknown, no_file, refused_if}
-use Rattle.vr_history.specs.RefusedRoom.{log_full}
-use Rattle.vr_history.specs.Replies.{FillsKeyed, LacksRoom, before_room, first_of, may_read}
-use Rattle.vr_history.specs.Replies.{lacks_area, may_want}
-use Rattle.vr_history.specs.State.{State}
+use Rattle.vr_history.specs.RefusedRecord.{absent, duplicate, duplicate_key, gone, held}
+use Rattle.vr_history.specs.RefusedRecord.{key_changed, length_changed}
+use Rattle.vr_history.specs.RefusedRoom.{log_full, no_space}
+use Rattle.vr_history.specs.Replies.{before_room, first_of, may_read, may_want}
 use Rattle.vr_history.specs.Step.{stand_refused}
-use Rattle.vr_answer.specs.InHand.{IsCaseOf, whole}
-use Rattle.vr_answer.specs.Scope.{AreKeyedClusters}
 use Rattle.vr_answer.specs.Looked.{place_looked_at}
-use Rattle.vr_answer.specs.Opening.{as_opened, definition_here}
 use Rattle.vr_answer.specs.Scope.{IsDirect}
 use Rattle.vr_answer.specs.Tried.{file_refusals, record_refusals}
-use Rattle.vr_answer.specs.declared.case.Case.{Case as CaseInHand}
-use Rattle.vr_answer.proofs.CallerLemmas.{IsKeyed, answered_by_log, answered_by_record, keyed_here}
-use Rattle.vr_answer.proofs.CallerLemmas.{lacks_memory, lacks_room, meets_read_fault}
-use Rattle.vr_answer.proofs.CallerLemmas.{meets_write_fault, opened_is}
+use Rattle.vr_answer.proofs.CallerLemmas.{answered_by_log, answered_by_record, first_of-append}
+use Rattle.vr_answer.proofs.CallerLemmas.{lacks_memory, meets_read_fault, meets_write_fault}
 use Rattle.vr_event.specs.Getting.{refusal_of}
-use Rattle.vr_event.specs.Putting.{IsChange, IsRefusedBy, MayRefuse}
+use Rattle.vr_event.specs.Putting.{IsChange, IsRefusedBy, LacksArea, MayRefuse}
 use Rattle.vr_store.specs.declared.no.LookNo.{LookNo}
 use Rattle.vr_store.specs.declared.no.LookNo.TheVariants.{Fault, Memory}
 
@@ -174,57 +168,43 @@ change-known (EndReq on) test is none = absurd is
 change-known Commit test is none = absurd is
 change-known Backout test is none = absurd is
 
--- what a change is on is a key-sequenced cluster
-pub record IsOnKeyed (case : Case) : Type 0 where
-  pub definition : Definition
-  pub on : opened case ≡ Cluster definition
-  pub keyed : definition.kind ≡ Keyed
+-- what a change is on that nothing in memory refuses is stated by the catalog
+defined : (opened : Opened) → is_unknown opened ≡ false
+    → (definition : Definition) × (definition_in opened ≡ Some definition)
+defined Unknown known = absurd cc
+defined (Cluster definition) known = (definition, refl)
+defined (ByPath definition alternate) known = (definition, refl)
 
-pub on-keyed : (case : CaseInHand) (state : State) → IsCaseOf case state
-    → AreKeyedClusters case.catalog.now → IsChange case.request.now
-    → first_of (file_refusals (whole case state)) ≡ None
-    → IsOnKeyed (whole case state)
-on-keyed case state is keyed change none =
-    by_found (definition_here case) (opened_is case state is.file)
-    (keyed_here case state is.file (subst AreKeyedClusters is.file.catalog keyed))
-    (or-first (is_unknown (opened (whole case state))) (is_catalog_changing (whole case state))
-    (change-known case.request.now _ change
-    (first-none (no_file (whole case state)) _ none)))
-  where
-    by_found : (found : Option Definition) → opened (whole case state) ≡ as_opened found
-        → IsKeyed found → is_unknown (opened (whole case state)) ≡ false
-        → IsOnKeyed (whole case state)
-    by_found None on keyed known =
-        let no : true ≡ false = sym (ap is_unknown on) ∙ known in absurd cc
-    by_found (Some definition) on keyed known =
-        record { definition = definition; on = on; keyed = keyed }
+module _ (case : Case) (change : IsChange case.request) where
+  pub change-defined : first_of (file_refusals case) ≡ None
+      → (definition : Definition) × (definition_in (opened case) ≡ Some definition)
+  change-defined none = defined (opened case)
+      (or-first (is_unknown (opened case)) (is_catalog_changing case)
+      (change-known case.request _ change (first-none (no_file case) _ none)))
 
-module _ (case : CaseInHand) (state : State) (is : IsCaseOf case state)
-    (keyed : AreKeyedClusters case.catalog.now) (change : IsChange case.request.now)
-    (no-record : first_of (record_refusals (whole case state)) ≡ None) where
-  abbrev w : Case
-  w = whole case state
+module _ (case : Case) (no-record : first_of (record_refusals case) ≡ None) where
+  -- nothing refuses it before its room
+  pub before-room : first_of (file_refusals case) ≡ None → first_of (before_room case) ≡ None
+  before-room none =
+      first_of-append (file_refusals case) (record_refusals case)
+      ∙ ap (λ (o : Option Refusal). option_or o (first_of (record_refusals case))) none
+      ∙ no-record
 
-  lacks : first_of (file_refusals w) ≡ None → (bytes : List ℕ)
-      → new_record case.request.now ≡ Some bytes → LacksRoom w (Refused lacks_area)
-  lacks none bytes new =
-      let on = on-keyed case state is keyed change none in
-      lacks_room w on.definition bytes none no-record on.on on.keyed new
+  rest-none : (a : Option Refusal) (rest : List (Option Refusal)) → first_of (a ∷ rest) ≡ None
+      → first_of rest ≡ None
+  rest-none None rest none = none
+  rest-none (Some refusal) rest none = absurd (none-some (sym none))
+
+  -- nor for want of areas
+  pub no-wants : no_space case ≡ None
+  no-wants = first-none (no_space case) []
+      (rest-none (duplicate_key case) _ (rest-none (duplicate case) _ (rest-none (absent case) _
+      (rest-none (held case) _ (rest-none (length_changed case) _ (rest-none (key_changed case) _
+      (rest-none (gone case) _ no-record)))))))
 
   -- its part lacks an area
-  pub refuse-space : (bytes : List ℕ) → new_record case.request.now ≡ Some bytes
-      → (refusal : Refusal) → refusal ≡ lacks_area → MayRefuse w refusal
-  refuse-space bytes new refusal is-lack = subst (λ (r : Refusal). MayRefuse w r) (sym is-lack)
-      (λ none. (inr (inl (lacks none bytes new)), refl))
-
-  -- nothing refuses it before its room, and it fills a part
-  pub fills : first_of (file_refusals w) ≡ None → new_record case.request.now ≢ None
-      → (first_of (before_room w) ≡ None) × FillsKeyed w
-  fills none some = by_new (new_record case.request.now) refl
-    where
-      by_new : (new : Option (List ℕ)) → new_record case.request.now ≡ new
-          → (first_of (before_room w) ≡ None) × FillsKeyed w
-      by_new None is = absurd (some is)
-      by_new (Some bytes) is =
-          let all = lacks none bytes is in
-          (all.0, all.1)
+  pub refuse-space : (need free : ℕ) (bytes : List ℕ) → new_record case.request ≡ Some bytes
+      → LacksArea case need free → MayRefuse case (NoSpace need free)
+  refuse-space need free bytes new lacks none =
+      let both = lacks none (λ nothing. none-some (sym nothing ∙ new)) in
+      (inr (inl (before-room none, both.0, ap Refused both.1)), refl)

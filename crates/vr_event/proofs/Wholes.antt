@@ -22,11 +22,11 @@ use Rattle.vr_history.proofs.CallerLemmas.{state_of-append}
 use Rattle.vr_record_file.specs.Now.{FileNow, IsStateOf, MayBeAsked, asked_failing, entry_next}
 use Rattle.vr_record_file.specs.Now.{failed, state_now, with_event}
 use Rattle.vr_volume.specs.Laid.{shape_in}
-use Rattle.vr_answer.specs.Scope.{AreKeyedClusters}
 use Rattle.vr_event.specs.Alike.{AreAlike}
 use Rattle.vr_event.specs.Putting.{IsChanging}
 use Rattle.vr_store.specs.Store.{IsSet, IsStored, StoreNow, shape_among}
-use Rattle.vr_event.specs.Volume.{IsHeld, IsWhole, VolumeNow}
+use Rattle.vr_event.specs.Volume.{AreServedClusters, IsHeld, IsWhole, VolumeNow}
+use Rattle.vr_event.proofs.Areas.{owned-same, unlaid-same}
 use Rattle.vr_event.proofs.Entering.{alike_refused, held-alike}
 
 module _ {B : Type 0} (seen : B → Seen) where
@@ -40,7 +40,7 @@ module _ {B : Type 0} (seen : B → Seen) where
       → (file.stopped ≡ None → IsSet store (seen blocks))
       → IsWhole seen (record volume { blocks = blocks; store = store; file = file })
   whole-of volume store blocks file whole was geometry catalog log parts set = record {
-    keyed = subst AreKeyedClusters (sym catalog) whole.keyed;
+    served = subst AreServedClusters (sym catalog) whole.served;
     geometry = λ going. log going ∙ whole.geometry (was going) ∙ sym geometry;
     laid = λ going n. parts going n ∙ whole.laid (was going) n
         ∙ sym (ap (λ (g : Geometry). shape_in g file.catalog n) geometry
@@ -49,10 +49,10 @@ module _ {B : Type 0} (seen : B → Seen) where
   }
 
   -- whole, once a write failed
-  pub whole-stopped : (volume : VolumeNow B) → AreKeyedClusters volume.file.catalog
+  pub whole-stopped : (volume : VolumeNow B) → AreServedClusters volume.file.catalog
       → (volume.file.stopped ≡ None → ⊥) → IsWhole seen volume
-  whole-stopped volume keyed stopped = record {
-    keyed = keyed;
+  whole-stopped volume served stopped = record {
+    served = served;
     geometry = λ going. absurd (stopped going);
     laid = λ going. absurd (stopped going);
     set = λ going. absurd (stopped going);
@@ -68,6 +68,9 @@ module _ {B : Type 0} (seen : B → Seen) where
   held-moved opening volume store blocks space stored held = record {
     file = held.file;
     free = ap free_count space ∙ held.free;
+    owned = owned-same volume.store.space store.space _ _ space refl held.owned;
+    unlaid = λ going. unlaid-same volume.file.geometry volume.file.geometry volume.file.catalog
+        volume.file.catalog volume.store.space store.space refl refl space (held.unlaid going);
     stored = stored;
   }
 
@@ -133,6 +136,8 @@ held-stopped-locked seen opening volume to store blocks after unit line request 
     record {
       file = file;
       free = cc (held.free, geometry, owned, space);
+      owned = owned-same volume.store.space store.space _ _ space owned held.owned;
+      unlaid = λ going. absurd (none-some _ (sym going ∙ ap (λ (f : FileNow). f.stopped) leaves));
       stored = λ going. absurd (none-some _ (sym going ∙ ap (λ (f : FileNow). f.stopped) leaves));
     }
 

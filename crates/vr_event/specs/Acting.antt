@@ -6,12 +6,13 @@ use Rattle.vr_types.specs.Image.{Image}
 use Rattle.vr_types.specs.declared.geometry.Geometry.{Geometry}
 use Rattle.vr_types.specs.declared.request.Request.{Request}
 use Rattle.vr_types.specs.declared.request.Request.TheVariants.{Commit}
+use Rattle.vr_types.specs.declared.unit.AreaNo.{AreaNo}
 use Rattle.vr_types.specs.declared.unit.PartNo.{PartNo}
 use Rattle.vr_types.specs.declared.unit.Unit.{Unit as UnitOfRecovery}
 use Rattle.vr_history.specs.Legal.{is_backout}
 use Rattle.vr_history.specs.State.{State}
 use Rattle.vr_history.specs.Step.{IsOfUnit}
-use Rattle.vr_history.specs.declared.entry.What.TheVariants.{Split, Undone}
+use Rattle.vr_history.specs.declared.entry.What.TheVariants.{Claimed, Split, Undone}
 use Rattle.vr_record_file.specs.Now.{EndsUnit, FileNow, failed, is_undoing, state_now, with_event}
 use Rattle.vr_volume.specs.Crashes.{RecoversTo}
 use Rattle.vr_event.specs.Cause.{IsEnteredFor}
@@ -20,10 +21,11 @@ use Rattle.vr_event.specs.declared.act.Act.{Act}
 use Rattle.vr_event.specs.declared.act.Act.TheVariants.{Again, Done}
 
 -- A step was done, and the request wasn't entered: nothing was, or that an interval was split, or
--- that a before-image was put back for a BACKOUT.
+-- that an area was given to a part, or that a before-image was put back for a BACKOUT.
 abbrev pub HasStepped : ℕ → UnitOfRecovery → Request → FileNow → FileNow → Type 0
 HasStepped after unit request old new = (new ≡ old)
     ⊎ ((part : PartNo) × (new ≡ with_event after unit 0 (Split part) old))
+    ⊎ ((part : PartNo) × (area : AreaNo) × (new ≡ with_event after unit 0 (Claimed part area) old))
     ⊎ (IsTrue (is_backout request) × (part : PartNo) × (place : List ℕ)
     × (new ≡ with_event after unit 0 (Undone part place) old))
 

@@ -15,7 +15,10 @@ use Rattle.vr_types.specs.declared.request.Find.{Find}
 use Rattle.vr_types.specs.declared.request.Request.TheVariants.{Get, Point, Add, Update, Erase}
 use Rattle.vr_types.specs.declared.request.Request.TheVariants.{EndReq, Commit, Backout}
 use Rattle.vr_types.specs.declared.unit.Integrity.{Integrity}
+use Rattle.vr_types.specs.declared.unit.Kind.{Kind}
+use Rattle.vr_types.specs.declared.unit.Kind.TheVariants.{Keyed, Entry, Relative}
 use Rattle.vr_types.specs.declared.unit.Unit.{Unit as UnitOfRecovery}
+use Rattle.vr_space.specs.Slots.{is_slot_place}
 use Rattle.vr_history.specs.declared.entry.What.TheVariants.{Asked}
 use Rattle.vr_history.specs.Case.{Case}
 use Rattle.vr_history.specs.Found.{place_read}
@@ -102,12 +105,18 @@ MayEnd case (Refused refusal) = MayReply case (replies.Refused refusal)
 MayEnd case (Done reply names at held) = MayReply case reply × IsDoneAs case reply names at held
 MayEnd case (Pointed reply at) = MayReply case reply × IsPointedAs case reply at
 
--- a place is as long as the keys of a part
-abbrev pub is_long_as : List ℕ → Definition → Bool
-is_long_as place definition = nat_eq (length place) definition.key_length
+-- a place that a record of a definition may have: as long as its keys, or the number of a slot
+abbrev pub is_place_for : Kind → List ℕ → Definition → Bool
+is_place_for Keyed place definition = nat_eq (length place) definition.key_length
+is_place_for Entry place definition = false
+is_place_for Relative place definition = is_slot_place place
 
+abbrev pub is_place_by : List ℕ → Definition → Bool
+is_place_by place definition = is_place_for definition.kind place definition
+
+-- it is one of a part of a catalog
 abbrev pub fits_in : List CatEntry → ℕ → List ℕ → Bool
-fits_in entries part place = option_map_or (is_long_as place) (definition_of entries part) false
+fits_in entries part place = option_map_or (is_place_by place) (definition_of entries part) false
 
 -- A read may be entered: it is of its deck's current unit, which has not begun to undo, and nothing in
 -- memory refuses it.

@@ -15,7 +15,8 @@ use Rattle.vr_types.specs.declared.request.Request.{Request}
 use Rattle.vr_space.specs.Part.{room_of}
 use Rattle.vr_space.specs.declared.room.Room.TheVariants as answers
 use Rattle.vr_answer.specs.Here.{base_here}
-use Rattle.vr_history.specs.Case.{new_record}
+use Rattle.vr_history.specs.Case.{Case, new_record}
+use Rattle.vr_history.specs.RefusedRoom.{no_space}
 use Rattle.vr_undo.specs.Records.{images_in}
 use Rattle.vr_volume.specs.PutBack.{lengths_kept}
 use Rattle.vr_store.specs.Store.{PartNow, StoreNow, part_among}
@@ -75,3 +76,10 @@ IsElse refusal = IfNoSpace (λ need free. ⊥) refusal
 
 abbrev pub AreElse : Option Refusal → Type 0
 AreElse refused = IfSome refused IsElse
+
+-- The state refuses a change so for want of areas: its data set is one whose places are numbers.
+abbrev pub IsWanting : Case → ℕ → ℕ → Type 0
+IsWanting case need free = no_space case ≡ Some (NoSpace need free)
+
+abbrev pub AreWanting : Case → Option Refusal → Type 0
+AreWanting case refused = IfSome refused (IfNoSpace (IsWanting case))

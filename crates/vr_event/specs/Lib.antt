@@ -11,3 +11,4 @@ pub mod Lacking
 pub mod Opening
 pub mod Made
 pub mod Serving
+pub mod Staging

@@ -7,12 +7,14 @@ use Rattle.vr_types.specs.declared.reply.Refusal.TheVariants.{WriteFault}
 use Rattle.vr_types.specs.declared.reply.Reply.{Reply}
 use Rattle.vr_types.specs.declared.reply.Reply.TheVariants.{Refused}
 use Rattle.vr_types.specs.declared.request.Request.{Request}
+use Rattle.vr_types.specs.declared.unit.AreaNo.{AreaNo}
 use Rattle.vr_types.specs.declared.unit.PartNo.{PartNo}
 use Rattle.vr_types.specs.declared.unit.Unit.{Unit as UnitOfRecovery}
 use Rattle.vr_history.specs.Legal.{is_backout}
 use Rattle.vr_history.specs.Merged.{IsStamped, last_stamp}
 use Rattle.vr_history.specs.declared.entry.Entry.{Entry}
-use Rattle.vr_history.specs.declared.entry.What.TheVariants.{Asked, Faulted, Split, Undone}
+use Rattle.vr_history.specs.declared.entry.What.TheVariants.{Asked, Claimed, Faulted, Split}
+use Rattle.vr_history.specs.declared.entry.What.TheVariants.{Undone}
 use Rattle.vr_record_file.specs.Now.{FileNow, has_deck, number_of}
 use Rattle.vr_event.specs.declared.act.Act.{Act}
 use Rattle.vr_event.specs.declared.act.Act.TheVariants.{Again, Done}
@@ -50,10 +52,12 @@ pub record HasAsked (unit : UnitOfRecovery) (line : ℕ) (request : Request) (ma
   pub what_is : entry.what ≡ Asked request reply
   pub follows : MayFollow unit line reply rest
 
--- an entry of a step: that an interval was split, or that a BACKOUT put a before-image back
+-- an entry of a step: that an interval was split, that an area was given to a part, or that a BACKOUT
+-- put a before-image back
 abbrev pub IsStepFor : UnitOfRecovery → Request → Entry → Type 0
 IsStepFor unit request entry = (entry.unit ≡ unit)
     × (((part : PartNo) × (entry.what ≡ Split part))
+    ⊎ ((part : PartNo) × (area : AreaNo) × (entry.what ≡ Claimed part area))
     ⊎ (IsTrue (is_backout request) × (part : PartNo) × (place : List ℕ)
     × (entry.what ≡ Undone part place)))
 

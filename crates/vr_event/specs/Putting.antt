@@ -1,18 +1,22 @@
 -- What a PUT or an ERASE comes to before it is made: it is refused, a stage of a split comes first, or
 -- it is ready to be made. The rules are those of the record file.
 use Rattle.std.specs.Prelude.{◌≡◌, ◌≢◌, ◌<◌, ◌≤◌, ◌+◌, ◌==◌, ◌^◌, ◌&&◌, ℕ, Bool, true, false, List}
-use Rattle.std.specs.Prelude.{Option, Some, None, IfSome, IsTrue, length, nat_le, option_map}
+use Rattle.std.specs.Prelude.{Option, Some, None, IfSome, IsTrue, length, nat_eq, nat_le, option_map}
 use Rattle.vr_types.specs.Content.{Standing, item_at}
 use Rattle.vr_types.specs.Image.{Image}
 use Rattle.vr_types.specs.Seen.{Seen}
 use Rattle.vr_types.specs.declared.geometry.Geometry.{Geometry}
 use Rattle.vr_types.specs.declared.lock_name.LockName.{LockName}
+use Rattle.vr_types.specs.Space.{free_count}
 use Rattle.vr_types.specs.declared.reply.Refusal.{Refusal}
+use Rattle.vr_types.specs.declared.reply.Refusal.TheVariants.{NoSpace}
 use Rattle.vr_types.specs.declared.reply.Reply.{Reply}
 use Rattle.vr_types.specs.declared.reply.Reply.TheVariants as replies
 use Rattle.vr_types.specs.declared.request.Request.{Request}
 use Rattle.vr_types.specs.declared.request.Request.TheVariants.{Get, Point, Add, Update, Erase}
 use Rattle.vr_types.specs.declared.request.Request.TheVariants.{EndReq, Commit, Backout}
+use Rattle.vr_types.specs.declared.unit.Kind.{Kind}
+use Rattle.vr_types.specs.declared.unit.Kind.TheVariants.{Keyed, Entry, Relative}
 use Rattle.vr_types.specs.declared.unit.PartNo.{PartNo}
 use Rattle.vr_types.specs.declared.unit.Unit.{Unit as UnitOfRecovery}
 use Rattle.vr_catalog.specs.Definition.{key_of}
@@ -20,16 +24,18 @@ use Rattle.vr_catalog.specs.declared.definition.Definition.{Definition}
 use Rattle.vr_catalog.specs.declared.entry.CatEntry.{CatEntry}
 use Rattle.vr_space.specs.Known.{HasMet, Known}
 use Rattle.vr_space.specs.Part.{IsLengthOf, IsPlaceOf, IsRecordOf, KeyedShape, RelativeShape}
-use Rattle.vr_space.specs.Part.{Shape, fits_at, stage_of}
+use Rattle.vr_space.specs.Part.{Shape, fits_at, owned_count, stage_of}
 use Rattle.vr_space.specs.Room.{Lengths}
+use Rattle.vr_space.specs.Slots.{IsSlotPlace}
 use Rattle.vr_log.specs.declared.record.LogRecord.TheVariants.{Before}
 use Rattle.vr_history.specs.Case.{Case, new_record}
 use Rattle.vr_history.specs.Change.{place_changed, record_held}
 use Rattle.vr_history.specs.Names.{lock_names}
 use Rattle.vr_history.specs.Opened.{base_of}
-use Rattle.vr_history.specs.RefusedRoom.{log_full}
-use Rattle.vr_history.specs.Replies.{FillsKeyed, MayReply, before_room, done_by, first_of}
-use Rattle.vr_history.specs.State.{State}
+use Rattle.vr_history.specs.RefusedRoom.{free_areas, log_full}
+use Rattle.vr_history.specs.Replies.{FillsKeyed, MayReply, before_room, done_by, fills_base}
+use Rattle.vr_history.specs.Replies.{first_of, lacks_area}
+use Rattle.vr_history.specs.State.{State, areas_of}
 use Rattle.vr_history.specs.Step.{IsOfUnit, case_of, stand_refused}
 use Rattle.vr_undo.specs.Records.{before_of, images_in}
 use Rattle.vr_volume.specs.Committed.{IsCurrent}
@@ -81,15 +87,34 @@ pub record IsChanging (opening : State) (file : FileNow) (unit : UnitOfRecovery)
 -- ---- what fits a part
 
 -- a record that a definition of a key-sequenced cluster allows at a place
-pub record IsRecordBy (definition : Definition) (place bytes : List ℕ) : Type 0 where
+pub record IsKeyedRecord (definition : Definition) (place bytes : List ℕ) : Type 0 where
   pub least : definition.key_offset + definition.key_length ≤ length bytes
   pub most : length bytes ≤ definition.maximum
   pub key : key_of definition bytes ≡ place
 
--- a length that a keyed record of a definition may have
-abbrev pub is_length_in : ℕ → Definition → Bool
-is_length_in n definition = nat_le (definition.key_offset + definition.key_length) n
+-- and one that a definition of a relative cluster allows, whose records all have one length
+pub record IsNumberedRecord (definition : Definition) (place bytes : List ℕ) : Type 0 where
+  pub slot : IsSlotPlace place
+  pub whole : length bytes ≡ definition.maximum
+
+-- by the kind: no entry-sequenced cluster is laid
+abbrev pub IsRecordFor : Kind → Definition → List ℕ → List ℕ → Type 0
+IsRecordFor Keyed definition place bytes = IsKeyedRecord definition place bytes
+IsRecordFor Entry definition place bytes = ⊥
+IsRecordFor Relative definition place bytes = IsNumberedRecord definition place bytes
+
+abbrev pub IsRecordBy : Definition → List ℕ → List ℕ → Type 0
+IsRecordBy definition place bytes = IsRecordFor definition.kind definition place bytes
+
+-- a length that a record of a definition may have
+abbrev pub is_length_for : Kind → ℕ → Definition → Bool
+is_length_for Keyed n definition = nat_le (definition.key_offset + definition.key_length) n
     && nat_le n definition.maximum
+is_length_for Entry n definition = false
+is_length_for Relative n definition = nat_eq n definition.maximum
+
+abbrev pub is_length_in : ℕ → Definition → Bool
+is_length_in n definition = is_length_for definition.kind n definition
 
 -- the parts are those of a catalog
 abbrev pub AreLaidBy : Geometry → List CatEntry → List PartNow → Type 0
@@ -164,9 +189,22 @@ IsRefusedBy case (Some refusal) = MayRefuse case refusal
 abbrev pub MayWeigh : Case → Weighed → Type 0
 MayWeigh case (Refused refusal) = MayRefuse case refusal
 MayWeigh case (Stage place n) = first_of (file_refusals case) ≡ None
-    → (new_record case.request ≢ None)
-    → (first_of (before_room case) ≡ None) × FillsKeyed case
+    → first_of (before_room case) ≡ None
 MayWeigh case (Ready place old reply names) = IsReadyFor case place old reply names
+
+-- What a part that lacks room for a record needs, and what is free to it: the part is key-sequenced,
+-- and lacks an area. Of a relative one the record file says it before.
+abbrev pub LacksArea : Case → ℕ → ℕ → Type 0
+LacksArea case need free = first_of (file_refusals case) ≡ None
+    → (new_record case.request ≢ None) → FillsKeyed case × (NoSpace need free ≡ lacks_area)
+
+-- The areas that are free, and those that the part owns, are as the state has them; a part that isn't
+-- laid owns none.
+pub record IsSpaceOf (store : StoreNow) (part : ℕ) (case : Case) : Type 0 where
+  pub free : free_count store.space ≡ free_areas case
+  pub owned : owned_count (record { 0 = part }) store.space ≡ areas_of case.state part
+  pub unlaid : part_among store.parts part ≡ None
+      → owned_count (record { 0 = part }) store.space ≡ 0
 
 -- no stage of a split is left at the place, and the record, if any, has room there
 pub record IsFitting (shape : Shape) (known : Known) (image : Image) (kept : Lengths)
@@ -238,11 +276,12 @@ abbrev pub IfAgain : Act → Type 0 → Type 0
 IfAgain Done fact = Unit {0}
 IfAgain (Again given) fact = fact
 
--- A change that is asked for again may be refused for want of room in its place.
+-- A change that is asked for again may be refused for want of room in its place, where its data set
+-- is key-sequenced: of a relative one the record file says when it lacks room.
 abbrev pub MayLackRoom : State → FileNow → UnitOfRecovery → Request → Type 0
 MayLackRoom opening file unit request =
     let case = case_of file.geometry (state_now opening file) unit request in
-    (new_record request ≢ None) → (first_of (before_room case) ≡ None) × FillsKeyed case
+    (new_record request ≢ None) → IsTrue (fills_base case) → first_of (before_room case) ≡ None
 
 -- by some opening the volume is held, and a change of it is ready
 pub record HasReady {B : Type 0} (seen : B → Seen) (volume : VolumeNow B) (unit : UnitOfRecovery)

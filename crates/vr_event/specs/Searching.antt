@@ -11,6 +11,8 @@ use Rattle.vr_catalog.specs.declared.entry.CatEntry.{CatEntry}
 use Rattle.vr_types.specs.Content.{Content, record_at}
 use Rattle.vr_types.specs.declared.position.Stand.{Stand}
 use Rattle.vr_types.specs.declared.request.Find.{Find}
+use Rattle.vr_types.specs.declared.unit.Kind.{Kind}
+use Rattle.vr_types.specs.declared.unit.Kind.TheVariants.{Keyed, Entry, Relative}
 use Rattle.vr_types.specs.declared.unit.Unit.{Unit as UnitOfRecovery}
 use Rattle.vr_space.specs.Whence.{allows}
 use Rattle.vr_space.specs.declared.whence.Whence.{Whence}
@@ -65,7 +67,13 @@ InEachFound case at present fact = (state : State) → IsCaseOf case state
     → IsSought (whole case state) at
     → present ≡ option_and_then (record_held (whole case state)) at → fact (whole case state)
 
--- how many bytes a place of a part has by its definition
+-- how many bytes a place of a part has by its definition: the number of a slot has four
+abbrev pub place_room_for : Kind → Definition → ℕ
+place_room_for Keyed definition = definition.key_length
+place_room_for Entry definition = 4
+place_room_for Relative definition = 4
+
 abbrev pub place_room : List CatEntry → ℕ → ℕ
-place_room entries part =
-    option_map_or (λ (definition : Definition). definition.key_length) (definition_of entries part) 0
+place_room entries part = option_map_or
+    (λ (definition : Definition). place_room_for definition.kind definition)
+    (definition_of entries part) 0

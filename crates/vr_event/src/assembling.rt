@@ -8,11 +8,10 @@ ghost use Rattle.vr_catalog.specs.Catalog.{entries_in};
 ghost use Rattle.vr_attach.specs.Owning.{owner_of};
 ghost use Rattle.vr_history.specs.Effects.{has_part, parts_laid};
 ghost use Rattle.vr_history.specs.State.{opening_state};
-ghost use Rattle.vr_answer.specs.Scope.{AreKeyedClusters};
 ghost use Rattle.vr_volume.specs.Laid.{shape_in};
 ghost use Rattle.vr_event.specs.Opening.{IsOpened, opened_store, owned_in};
 ghost use Rattle.vr_store.specs.Store.{IsSet, part_now, shape_among};
-ghost use Rattle.vr_event.specs.Volume.{IsHeld, IsWhole};
+ghost use Rattle.vr_event.specs.Volume.{AreServedClusters, IsHeld, IsWhole, OwnLaid};
 
 use crate::volume::Volume;
 use std::alloc::Global;
@@ -25,8 +24,8 @@ use vr_types::{Blocks, Geometry, Space};
 
 impl<B: Blocks, P: Part> Volume<B, P> {
     /// The volume of these blocks, whose log has no record: its history has no entry, and no deck
-    /// was entered. It takes no memory. Where it was opened with some contents, of key-sequenced
-    /// clusters alone, it is held from the opening with these contents (`held`).
+    /// was entered. It takes no memory. Where it was opened with some contents, of clusters
+    /// that are served alone, it is held from the opening with these contents (`held`).
     pub fn new(
         alloc: Global,
         blocks: B,
@@ -37,17 +36,18 @@ impl<B: Blocks, P: Part> Volume<B, P> {
         log: UndoLog,
         space: Space,
     ) -> Volume<B, P>
-        ensures whole { AreKeyedClusters catalog
+        ensures whole { AreServedClusters catalog
             → IsSet (opened_store log (map (part_now P.shape P.known) parts.items)
             space) (B.seen blocks) → log.geometry ≡ geometry
             → ((part : ℕ) → shape_among (map (part_now P.shape P.known) parts.items) part
             ≡ shape_in geometry catalog part) → IsWhole B.seen result }
         ensures held { IsTrue B.tells → (contents : ℕ → Content)
             → catalog ≡ entries_in (contents 0)
-            → AreKeyedClusters catalog → log.geometry ≡ geometry → log.records ≡ []
+            → AreServedClusters catalog → log.geometry ≡ geometry → log.records ≡ []
             → log.broken ≡ false → length space ≡ area_count geometry
             → AllByRecursion (λ area. has_part (parts_laid catalog) area.part ≡ true)
             (owned_in space)
+            → OwnLaid geometry catalog space
             → IsOpened number (owner_of log.geometry space) log
             (map (part_now P.shape P.known) parts.items) contents (B.seen blocks)
             → IsHeld B.seen (opening_state contents (owned_in space)) result }

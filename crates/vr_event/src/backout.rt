@@ -24,12 +24,32 @@ ghost use Rattle.vr_event.specs.Putting.{is_length_in};
 ghost use Rattle.vr_event.specs.Volume.{Holds, IsHeld, IsWhole};
 
 use crate::act::Act;
+use crate::staging::area_taken;
 use crate::volume::Volume;
-use vr_catalog::Catalog;
+use vr_catalog::{Catalog, Definition};
 use vr_log::EndKind;
 use vr_space::Part;
-use vr_types::{Blocks, DeviceFault, PartNo, SharedRequest, Unit};
+use vr_types::{Blocks, DeviceFault, Kind, PartNo, SharedRequest, Unit};
 use vr_undo::Before;
+
+/// The least length that a record of a definition may have: each record of a relative cluster has the
+/// one length. None where none may stand, and of an entry-sequenced cluster, which is not laid.
+fn least_by(definition: &Definition) -> Option<u32>
+    ensures { IfSome result (λ n. is_length_in n definition.now ≡ true) }
+{
+    match definition.kind {
+        Kind::Keyed => {
+            let least = u32::from(definition.key_offset) + u32::from(definition.key_length);
+            if least <= definition.maximum {
+                Some(least)
+            } else {
+                None
+            }
+        }
+        Kind::Entry => None,
+        Kind::Relative => Some(definition.maximum),
+    }
+}
 
 /// The least length that a record of a part may have, by its definition in a catalog.
 fn least_length(catalog: &Catalog, part: PartNo) -> Option<u32>
@@ -38,14 +58,7 @@ fn least_length(catalog: &Catalog, part: PartNo) -> Option<u32>
 {
     match catalog.definition_of(part) {
         None => None,
-        Some(definition) => {
-            let least = u32::from(definition.key_offset) + u32::from(definition.key_length);
-            if least <= definition.maximum {
-                Some(least)
-            } else {
-                None
-            }
-        }
+        Some(definition) => least_by(&definition),
     }
 }
 
@@ -95,9 +108,9 @@ impl<B: Blocks, P: Part> Volume<B, P> {
         self.store.meet_last(&mut self.blocks, unit, length)
     }
 
-    /// Does the stage of a split that comes before the last before-image of a unit, and enters that an
-    /// interval was split, where it was (`Again`). A fault of a read refuses the request, and one of a
-    /// write stops the volume.
+    /// Does the stage that comes before the last before-image of a unit, and enters that an interval was
+    /// split in two, or that the part took an area, where it was (`Again`). A fault of a read refuses the
+    /// request, and one of a write stops the volume.
     fn stage_back(
         &mut self,
         unit: Unit,
@@ -131,10 +144,15 @@ impl<B: Blocks, P: Part> Volume<B, P> {
         ensures number { self.new.number ≡ self.old.number }
         ensures log { self.new.store.log ≡ self.old.store.log }
     {
+        let Some(part) = self.store.last_part(unit) else {
+            return Act::Again(request);
+        };
+        let least = self.store.least_free();
+        let free = self.store.free_areas();
         match self.store.advance_last(&mut self.blocks, unit, length) {
-            Ok(None) => Act::Again(request),
-            Ok(Some(part)) => {
-                self.file.split(unit, part, after);
+            Ok(split) => {
+                let taken = area_taken(least, free, self.store.free_areas());
+                self.enter_stage(unit, part, split.is_some(), taken, after);
                 Act::Again(request)
             }
             Err(DeviceFault::Read) => {

@@ -5,10 +5,9 @@ ghost use Rattle.vr_types.specs.declared.reply.Refusal.TheVariants.{ReadFault, W
 ghost use Rattle.vr_types.specs.declared.reply.Reply.TheVariants.{Refused};
 ghost use Rattle.vr_history.specs.Merged.{last_stamp};
 ghost use Rattle.vr_history.specs.State.{State};
-ghost use Rattle.vr_answer.specs.Scope.{AreKeyedClusters};
 ghost use Rattle.vr_record_file.specs.Now.{MayBeAsked};
 ghost use Rattle.vr_event.specs.Acting.{IsActed};
-ghost use Rattle.vr_event.specs.Volume.{IsFileHeld, IsHeld, IsWhole};
+ghost use Rattle.vr_event.specs.Volume.{AreServedClusters, IsFileHeld, IsHeld, IsWhole};
 ghost use Rattle.vr_event.specs.declared.act.Act.TheVariants as acts;
 
 use crate::volume::Volume;
@@ -26,7 +25,7 @@ impl<B: Blocks, P: Part> Volume<B, P> {
         ensures held { IsTrue B.tells → (opening : State) → IsFileHeld opening self.old
             → MayBeAsked opening self.old.file unit request (Refused WriteFault)
             → IsHeld B.seen opening self.new }
-        ensures whole { AreKeyedClusters self.old.file.catalog → IsWhole B.seen self.new }
+        ensures whole { AreServedClusters self.old.file.catalog → IsWhole B.seen self.new }
         ensures acted { (before now : Faults) → before.reads ≤ now.reads
             → before.writes < now.writes
             → IsActed before now acts.Done after unit line request self.old.file self.new.file }

@@ -2,16 +2,26 @@
 ghost use Rattle.std.specs.Prelude.{◌≡◌, ◌<◌, ◌^◌, IfSome, IsTrue, List, length};
 ghost use Rattle.std.specs.Option.{option_copied};
 ghost use Rattle.vr_types.specs.declared.geometry.Geometry.{Geometry};
-ghost use Rattle.vr_event.specs.Putting.{AreLaidBy, FitsItem, FitsLength, FitsRecord, IsRecordBy};
+ghost use Rattle.vr_space.specs.Slots.{is_slot_place};
+ghost use Rattle.vr_event.specs.Putting.{AreLaidBy, FitsItem, FitsLength, FitsRecord};
+ghost use Rattle.vr_event.specs.Putting.{IsKeyedRecord, IsNumberedRecord, IsRecordBy};
 ghost use Rattle.vr_store.specs.Store.{PartNow};
 
 use vr_catalog::{Catalog, Definition};
-use vr_types::{PartNo, Place};
+use vr_types::{Kind, PartNo, Place, four_at};
 
-/// The length of a record that a definition allows at a place; None of any other.
-fn length_by(definition: &Definition, place: &Place, bytes: &[u8]) -> Option<u32>
+/// Whether the bytes of a place are the number of a slot: four bytes, from 1 on.
+pub(crate) fn is_slot(place: &[u8]) -> bool
+    ensures { result ≡ is_slot_place place.now }
+{
+    place.len() == 4 && four_at(place, 0) != 0
+}
+
+/// The length of a record that the definition of a key-sequenced cluster allows at a place; None of
+/// any other.
+fn keyed_length(definition: &Definition, place: &Place, bytes: &[u8]) -> Option<u32>
     ensures length { IfSome result (λ n. n ≡ length bytes.now) }
-    ensures record { IfSome result (λ n. IsRecordBy definition.now place.now bytes.now) }
+    ensures record { IfSome result (λ n. IsKeyedRecord definition.now place.now bytes.now) }
 {
     let from = definition.key_offset as usize;
     let to = from + definition.key_length as usize;
@@ -23,6 +33,31 @@ fn length_by(definition: &Definition, place: &Place, bytes: &[u8]) -> Option<u32
         Some(length as u32)
     } else {
         None
+    }
+}
+
+/// The length of a record that the definition of a relative cluster allows at a place; None of any
+/// other.
+fn slot_length(definition: &Definition, place: &Place, bytes: &[u8]) -> Option<u32>
+    ensures length { IfSome result (λ n. n ≡ length bytes.now) }
+    ensures record { IfSome result (λ n. IsNumberedRecord definition.now place.now bytes.now) }
+{
+    if is_slot(place.as_slice()) && bytes.len() == definition.maximum as usize {
+        Some(definition.maximum)
+    } else {
+        None
+    }
+}
+
+/// The length of a record that a definition allows at a place; None of any other.
+fn length_by(definition: &Definition, place: &Place, bytes: &[u8]) -> Option<u32>
+    ensures length { IfSome result (λ n. n ≡ length bytes.now) }
+    ensures record { IfSome result (λ n. IsRecordBy definition.now place.now bytes.now) }
+{
+    match definition.kind {
+        Kind::Keyed => keyed_length(definition, place, bytes),
+        Kind::Entry => None,
+        Kind::Relative => slot_length(definition, place, bytes),
     }
 }
 

@@ -4,7 +4,6 @@ ghost use Rattle.std.specs.Prelude.{None, Some, [], cond, false};
 ghost use Rattle.std.specs.Option.{option_copied};
 ghost use Rattle.vr_types.specs.Blocks.{Keeps};
 ghost use Rattle.vr_types.specs.Moments.{Guards};
-ghost use Rattle.vr_types.specs.Space.{free_count};
 ghost use Rattle.vr_space.specs.Part.{IsPlaceOf};
 ghost use Rattle.vr_types.specs.declared.reply.Refusal.TheVariants.{Memory as NoMemory};
 ghost use Rattle.vr_types.specs.declared.request.FileRef as files;
@@ -12,14 +11,12 @@ ghost use Rattle.vr_types.specs.declared.request.Request.TheVariants as requests
 ghost use Rattle.vr_types.specs.declared.reply.Reply.TheVariants as replies;
 ghost use Rattle.vr_history.specs.Case as cases;
 ghost use Rattle.vr_history.specs.Merged.{last_stamp};
-ghost use Rattle.vr_history.specs.RefusedRoom.{free_areas};
 ghost use Rattle.vr_history.specs.Replies.{first_of};
 ghost use Rattle.vr_history.specs.Replies as replied;
 ghost use Rattle.vr_history.specs.State.{State};
 ghost use Rattle.vr_history.specs.Step.{case_of};
 ghost use Rattle.vr_answer.specs.Here.{base_here};
 ghost use Rattle.vr_answer.specs.InHand.{InEach};
-ghost use Rattle.vr_answer.specs.Scope.{AreKeyedClusters};
 ghost use Rattle.vr_answer.specs.Tried.{file_refusals, record_refusals};
 ghost use Rattle.vr_history.specs.declared.entry.What.TheVariants as whats;
 ghost use Rattle.vr_record_file.specs.Now.{CanSet, IsStateOf, MayBeAsked, state_now};
@@ -31,23 +28,24 @@ ghost use Rattle.vr_event.specs.Cause.{reply_of};
 ghost use Rattle.vr_event.specs.Getting as getting;
 ghost use Rattle.vr_event.specs.declared.act.Act.TheVariants as acts;
 ghost use Rattle.vr_event.specs.declared.getting.Outcome.TheVariants as outcomes;
-ghost use Rattle.vr_event.specs.Putting.{AreLaidBy};
+ghost use Rattle.vr_event.specs.Putting.{AreLaidBy, IsSpaceOf};
 ghost use Rattle.vr_event.specs.Searching.{InEachFound, IsSought};
 ghost use Rattle.vr_store.specs.Store.{IsSet, IsStored, Stands, shape_among};
-ghost use Rattle.vr_event.specs.Volume.{Holds, IsHeld, IsWhole};
+ghost use Rattle.vr_event.specs.Volume.{AreServedClusters, Holds, IsHeld, IsWhole};
 
+use crate::fitting::is_slot;
 use crate::searching::place_sought;
 use crate::volume::Volume;
 use crate::weighing::{base_of, slice_of};
 use std::alloc::Global;
 use vr_answer::{Case, Looked, done, lock_names, refused_by_record};
-use vr_catalog::Catalog;
+use vr_catalog::{Catalog, Definition};
 use vr_record_file::RecordFile;
 use vr_space::Part;
 use vr_store::{LookNo, Store};
 use vr_types::{
-    Blocks, Bytes, DeviceFault, LockNames, OutOfMemory, PartNo, Place, Refusal, Reply, Request,
-    SharedRequest, Unit,
+    Blocks, Bytes, DeviceFault, Kind, LockNames, OutOfMemory, PartNo, Place, Refusal, Reply,
+    Request, SharedRequest, Unit,
 };
 
 /// What a read comes to before it is entered.
@@ -235,13 +233,25 @@ fn answered(alloc: Global, case: &Case, at: Option<Place>, present: Option<Bytes
     }
 }
 
-/// Whether a place is as long as the keys of a part of a catalog.
+/// Whether a definition allows a record at a place: it is as long as the keys, or the number of a
+/// slot.
+fn fits_definition(definition: &Definition, place: &Place) -> bool
+    ensures { result ≡ getting.is_place_by place.now definition.now }
+{
+    match definition.kind {
+        Kind::Keyed => place.as_slice().len() == definition.key_length as usize,
+        Kind::Entry => false,
+        Kind::Relative => is_slot(place.as_slice()),
+    }
+}
+
+/// Whether a place is one that a record of a part of a catalog may have.
 pub(crate) fn fits(catalog: &Catalog, part: PartNo, place: &Place) -> bool
     ensures { result ≡ getting.fits_in catalog.now part.0 place.now }
 {
     match catalog.definition_of(part) {
         None => false,
-        Some(definition) => place.as_slice().len() == definition.key_length as usize,
+        Some(definition) => fits_definition(&definition, place),
     }
 }
 
@@ -350,28 +360,23 @@ fn decide<'a, B: Blocks, P: Part>(
 ) -> Outcome
     requires set { IsSet store.old (B.seen blocks.old) }
     requires laid { AreLaidBy file.now.geometry file.now.catalog store.old.parts }
-    requires keyed { AreKeyedClusters file.now.catalog }
+    requires served { AreServedClusters file.now.catalog }
     requires stands { IsTrue B.tells → Stands store.old (B.seen blocks.old) }
     ensures ends { IsTrue B.tells → (volume : ℕ) (opening : State) → IsStateOf opening file.now
         → file.now.stopped ≡ None
         → IsStored volume store.old (state_now opening file.now) (B.seen blocks.old)
         → (unit.deck == 0) ≡ false → getting.IsRead request.now
         → let case = case_of file.now.geometry (state_now opening file.now) unit request.now in
-        free_count store.old.space ≡ free_areas case → first_of (file_refusals case) ≡ None
+        IsSpaceOf store.old (base_here request.now) case → first_of (file_refusals case) ≡ None
         → getting.MayEnd case result }
     ensures same { store.new ≡ store.old }
     ensures keeps { Keeps B.tells (B.seen blocks.old) (B.seen blocks.new) }
     ensures cause { HasReplyCause (B.faults blocks.old) (B.faults blocks.new) (reply_of result) }
 {
-    let case = file.case(unit, request, store.free_areas(), store.used(), None, 0);
-    sought(
-        alloc,
-        blocks,
-        store,
-        file.catalog(),
-        &case,
-        base_of(request),
-    )
+    let base = base_of(request);
+    let areas = store.areas_of(base);
+    let case = file.case(unit, request, store.free_areas(), store.used(), None, areas);
+    sought(alloc, blocks, store, file.catalog(), &case, base)
 }
 
 impl<B: Blocks, P: Part> Volume<B, P> {

@@ -18,6 +18,7 @@ mod putting;
 mod putting_events;
 mod refusing;
 mod searching;
+mod staging;
 mod standing;
 mod volume;
 mod weighing;

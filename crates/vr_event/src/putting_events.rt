@@ -27,13 +27,14 @@ ghost use Rattle.vr_event.specs.declared.act.Act.TheVariants as acts;
 
 use crate::act::Act;
 use crate::putting::{PutNo, put_at_place};
+use crate::staging::{area_taken, splits_interval};
 use crate::volume::Volume;
 use crate::weighing::{Weighed, base_of, new_record, slice_of, weigh};
 use std::alloc::Global;
 use vr_space::Part;
 use vr_types::{
     Blocks, Bytes, DeviceFault, LockNames, PartNo, Place, Refusal, Reply, Request, SharedRequest,
-    StageKind, Unit,
+    Unit,
 };
 
 impl<B: Blocks, P: Part> Volume<B, P> {
@@ -84,8 +85,9 @@ impl<B: Blocks, P: Part> Volume<B, P> {
         )
     }
 
-    /// Does the stage of a split that comes before a change, and enters that an interval was split in
-    /// two where it was. A fault of a read refuses the change, and one of a write stops the volume.
+    /// Does the stage that comes before a change, and enters that an interval was split in two, or that
+    /// the part took an area, where it was. A fault of a read refuses the change, and one of a write
+    /// stops the volume.
     fn do_stage(
         &mut self,
         unit: Unit,
@@ -118,7 +120,10 @@ impl<B: Blocks, P: Part> Volume<B, P> {
             → Guards (B.seen self.old.blocks) (B.seen self.new.blocks)
             (RecoversTo self.old.store.log.geometry self.old.number
             (state_now opening self.old.file) []) }
-        ensures again { (opening : State) → putting.IfAgain result
+        ensures catalog { self.new.file.catalog ≡ self.old.file.catalog }
+        // A keyed part takes no area, so the state stays.
+        ensures again { IsTrue B.tells → putting.IsKeyedIn self.old.store.parts part.0
+            → (opening : State) → putting.IfAgain result
             ((self.new.file.geometry ≡ self.old.file.geometry)
             × (state_now opening self.new.file ≡ state_now opening self.old.file)) }
         // Where it is entered, it is not for want of areas.
@@ -127,12 +132,14 @@ impl<B: Blocks, P: Part> Volume<B, P> {
         ensures number { self.new.number ≡ self.old.number }
         ensures generation { self.new.store.log.generation ≡ self.old.store.log.generation }
     {
+        let least = self.store.least_free();
+        let free = self.store.free_areas();
         match self.store.advance(&mut self.blocks, part, place, length) {
-            Ok(StageKind::CiSwitch) => {
-                self.file.split(unit, part, after);
+            Ok(kind) => {
+                let taken = area_taken(least, free, self.store.free_areas());
+                self.enter_stage(unit, part, splits_interval(kind), taken, after);
                 Act::Again(request)
             }
-            Ok(_) => Act::Again(request),
             Err(DeviceFault::Read) => {
                 self.file
                     .refuse(unit, line, request, Refusal::ReadFault, after);
@@ -217,7 +224,7 @@ impl<B: Blocks, P: Part> Volume<B, P> {
     /// has not stopped. The record at its place is looked at; it is refused by what the record is and
     /// by locks in the way, where the log is full (`LogFull`, before any split), where its part lacks
     /// room and has no area to take (`NoSpace`, with the part's numbers), for a read that fails
-    /// (`ReadFault`), and where memory runs out (`Memory`). A stage of a split that its place needs
+    /// (`ReadFault`), and where memory runs out (`Memory`). A stage of its part that its place needs
     /// is done, and it is to be asked again (`Again`). Else its before-image is kept, logged and
     /// forced, its lock is taken, and the record is set (`Done`). A fault of a write stops the
     /// volume. There is room for two events.

@@ -26,7 +26,7 @@ use vr_catalog::Catalog;
 use vr_space::{Part, Whence};
 use vr_store::{LookNo, Store};
 use vr_types::{
-    Blocks, Find, Integrity, OutOfMemory, PartNo, Place, Request, Stand, Unit, empty_place,
+    Blocks, Find, Integrity, Kind, OutOfMemory, PartNo, Place, Request, Stand, Unit, empty_place,
 };
 
 /// Which record a request asks for.
@@ -98,7 +98,10 @@ fn place_room(catalog: &Catalog, part: PartNo) -> u32
 {
     match catalog.definition_of(part) {
         None => 0,
-        Some(definition) => definition.key_length as u32,
+        Some(definition) => match definition.kind {
+            Kind::Keyed => definition.key_length as u32,
+            Kind::Entry | Kind::Relative => 4,
+        },
     }
 }
 

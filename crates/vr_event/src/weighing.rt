@@ -3,19 +3,15 @@ ghost use Rattle.std.specs.Prelude.{◌≡◌, ◌≢◌, ◌⊎◌, ◌==◌, �
 ghost use Rattle.std.specs.Prelude.{None, Some, false, length, length as count, option_and_then};
 ghost use Rattle.std.specs.Option.{ForSome, option_copied};
 ghost use Rattle.vr_types.specs.Blocks.{Keeps};
-ghost use Rattle.vr_types.specs.Space.{free_count};
-ghost use Rattle.vr_types.specs.declared.reply.Refusal.TheVariants.{Memory as NoMemory, NoSpace};
+ghost use Rattle.vr_types.specs.declared.reply.Refusal.TheVariants.{Memory as NoMemory};
 ghost use Rattle.vr_history.specs.Case as cases;
 ghost use Rattle.vr_history.specs.Change as changes;
 ghost use Rattle.vr_history.specs.Names as locks;
-ghost use Rattle.vr_history.specs.Opened as files;
 ghost use Rattle.vr_history.specs.Replies as replies;
-ghost use Rattle.vr_history.specs.RefusedRoom.{free_areas};
 ghost use Rattle.vr_history.specs.State.{State};
 ghost use Rattle.vr_history.specs.Step.{IsOfUnit, case_of, stand_refused};
 ghost use Rattle.vr_answer.specs.Here.{base_here};
 ghost use Rattle.vr_answer.specs.InHand.{InEach, IsLookedAt};
-ghost use Rattle.vr_answer.specs.Scope.{AreKeyedClusters};
 ghost use Rattle.vr_answer.specs.Tried.{file_refusals};
 ghost use Rattle.vr_record_file.specs.Now.{IsStateOf, state_now};
 ghost use Rattle.vr_event.specs.Cause.{HasReplyCause, is_fault as faults, is_faulted};
@@ -23,6 +19,7 @@ ghost use Rattle.vr_event.specs.Lacking as lacking;
 ghost use Rattle.vr_event.specs.Looking.{InEachLogged, InEachWith};
 ghost use Rattle.vr_store.specs.Parts.{OnlyMet};
 ghost use Rattle.vr_event.specs.Putting as putting;
+ghost use Rattle.vr_event.specs.Volume.{AreServedClusters};
 ghost use Rattle.vr_store.specs.Room.{IsRoomAt};
 ghost use Rattle.vr_types.specs.Image.{Image};
 ghost use Rattle.vr_store.specs.Store.{IsSet, IsStored, PartNow, Stands, StoreNow, part_among};
@@ -34,7 +31,6 @@ use std::alloc::Global;
 use vr_answer::{
     Case, Looked, done, file_of, lock_names, log_full, place_changed, refused_by_record,
 };
-use vr_catalog::Catalog;
 use vr_record_file::RecordFile;
 use vr_space::{Part, Room};
 use vr_store::{LookNo, Store};
@@ -152,17 +148,15 @@ fn refused_in_memory(
     live: bool,
 ) -> Result<Option<Refusal>, OutOfMemory>
     requires short { ForSome (option_copied present) (λ bytes. length bytes < 2 ^ 32) }
-    requires keyed { AreKeyedClusters case.now.catalog.now }
     ensures value { IfOk result (λ refused. InEachLogged case.now (option_copied present.entry)
         logged live (λ whole. putting.IsChange whole.request
         → putting.IsRefusedBy whole refused)) }
     // and the refusal moves no file
     ensures stays { IfOk result (λ refused. putting.IsChange case.now.request.now
         → option_and_then (stand_refused case.now.request.now) refused ≡ None) }
-    // and none is for want of areas
+    // and it is for want of areas only where the state says so
     ensures lacks { IfOk result (λ refused. InEachLogged case.now (option_copied present.entry)
-        logged live (λ whole. putting.IsChange whole.request
-        → replies.first_of (file_refusals whole) ≡ None → lacking.AreElse refused)) }
+        logged live (λ whole. putting.IsChange whole.request → lacking.AreWanting whole refused)) }
 {
     let looked = changed_at(case, present);
     match refused_by_record(alloc, case, looked)? {
@@ -228,8 +222,7 @@ fn crowded(
     place: Place,
     old: Option<Bytes>,
 ) -> Weighed
-    requires { AreKeyedClusters case.now.catalog.now }
-    ensures may { InEachWith case.now old (λ whole. NoSpace need free ≡ replies.lacks_area
+    ensures may { InEachWith case.now old (λ whole. putting.LacksArea whole need free
         → putting.IsReadyAt whole place old → putting.MayWeigh whole result) }
     ensures opens { (store : StoreNow) (image : Image) (part : ℕ)
         → putting.HasRoomAt store image part place None
@@ -268,8 +261,8 @@ fn weigh_room<B: Blocks, P: Part>(
     requires set { IsSet store.old (B.seen blocks.old) }
     requires stands { IsTrue B.tells → Stands store.old (B.seen blocks.old) }
     requires at { putting.HasPlace store.old.parts part.0 place }
-    requires keyed { AreKeyedClusters case.now.catalog.now }
-    requires keyed_part { putting.IsKeyedIn store.old.parts part.0 }
+    requires laid { putting.AreLaidBy case.now.geometry case.now.catalog.now store.old.parts }
+    requires base { part.0 ≡ base_here case.now.request.now }
     requires size { putting.FitsLength store.old.parts part.0 length }
     requires new_fits { putting.FitsItem store.old.parts part.0 place
         (cases.new_record case.now.request.now) }
@@ -277,7 +270,8 @@ fn weigh_room<B: Blocks, P: Part>(
     requires long { IfSome (cases.new_record case.now.request.now)
         (λ bytes. length ≡ count bytes) }
     ensures may { IsTrue B.tells → InEachWith case.now old (λ whole.
-        putting.IsReadyAt whole place old → putting.MayWeigh whole result) }
+        putting.IsSpaceOf store.old part.0 whole → putting.IsReadyAt whole place old
+        → putting.MayWeigh whole result) }
     ensures lacks { IsTrue B.tells → lacking.IfLacks (lacking.LacksRoomIn store.old
         (B.seen blocks.old).cur part.0 place case.now.request.now) result }
     ensures opens { IsTrue B.tells → putting.IsOpenTo store.new (B.seen blocks.new).cur part.0
@@ -316,8 +310,8 @@ fn weigh_record<B: Blocks, P: Part>(
     requires set { IsSet store.old (B.seen blocks.old) }
     requires stands { IsTrue B.tells → Stands store.old (B.seen blocks.old) }
     requires at { putting.HasPlace store.old.parts part.0 place }
-    requires keyed { AreKeyedClusters case.now.catalog.now }
-    requires keyed_part { putting.IsKeyedIn store.old.parts part.0 }
+    requires laid { putting.AreLaidBy case.now.geometry case.now.catalog.now store.old.parts }
+    requires base { part.0 ≡ base_here case.now.request.now }
     requires change { putting.IsChange case.now.request.now }
     requires size { IfSome length (λ n. putting.FitsLength store.old.parts part.0 n) }
     requires new_fits { IfSome length (λ n. putting.FitsItem store.old.parts part.0 place
@@ -327,10 +321,11 @@ fn weigh_record<B: Blocks, P: Part>(
         (λ bytes. n ≡ count bytes)) }
     ensures may { IsTrue B.tells → (volume : ℕ) → InEachWith case.now old (λ whole.
         IsStored volume store.old whole.state (B.seen blocks.old)
-        → putting.IsAskedAt whole part.0 place → putting.MayWeigh whole result) }
+        → putting.IsSpaceOf store.old part.0 whole → putting.IsAskedAt whole part.0 place
+        → putting.MayWeigh whole result) }
     ensures lacks { IsTrue B.tells → (volume : ℕ) → InEachWith case.now old (λ whole.
         IsStored volume store.old whole.state (B.seen blocks.old)
-        → putting.IsAskedAt whole part.0 place
+        → putting.IsSpaceOf store.old part.0 whole → putting.IsAskedAt whole part.0 place
         → replies.first_of (file_refusals whole) ≡ None
         → lacking.IfLacks (lacking.LacksRoomIn store.old (B.seen blocks.old).cur part.0 place
         case.now.request.now) result) }
@@ -364,7 +359,6 @@ fn weigh_looked<B: Blocks, P: Part>(
     alloc: Global,
     blocks: &mut B,
     store: &mut Store<P>,
-    catalog: &Catalog,
     case: &Case,
     part: PartNo,
     place: Place,
@@ -373,16 +367,16 @@ fn weigh_looked<B: Blocks, P: Part>(
     requires set { IsSet store.old (B.seen blocks.old) }
     requires stands { IsTrue B.tells → Stands store.old (B.seen blocks.old) }
     requires at { putting.HasPlace store.old.parts part.0 place }
-    requires keyed { AreKeyedClusters case.now.catalog.now }
-    requires keyed_laid { AreKeyedClusters catalog.now }
-    requires laid { putting.AreLaidBy case.now.geometry catalog.now store.old.parts }
+    requires laid { putting.AreLaidBy case.now.geometry case.now.catalog.now store.old.parts }
+    requires base { part.0 ≡ base_here case.now.request.now }
     requires change { putting.IsChange case.now.request.now }
     ensures may { IsTrue B.tells → (volume : ℕ) → InEachWith case.now old (λ whole.
         IsStored volume store.old whole.state (B.seen blocks.old)
-        → putting.IsAskedAt whole part.0 place → putting.MayWeigh whole result) }
+        → putting.IsSpaceOf store.old part.0 whole → putting.IsAskedAt whole part.0 place
+        → putting.MayWeigh whole result) }
     ensures lacks { IsTrue B.tells → (volume : ℕ) → InEachWith case.now old (λ whole.
         IsStored volume store.old whole.state (B.seen blocks.old)
-        → putting.IsAskedAt whole part.0 place
+        → putting.IsSpaceOf store.old part.0 whole → putting.IsAskedAt whole part.0 place
         → replies.first_of (file_refusals whole) ≡ None
         → lacking.IfLacks (lacking.LacksRoomIn store.old (B.seen blocks.old).cur part.0 place
         case.now.request.now) result) }
@@ -399,11 +393,11 @@ fn weigh_looked<B: Blocks, P: Part>(
     ensures cause { HasReplyCause (B.faults blocks.old) (B.faults blocks.new)
         (putting.reply_to result) }
 {
-    if !fits_item(catalog, part, &place, slice_of(&old)) {
+    if !fits_item(case.catalog, part, &place, slice_of(&old)) {
         return Weighed::Refused(Refusal::Memory);
     }
     let new = new_record(case.request);
-    let length = length_asked(catalog, part, &place, new, slice_of(&old));
+    let length = length_asked(case.catalog, part, &place, new, slice_of(&old));
     weigh_record(alloc, blocks, store, case, part, place, old, length)
 }
 
@@ -412,7 +406,6 @@ fn weigh_at<B: Blocks, P: Part>(
     alloc: Global,
     blocks: &mut B,
     store: &mut Store<P>,
-    catalog: &Catalog,
     case: &Case,
     part: PartNo,
     place: Place,
@@ -420,16 +413,16 @@ fn weigh_at<B: Blocks, P: Part>(
     requires set { IsSet store.old (B.seen blocks.old) }
     requires stands { IsTrue B.tells → Stands store.old (B.seen blocks.old) }
     requires at { putting.HasPlace store.old.parts part.0 place }
-    requires keyed { AreKeyedClusters case.now.catalog.now }
-    requires keyed_laid { AreKeyedClusters catalog.now }
-    requires laid { putting.AreLaidBy case.now.geometry catalog.now store.old.parts }
+    requires laid { putting.AreLaidBy case.now.geometry case.now.catalog.now store.old.parts }
+    requires base { part.0 ≡ base_here case.now.request.now }
     requires change { putting.IsChange case.now.request.now }
     ensures may { IsTrue B.tells → (volume : ℕ) → InEach case.now (λ whole.
         IsStored volume store.old whole.state (B.seen blocks.old)
-        → putting.IsAskedAt whole part.0 place → putting.MayWeigh whole result) }
+        → putting.IsSpaceOf store.old part.0 whole → putting.IsAskedAt whole part.0 place
+        → putting.MayWeigh whole result) }
     ensures lacks { IsTrue B.tells → (volume : ℕ) → InEach case.now (λ whole.
         IsStored volume store.old whole.state (B.seen blocks.old)
-        → putting.IsAskedAt whole part.0 place
+        → putting.IsSpaceOf store.old part.0 whole → putting.IsAskedAt whole part.0 place
         → replies.first_of (file_refusals whole) ≡ None
         → lacking.IfLacks (lacking.LacksRoomIn store.old (B.seen blocks.old).cur part.0 place
         case.now.request.now) result) }
@@ -448,7 +441,7 @@ fn weigh_at<B: Blocks, P: Part>(
 {
     match store.look(alloc, blocks, part, &place) {
         Err(no) => Weighed::Refused(refusal_of(no)),
-        Ok(old) => weigh_looked(alloc, blocks, store, catalog, case, part, place, old),
+        Ok(old) => weigh_looked(alloc, blocks, store, case, part, place, old),
     }
 }
 
@@ -490,19 +483,19 @@ pub(crate) fn weigh<'a, B: Blocks, P: Part>(
     requires set { IsSet store.old (B.seen blocks.old) }
     requires stands { IsTrue B.tells → Stands store.old (B.seen blocks.old) }
     requires laid { putting.AreLaidBy file.now.geometry file.now.catalog store.old.parts }
-    requires keyed { AreKeyedClusters file.now.catalog }
+    requires served { AreServedClusters file.now.catalog }
     requires change { putting.IsChange request.now }
     requires base { part.0 ≡ base_here request.now }
     ensures may { IsTrue B.tells → (volume : ℕ) (opening : State) → IsStateOf opening file.now
         → file.now.stopped ≡ None
         → IsStored volume store.old (state_now opening file.now) (B.seen blocks.old)
         → let case = case_of file.now.geometry (state_now opening file.now) unit request.now in
-        free_count store.old.space ≡ free_areas case → putting.MayWeigh case result }
+        putting.IsSpaceOf store.old part.0 case → putting.MayWeigh case result }
     ensures lacks { IsTrue B.tells → (volume : ℕ) (opening : State) → IsStateOf opening file.now
         → file.now.stopped ≡ None
         → IsStored volume store.old (state_now opening file.now) (B.seen blocks.old)
         → let case = case_of file.now.geometry (state_now opening file.now) unit request.now in
-        free_count store.old.space ≡ free_areas case
+        putting.IsSpaceOf store.old part.0 case
         → replies.first_of (file_refusals case) ≡ None → (place : List ℕ)
         → changes.place_changed case ≡ Some place
         → lacking.IfLacks (lacking.LacksRoomIn store.old (B.seen blocks.old).cur part.0 place
@@ -520,12 +513,13 @@ pub(crate) fn weigh<'a, B: Blocks, P: Part>(
     ensures cause { HasReplyCause (B.faults blocks.old) (B.faults blocks.new)
         (putting.reply_to result) }
 {
-    let case = file.case(unit, request, store.free_areas(), store.used(), None, 0);
+    let areas = store.areas_of(part);
+    let case = file.case(unit, request, store.free_areas(), store.used(), None, areas);
     match place_asked(alloc, &case) {
         None => Weighed::Refused(Refusal::Memory),
         Some(place) => {
             if may_change(store, file, unit, part, &place) {
-                weigh_at(alloc, blocks, store, file.catalog(), &case, part, place)
+                weigh_at(alloc, blocks, store, &case, part, place)
             } else {
                 Weighed::Refused(Refusal::Memory)
             }

@@ -1,4 +1,5 @@
 pub mod Tops
+pub mod NewParts
 pub mod Records
 pub mod OneInterval
 pub mod Steps

@@ -27,7 +27,8 @@ use Rattle.vr_types.specs.declared.unit.Kind.TheVariants as kinds
 use Rattle.vr_catalog.specs.Catalog.{cluster_definition, definition_in, entry_named}
 use Rattle.vr_catalog.specs.Entry.{are_keys_of, is_cluster, is_entry, is_name}
 use Rattle.vr_catalog.specs.Entry.{is_of_kind}
-use Rattle.vr_catalog.specs.Limits.{ends_past, intervals_used, is_bad_cluster}
+use Rattle.vr_catalog.specs.Limits.{are_bad_sizes, ends_past, intervals_used, is_bad_cluster}
+use Rattle.vr_catalog.specs.Limits.{is_past_limit}
 use Rattle.vr_catalog.specs.Record.{entry_in, entry_kind_byte, entry_of, flag_byte, kind_byte}
 use Rattle.vr_catalog.specs.Record.{name_fields, padded, part_fields, space_fields, spelling}
 use Rattle.vr_catalog.specs.Record.{text_at}
@@ -39,15 +40,15 @@ use Rattle.vr_catalog.proofs.EntryRead.{entry_read}
 use Rattle.vr_catalog.proofs.NameLemmas.{name_is_dataset}
 use Rattle.vr_catalog.proofs.RecordLemmas.{length-padded}
 use Rattle.vr_space.specs.Keyed.{key_of}
-use Rattle.vr_space.specs.Part.{KeyedShape}
 use Rattle.vr_split.proofs.Heads.{most-place}
 use Rattle.vr_volume.specs.CatalogRules.{IsEntryOf, has_intervals_by, has_sizes_by, is_over_by}
 use Rattle.vr_volume.specs.CatalogRules.{related_in}
-use Rattle.vr_volume.specs.Laid.{shape_by_kind, shape_from, shape_of}
+use Rattle.vr_volume.specs.Laid.{shape_from, shape_of}
 use Rattle.vr_format.specs.Fit.{AreTaken, IsNext, IsTaken, in_area}
 use Rattle.vr_format.specs.Formatted.{place_of}
 use Rattle.vr_format.specs.InOrder.{AreElsewhere}
-use Rattle.vr_format.specs.Planned.{IsCluster, catalog_keyed, cluster_keyed}
+use Rattle.vr_format.specs.Planned.{IsCluster, IsClusterOf, MayBeKeyed, catalog_keyed}
+use Rattle.vr_format.specs.Planned.{cluster_shape}
 use Rattle.vr_format.proofs.Taken.{there-in-take}
 
 -- A cluster of the list.
@@ -200,6 +201,29 @@ used-enough geometry entry base area kind organised laid sizes =
     (subst (λ (a : Option AreaNo). (is_none a
     || not (nat_lt (intervals_used geometry entry.key_length) 2)) ≡ true) laid intervals)
 
+-- a cluster has records of some length
+above-none : (average maximum : ℕ)
+    → not (nat_lt maximum average || average == 0 || nat_lt 32760 maximum) ≡ true → 0 < maximum
+above-none average maximum is = grind (arith, nat_tests)
+
+first-of-both : (a b : Bool) → not (a || b) ≡ true → not a ≡ true
+first-of-both true b is = is
+first-of-both false b is = refl
+
+some-records : (geometry : Geometry) (entry : CatEntry) (base : Option CatEntry)
+    → entry.entry_kind ≡ Cluster
+    → IsTrue (has_sizes_by entry.entry_kind geometry entry base) → 0 < entry.maximum
+some-records geometry entry base kind sizes =
+    let past : Bool = ends_past entry.key_length entry.key_offset entry.maximum in
+    let bad : Bool = is_bad_cluster geometry (definition_in entry) entry.average in
+    let few : Bool = has_intervals_by geometry entry entry.kind in
+    let cluster : (not past && (not bad && few)) ≡ true =
+    subst (λ (k : EntryKind). IsTrue (has_sizes_by k geometry entry base)) kind sizes in
+    above-none entry.average entry.maximum
+    (first-of-both (are_bad_sizes entry.average entry.maximum)
+    (is_past_limit (definition_in entry).kind geometry (definition_in entry) entry.average)
+    (and-first (not bad) few (and-second (not past) (not bad && few) cluster)))
+
 of-kind : (entry : CatEntry) → IsTrue (is_entry entry)
     → is_of_kind entry.entry_kind entry ≡ true
 unfolding is_entry
@@ -290,38 +314,51 @@ place-within geometry entry is =
 -- ---- the part of a cluster
 
 pub shape-is : (geometry : Geometry) (entry : CatEntry) (area : ℕ) → entry.entry_kind ≡ Cluster
-    → entry.kind ≡ Some kinds.Keyed → entry.first_area ≡ Some (record { 0 = area })
-    → shape_of geometry entry ≡ Some (KeyedShape (cluster_keyed geometry area entry))
-shape-is geometry entry area kind organised laid =
+    → entry.first_area ≡ Some (record { 0 = area })
+    → shape_of geometry entry ≡ cluster_shape geometry area entry
+shape-is geometry entry area kind laid =
     ap (λ (k : EntryKind). option_and_then
     (shape_from geometry entry.part.0 entry.first_area) (cluster_definition k entry)) kind
     ∙ ap (λ (a : Option AreaNo). shape_from geometry entry.part.0 a (definition_in entry)) laid
-    ∙ ap (λ (k : Option Kind). shape_by_kind geometry entry.part.0 area (definition_in entry)
-    (unwrap_or k kinds.Keyed)) organised
 
 module _ (geometry : Geometry) (allowed : IsAllowed geometry) (clusters : List CatEntry)
     (cluster : CatEntry) (member : IsMember geometry clusters cluster) where
   pub number-is : cluster.part.0 ≡ member.at + 1
   number-is = omega (arith, member.next.number, member.count)
 
-  pub is-cluster : IsCluster geometry cluster
-  is-cluster = record {
+  may-be-keyed : cluster.kind ≡ Some kinds.Keyed → MayBeKeyed geometry cluster
+  may-be-keyed organised = record {
     head = record {
       size = allowed.size;
-      key = key-some cluster member.entry_is member.next.kind member.next.organised;
+      key = key-some cluster member.entry_is member.next.kind organised;
       used = omega (
         arith,
         used-enough geometry cluster (related_in (take member.at clusters) cluster)
-            (record { 0 = length (take member.at clusters) + 1 }) member.next.kind
-            member.next.organised member.next.laid member.next.rules.sizes,
+            (record { 0 = length (take member.at clusters) + 1 }) member.next.kind organised
+            member.next.laid member.next.rules.sizes,
       );
       number = omega (arith, member.next.number, member.next.room, allowed.size.most);
     };
     most = member.next.short;
   }
 
-  pub member-shape : shape_of geometry cluster
-      ≡ Some (KeyedShape (cluster_keyed geometry (member.at + 1) cluster))
-  member-shape = shape-is geometry cluster (member.at + 1) member.next.kind member.next.organised
+  organised-as : IsClusterOf geometry cluster (definition_in cluster).kind
+  organised-as = ⊎_elim
+      (λ keyed. subst (λ (k : Option Kind). IsClusterOf geometry cluster (unwrap_or k kinds.Keyed))
+      (sym keyed) (may-be-keyed keyed))
+      (λ relative. subst
+      (λ (k : Option Kind). IsClusterOf geometry cluster (unwrap_or k kinds.Keyed)) (sym relative)
+      (record {
+        some = some-records geometry cluster (related_in (take member.at clusters) cluster)
+            member.next.kind member.next.rules.sizes;
+        most = member.next.short;
+      }))
+      member.next.organised
+
+  pub is-cluster : IsCluster geometry cluster
+  is-cluster = record { kind = member.next.kind; organised = organised-as }
+
+  pub member-shape : shape_of geometry cluster ≡ cluster_shape geometry (member.at + 1) cluster
+  member-shape = shape-is geometry cluster (member.at + 1) member.next.kind
       (member.next.laid
       ∙ ap (λ (n : ℕ). Some (record { 0 = n + 1 })) member.count)

@@ -33,8 +33,7 @@ use Rattle.vr_attach.specs.Laid.{AreApart}
 use Rattle.vr_mount.proofs.CallerLemmas.{area-before, two-areas}
 use Rattle.vr_format.specs.Formatted.{catalog_of, first_entries, first_entry}
 use Rattle.vr_format.specs.Planned.{ArePlanned, HasHead, IsCluster, IsOneOf, MayStand}
-use Rattle.vr_format.specs.Planned.{catalog_keyed}
-use Rattle.vr_format.specs.Planned.{cluster_keyed}
+use Rattle.vr_format.specs.Planned.{catalog_keyed, cluster_keyed, cluster_shape}
 
 -- ---- the entry
 
@@ -180,7 +179,7 @@ module _ (geometry : Geometry) (allowed : IsAllowed geometry) where
           at = 0;
           entry = first_entry;
           there = refl;
-          shape_is = sym (shapes-same first-shape shape there);
+          shape_is = there;
         },
       )
 
@@ -196,9 +195,9 @@ module _ (geometry : Geometry) (allowed : IsAllowed geometry) where
   only-one shape one = by one.at one.there one.shape_is
     where
       by : (at : ℕ) → slice_get (first_entry ∷ []) at ≡ Some one.entry
-          → shape ≡ KeyedShape (cluster_keyed geometry (at + 1) one.entry) → shape ≡ first-shape
-      by zero there is = is ∙ ap (λ (e : CatEntry). KeyedShape (cluster_keyed geometry 1 e))
-          (sym (entry-same first_entry one.entry there))
+          → cluster_shape geometry (at + 1) one.entry ≡ Some shape → shape ≡ first-shape
+      by zero there is = sym (shapes-same first-shape shape
+          (ap (cluster_shape geometry 1) (entry-same first_entry one.entry there) ∙ is))
         where
           entry-same : (x y : CatEntry) → Some x ≡ Some y → x ≡ y
           entry-same x y same = cc
@@ -280,9 +279,12 @@ module _ (geometry : Geometry) (allowed : IsAllowed geometry) where
 
   first-cluster : IsCluster geometry first_entry
   first-cluster = record {
-    head = has-head 1 8 (omega arith) (omega arith) (omega arith)
-        (cluster_keyed geometry 0 first_entry) refl refl refl refl;
-    most = omega (arith, block_size_least geometry.size allowed.size);
+    kind = refl;
+    organised = record {
+      head = has-head 1 8 (omega arith) (omega arith) (omega arith)
+          (cluster_keyed geometry 0 first_entry) refl refl refl refl;
+      most = omega (arith, block_size_least geometry.size allowed.size);
+    };
   }
 
   sorted-one : (place : List ℕ) → IsStrictlySortedBy place_cmp (place ∷ [])
@@ -321,7 +323,7 @@ module _ (geometry : Geometry) (allowed : IsAllowed geometry) where
     apart = first-apart;
     content = refl;
     records = first-stands;
-    keyed = All-cons (IsCluster geometry) first_entry [] first-cluster
+    served = All-cons (IsCluster geometry) first_entry [] first-cluster
         (All-nil (IsCluster geometry));
     areas = omega (arith, two-areas geometry allowed);
     laid = λ part shape some is. other part shape some (laid-by-first part shape is);
@@ -338,7 +340,7 @@ module _ (geometry : Geometry) (allowed : IsAllowed geometry) where
     apart = empty-apart;
     content = refl;
     records = none-stand (catalog_keyed geometry);
-    keyed = All-nil (IsCluster geometry);
+    served = All-nil (IsCluster geometry);
     areas = omega (arith, two-areas geometry allowed);
     laid = λ part shape some is. other part shape some (laid-in-none part shape is);
   }

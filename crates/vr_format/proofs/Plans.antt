@@ -18,7 +18,7 @@ use Rattle.std.proofs.lemmas.Map.Keys.{IsDistinct-from_apart, IsDistinct-IsPermu
 use Rattle.std.proofs.lemmas.Option.{slice_get-get_or}
 use Rattle.vr_types.specs.Content.{Ascends, Content, Placed, Standing, place_cmp, places_of, put_by}
 use Rattle.vr_types.specs.Content.{records_of, with_item}
-use Rattle.vr_types.specs.Geometry.{IsAllowed, area_count, head_block}
+use Rattle.vr_types.specs.Geometry.{IsAllowed, area_count}
 use Rattle.vr_types.specs.Image.{Image}
 use Rattle.vr_types.specs.declared.geometry.Geometry.{Geometry}
 use Rattle.vr_altkey.proofs.Items.{put_ascends}
@@ -27,7 +27,7 @@ use Rattle.vr_catalog.specs.Record.{entry_of, spelling}
 use Rattle.vr_catalog.specs.declared.entry.CatEntry.{CatEntry}
 use Rattle.vr_catalog.proofs.RecordLemmas.{length-spelling}
 use Rattle.vr_space.specs.Keyed.{key_of}
-use Rattle.vr_space.specs.Part.{InFirstArea, KeyedShape, Shape, StandsFor}
+use Rattle.vr_space.specs.Part.{InFirstArea, Shape, StandsFor}
 use Rattle.vr_space.proofs.CallerLemmas.{AllAbove, Rising, lt_from_test, rising-sorted}
 use Rattle.vr_volume.specs.CatalogRules.{IsCatalog, IsEntryOf}
 use Rattle.vr_volume.specs.Laid.{catalog_shape, shape_by, shape_in, shape_of}
@@ -36,8 +36,9 @@ use Rattle.vr_mount.proofs.CallerLemmas.{area-before, none-ascend, two-areas}
 use Rattle.vr_format.specs.Fit.{AreTaken, IsFormattedWith}
 use Rattle.vr_format.specs.Formatted.{IsFormatted, catalog_of, first_entry, place_of}
 use Rattle.vr_format.specs.InOrder.{AreInOrder, placed_entry}
-use Rattle.vr_format.specs.Planned.{ArePlanned, ArePlannedFor, IsCluster, IsOneOf, MayStand}
-use Rattle.vr_format.specs.Planned.{catalog_keyed, cluster_keyed}
+use Rattle.vr_format.specs.Planned.{ArePlanned, ArePlannedFor, InAreaAt, IsCluster, IsOneOf}
+use Rattle.vr_format.specs.Planned.{MayStand, catalog_keyed}
+use Rattle.vr_format.proofs.NewParts.{in-its-area}
 use Rattle.vr_format.proofs.Members.{IsMember, is-cluster, member-all, member-shape, next-at}
 use Rattle.vr_format.proofs.Members.{number-is, place-within, rules-any}
 
@@ -226,9 +227,7 @@ module _ (geometry : Geometry) (allowed : IsAllowed geometry)
           at = member.at;
           entry = entry;
           there = member.there;
-          shape_is = shapes-same shape
-              (KeyedShape (cluster_keyed geometry (member.at + 1) entry))
-              (sym is ∙ member-shape geometry allowed clusters entry member);
+          shape_is = sym (member-shape geometry allowed clusters entry member) ∙ is;
         };
         number = omega (
           arith,
@@ -263,19 +262,19 @@ module _ (geometry : Geometry) (allowed : IsAllowed geometry)
       (ap (λ (es : List CatEntry). shape_in geometry es part) (sym entries-are) ∙ is)
 
   -- a part is in the area of its number
-  in-its-area : (part n : ℕ) (shape : Shape) → IsLaidPart part shape → InFirstArea shape n
-      → (head_block geometry part ≤ n) × (n ≤ head_block geometry part + geometry.area)
-  in-its-area part n shape (inl catalog) inside =
-      subst (λ (p : ℕ). (head_block geometry p ≤ n) × (n ≤ head_block geometry p + geometry.area))
-      (sym catalog.0) (subst (λ (s : Shape). InFirstArea s n) catalog.1 inside)
-  in-its-area part n shape (inr laid) inside =
-      subst (λ (p : ℕ). (head_block geometry p ≤ n) × (n ≤ head_block geometry p + geometry.area))
-      (sym laid.number) (subst (λ (s : Shape). InFirstArea s n) laid.one.shape_is inside)
+  in-number : (part n : ℕ) (shape : Shape) → IsLaidPart part shape → InFirstArea shape n
+      → InAreaAt geometry part n
+  in-number part n shape (inl catalog) inside =
+      subst (λ (p : ℕ). InAreaAt geometry p n) (sym catalog.0)
+      (subst (λ (s : Shape). InFirstArea s n) catalog.1 inside)
+  in-number part n shape (inr laid) inside =
+      subst (λ (p : ℕ). InAreaAt geometry p n) (sym laid.number)
+      (in-its-area geometry (laid.one.at + 1) n laid.one.entry shape laid.one.shape_is inside)
 
   apart-is : AreApart (shape_by geometry (catalog_of ordered))
   apart-is one other here there is also differ n inside within =
-      let mine = in-its-area one n here (laid-by one here is) inside in
-      let yours = in-its-area other n there (laid-by other there also) within in
+      let mine = in-number one n here (laid-by one here is) inside in
+      let yours = in-number other n there (laid-by other there also) within in
       ⊎_elim
       (λ less. let before = area-before geometry one other less in
       absurd (omega (arith, before, mine.1, yours.0)))
@@ -333,7 +332,7 @@ module _ (geometry : Geometry) (allowed : IsAllowed geometry)
     apart = apart-is;
     content = content-is;
     records = stand-is;
-    keyed = All-weaker Member (IsCluster geometry)
+    served = All-weaker Member (IsCluster geometry)
         (λ entry member. is-cluster geometry allowed clusters entry member) clusters
         (member-all geometry entries clusters taken);
     areas = bounds.1;
@@ -372,5 +371,7 @@ formatted-with geometry number entries clusters ordered image plan formatted = r
         (λ (c : Content). StandsFor shape image (cond (nat_eq part 0) c [])) plan.same
         (formatted.laid part shape
         (ap (λ (c : Content). shape_by geometry c part) plan.same ∙ is));
+    alone = λ part shape is. formatted.alone part shape
+        (ap (λ (c : Content). shape_by geometry c part) plan.same ∙ is);
   };
 }

@@ -1,24 +1,37 @@
 -- What was formatted is safe, and recovers to its contents.
-use Rattle.std.proofs.Common.{◌≡◌, ℕ, Bool, true, false, List, []}
-use Rattle.std.proofs.Common.{refl, sym, ap, subst, ◌∙◌, Option, Some, None, inl}
-use Rattle.std.specs.Prelude.{cond, nat_eq}
+use Rattle.std.proofs.Common.{◌≡◌, ◌+◌, ◌<◌, ℕ, zero, suc, Bool, true, false, List, [], set}
+use Rattle.std.proofs.Common.{refl, sym, ap, subst, ◌∙◌, arith, Option, Some, None, inl}
+use Rattle.std.specs.Prelude.{cond, nat_eq, Contains}
+use Rattle.std.specs.List.{fold}
 use Rattle.std.proofs.lemmas.List.Elements.{All-nil, All-replicate}
 use Rattle.vr_types.specs.Content.{Ascends, Content}
 use Rattle.vr_types.specs.Fields.{AreZeros}
+use Rattle.vr_types.specs.Geometry.{area_count, head_block}
 use Rattle.vr_types.specs.Image.{Image}
+use Rattle.vr_types.specs.Space.{all_free}
 use Rattle.vr_types.specs.declared.geometry.Geometry.{Geometry}
-use Rattle.vr_space.specs.Owners.{Owners}
-use Rattle.vr_space.specs.Part.{Shape}
+use Rattle.vr_types.specs.declared.unit.PartNo.{PartNo}
+use Rattle.vr_space.specs.Part.{KeyedShape, RelativeShape, Shape, Stands}
+use Rattle.vr_space.specs.Rosters.{Numbered, areas_from, chain_of}
 use Rattle.vr_space.proofs.CallerLemmas.{stands_content}
 use Rattle.vr_catalog.specs.Catalog.{entries_in}
 use Rattle.vr_catalog.specs.declared.entry.CatEntry.{CatEntry}
+use Rattle.vr_attach.specs.Laid.{ReachesArea, shape_in}
+use Rattle.vr_attach.specs.Owning.{owner_of}
 use Rattle.vr_log.specs.Content.{Content as LogContent}
 use Rattle.vr_history.specs.State.{BeforeImage}
 use Rattle.vr_volume.specs.Laid.{catalog_shape, shape_by}
 use Rattle.vr_volume.specs.Safe.{IsImageSafe}
-use Rattle.vr_volume.specs.Volume.{CanPutBack, Recovers}
+use Rattle.vr_volume.specs.Volume.{CanPutBack, IsInside, Recovers}
 use Rattle.vr_volume.proofs.Recovering.{image_recovers}
-use Rattle.vr_mount.proofs.CallerLemmas.{OwnParts, none-ascend, part-fits, some-own}
+use Rattle.vr_mount.specs.Areas.{AreFirstOwners, AreOn, AreOwners, BeginsWith, EndsBefore}
+use Rattle.vr_mount.specs.Areas.{catalog_part, part_of}
+use Rattle.vr_mount.specs.Marks.{marked}
+use Rattle.vr_mount.specs.Numbers.{laid_area}
+use Rattle.vr_mount.proofs.Blocks.{one_area}
+use Rattle.vr_mount.proofs.Owning.{owners_made}
+use Rattle.vr_mount.proofs.Parts.{parts_told}
+use Rattle.vr_mount.proofs.CallerLemmas.{OwnParts, area-on, areas-own, none-ascend, part-fits}
 use Rattle.vr_format.specs.Formatted.{IsFormatted, catalog_of, contents_of}
 
 abbrev pub no_log : LogContent
@@ -29,6 +42,37 @@ no-image image is = cc
 
 no-shape : (shape : Shape) → Some shape ≡ None → ⊥
 no-shape shape is = cc
+
+-- ---- the first area of a part
+
+-- a part that is on blocks that the volume has begins with an area that ends there
+inside-ends : (geometry : Geometry) (shape : Shape) → IsInside geometry shape
+    → EndsBefore geometry.blocks shape
+inside-ends geometry (KeyedShape part) inside = inside.0
+inside-ends geometry (RelativeShape part) inside =
+    subst (λ (g : Geometry). head_block part.geometry part.first + part.geometry.area < g.blocks)
+    inside.1 (area-on part.geometry part.first inside.0.first)
+
+first-of-chain : (part : Numbered) (image : Image) (k : ℕ) → 0 < k
+    → Contains (areas_from part image k part.first) part.first
+first-of-chain part image zero some = absurd (omega (arith, some))
+first-of-chain part image (suc k) some = (0, omega arith, refl)
+
+-- it reaches that area
+first-reached : (geometry : Geometry) (area : ℕ) (shape : Shape) (image : Image)
+    → IsInside geometry shape → BeginsWith (head_block geometry area) shape
+    → ReachesArea geometry shape image area
+first-reached geometry area (KeyedShape part) image inside begins = begins
+first-reached geometry area (RelativeShape part) image inside begins =
+    let same : part.first ≡ area = one_area (1 + geometry.log) geometry.area part.first area
+    (head_block geometry area) (omega (arith, begun)) (omega (arith, begun)) (omega arith)
+    (omega arith) in
+    subst (λ (at : ℕ). Contains (chain_of part image) at) same
+    (first-of-chain part image (area_count part.geometry) (omega (arith, inside.0.first)))
+  where
+    begun : head_block geometry part.first ≡ head_block geometry area
+    begun = subst (λ (g : Geometry). head_block g part.first ≡ head_block geometry area) inside.1
+        begins
 
 module _ (geometry : Geometry) (number : ℕ) (entries : List CatEntry) (image : Image)
     (formatted : IsFormatted geometry number entries image) where
@@ -53,13 +97,52 @@ module _ (geometry : Geometry) (number : ℕ) (entries : List CatEntry) (image :
       (Rattle.vr_catalog.specs.Catalog.entries_in (catalog_of entries)) part))) is) ∙ none))
   others-by part false is none = refl
 
-  abbrev pub owned : (owners : Owners)
-      × OwnParts geometry (entries_in (catalog_of entries)) owners
-  owned = some-own geometry (entries_in (catalog_of entries)) formatted.apart
+  -- ---- who owns the areas
 
-  pub formatted-safe : IsImageSafe geometry number owned.0 no_log contents image
+  abbrev cataloged : List CatEntry
+  cataloged = entries_in (catalog_of entries)
+
+  stands-some : (part : ℕ) (shape : Shape) → shape_in geometry cataloged part ≡ Some shape
+      → Stands shape image
+  stands-some part shape laid = (contents part, formatted.laid part shape laid)
+
+  on-all : AreOn geometry cataloged
+  on-all part shape laid = inside-ends geometry shape (formatted.inside part shape laid)
+
+  -- each part owns its one area
+  pub owned : (owners : List (Option PartNo)) × AreOwners geometry cataloged image owners
+  owned =
+      let owners : List (Option PartNo) = fold (marked laid_area part_of)
+      (set (all_free (area_count geometry)) 0 (Some catalog_part)) cataloged in
+      let firsts : AreFirstOwners geometry cataloged owners =
+      owners_made geometry cataloged owners (parts_told cataloged formatted.catalog.parts)
+      formatted.apart on-all refl in (
+        owners,
+        record {
+          count = firsts.count;
+          owned = λ part area reached. firsts.owned part area (record {
+            shape = reached.shape;
+            laid = reached.laid;
+            begins = formatted.alone part.0 reached.shape reached.laid area reached.reaches;
+          });
+          only = λ part area is.
+              let laid = firsts.only part area is in
+              record {
+                shape = laid.shape;
+                laid = laid.laid;
+                reaches = first-reached geometry area laid.shape image
+                    (formatted.inside part.0 laid.shape laid.laid) laid.begins;
+              };
+        },
+      )
+
+  within : OwnParts geometry cataloged (owner_of geometry owned.0) image
+  within = areas-own geometry cataloged owned.0 image owned.1 stands-some
+
+  pub formatted-safe : IsImageSafe geometry number (owner_of geometry owned.0) no_log contents
+      image
   formatted-safe = record {
-    past = owned.1.past;
+    past = within.past;
     header = formatted.header;
     log_is = inl (record {
       zeros = subst AreZeros (sym formatted.log)
@@ -79,7 +162,7 @@ module _ (geometry : Geometry) (number : ℕ) (entries : List CatEntry) (image :
       has = record {
         content = contents part;
         stands = formatted.laid part shape is;
-        within = owned.1.within part shape is image;
+        within = within.within part shape is;
         each = λ place none. refl;
       };
       room = part-fits shape image (contents part) (formatted.laid part shape is);
@@ -88,4 +171,5 @@ module _ (geometry : Geometry) (number : ℕ) (entries : List CatEntry) (image :
 
   pub formatted-recovers : Recovers geometry number image contents
   formatted-recovers =
-      image_recovers geometry number owned.0 image no_log contents formatted-safe
+      image_recovers geometry number (owner_of geometry owned.0) image no_log contents
+      formatted-safe

@@ -2,31 +2,38 @@
 use Rattle.std.proofs.Common.{◌≡◌, ◌<◌, ◌≤◌, ◌+◌, ℕ, Bool, true, false, List, [], ◌∷◌, length}
 use Rattle.std.proofs.Common.{refl, sym, ap, subst, ◌∙◌, arith, Some, inl, inr, ⊎_elim}
 use Rattle.std.proofs.Common.{replicate, IsTrue, zero, suc}
-use Rattle.std.specs.Prelude.{cond, nat_eq, Result, Ok, Err, OnOk}
+use Rattle.std.specs.Prelude.{cond, nat_eq, slice_get, Result, Ok, Err, OnOk}
 use Rattle.std.proofs.Common.{true≢false}
 use Rattle.std.specs.Option.{option_and_then}
 use Rattle.std.proofs.lemmas.Bool.{cases_lt, eq-eqb}
+use Rattle.std.proofs.lemmas.Option.{get_or_from_slice_get}
 use Rattle.vr_types.specs.Content.{Content}
 use Rattle.vr_types.specs.Geometry.{IsAllowed, head_block}
 use Rattle.vr_types.specs.Blocks.{Puts}
-use Rattle.vr_types.specs.Image.{Block, block_at}
+use Rattle.vr_types.specs.Image.{Block, Image, block_at}
 use Rattle.vr_types.specs.Regions.{Touches}
 use Rattle.vr_types.specs.Seen.{Seen}
 use Rattle.vr_types.specs.declared.geometry.Geometry.{Geometry}
+use Rattle.vr_types.specs.declared.unit.Kind.{Kind}
+use Rattle.vr_types.specs.declared.unit.Kind.TheVariants as kinds
 use Rattle.vr_types.proofs.CallerLemmas.{during-weaken}
 use Rattle.vr_types.proofs.CallerLemmas.{puts-touches}
 use Rattle.vr_catalog.specs.declared.entry.CatEntry.{CatEntry}
 use Rattle.vr_space.specs.Keyed.{InArea, Keyed}
 use Rattle.vr_space.specs.Part.{KeyedShape, Shape, StandsFor}
+use Rattle.vr_space.specs.Rosters.{Numbered, roster_block}
+use Rattle.vr_seqset.specs.Roster.{IsRoster}
 use Rattle.vr_volume.specs.Header.{header_block}
-use Rattle.vr_catalog.specs.Catalog.{entries_in, entry_with_part}
+use Rattle.vr_catalog.specs.Catalog.{definition_in, entries_in, entry_with_part}
 use Rattle.vr_volume.specs.Laid.{catalog_shape, shape_by, shape_of}
 use Rattle.vr_volume.specs.Volume.{IsInside}
 use Rattle.vr_mount.specs.Touched.{Anything}
 use Rattle.vr_mount.proofs.CallerLemmas.{area-before, area-on, keyed-same, two-areas}
-use Rattle.vr_format.specs.Formatted.{IsFormatted, IsWritten, catalog_of}
-use Rattle.vr_format.specs.Planned.{AreEmpty, ArePlanned, InClusters, IsOneOf, catalog_keyed}
-use Rattle.vr_format.specs.Planned.{cluster_keyed, content_of}
+use Rattle.vr_format.specs.Formatted.{HasOneArea, IsFormatted, IsWritten, catalog_of}
+use Rattle.vr_format.specs.Planned.{AreNew, ArePlanned, InAreaAt, InClusters, IsCluster, IsNew}
+use Rattle.vr_format.specs.Planned.{IsNewOf, IsOneOf, catalog_keyed, cluster_keyed}
+use Rattle.vr_format.specs.Planned.{cluster_numbered, content_of, first_roster}
+use Rattle.vr_format.proofs.NewParts.{IsMade, new-made}
 
 -- what puts into some blocks puts into more
 pub touches-more : (less more : ℕ → Type 0) (old new : Seen) → ((n : ℕ) → less n → more n)
@@ -71,10 +78,9 @@ part-stays part region old new content apart call =
 -- ---- clusters
 
 -- the area of a cluster is one of those of the clusters
-pub cluster-inside : (geometry : Geometry) (clusters at n : ℕ) (entry : CatEntry) → at < clusters
-    → InArea (cluster_keyed geometry (at + 1) entry) n
-    → InClusters geometry clusters n
-cluster-inside geometry clusters at n entry below here =
+pub cluster-inside : (geometry : Geometry) (clusters at n : ℕ) → at < clusters
+    → InAreaAt geometry (at + 1) n → InClusters geometry clusters n
+cluster-inside geometry clusters at n below here =
     let last = area-before geometry (at + 1) (clusters + 1) (omega (arith, below)) in
     ⊎_elim
     (λ (later : 0 < at). let first = area-before geometry 1 (at + 1) (omega (arith, later)) in
@@ -83,33 +89,45 @@ cluster-inside geometry clusters at n entry below here =
     (subst (λ (k : ℕ). head_block geometry (k + 1) ≤ n) same here.0, omega (arith, here.1, last)))
     (cases_lt 0 at)
 
--- two of them have no common block
-pub clusters-apart : (geometry : Geometry) (one other n : ℕ) (here there : CatEntry) → one < other
-    → InArea (cluster_keyed geometry one here) n
-    → InArea (cluster_keyed geometry other there) n → ⊥
-clusters-apart geometry one other n here there less inside also =
+-- two areas have no common block
+areas-apart : (geometry : Geometry) (one other n : ℕ) → one < other
+    → InAreaAt geometry one n → InAreaAt geometry other n → ⊥
+areas-apart geometry one other n less inside also =
     let before = area-before geometry one other less in
     absurd (omega (arith, before, inside.1, also.0))
 
+-- a cluster that isn't written stays new
+new-stays : (geometry : Geometry) (area : ℕ) (entry : CatEntry) (kind : Kind) (old new : Image)
+    → ((n : ℕ) → InAreaAt geometry area n → block_at new n ≡ block_at old n)
+    → IsNewOf geometry area entry old kind → IsNewOf geometry area entry new kind
+new-stays geometry area entry kinds.Keyed old new same is =
+    keyed-same (cluster_keyed geometry area entry) old new same [] is
+new-stays geometry area entry kinds.Entry old new same is = is
+new-stays geometry area entry kinds.Relative old new same is =
+    let part : Numbered = cluster_numbered geometry area entry in
+    let top : block_at new (roster_block part area) ≡ block_at old (roster_block part area) =
+    same (roster_block part area) (omega arith, omega arith) in
+    record {
+      roster = subst (λ (block : Block). IsRoster geometry.area block (first_roster part)) (sym top)
+          is.roster;
+      size = ap (λ (block : Block). length block) top ∙ is.size;
+    }
+
 -- one cluster more
-pub empty-more : (geometry : Geometry) (clusters : List CatEntry) (n : ℕ) (entry : CatEntry)
-    (old new : Seen) → Rattle.std.specs.Prelude.slice_get clusters n ≡ Some entry
-    → AreEmpty geometry clusters n old.cur
-    → Touches (InArea (cluster_keyed geometry (n + 1) entry)) Anything old new
-    → StandsFor (KeyedShape (cluster_keyed geometry (n + 1) entry)) new.cur []
-    → AreEmpty geometry clusters (n + 1) new.cur
-empty-more geometry clusters n entry old new is so_far call stands at other below there =
+pub new-more : (geometry : Geometry) (clusters : List CatEntry) (n : ℕ) (entry : CatEntry)
+    (old new : Seen) → slice_get clusters n ≡ Some entry → AreNew geometry clusters n old.cur
+    → Touches (InAreaAt geometry (n + 1)) Anything old new
+    → IsNew geometry (n + 1) entry new.cur → AreNew geometry clusters (n + 1) new.cur
+new-more geometry clusters n entry old new is so_far call made at other below there =
     ⊎_elim
-    (λ (before : at < n). part-stays (cluster_keyed geometry (at + 1) other) _ old new
-    [] (λ m here also. clusters-apart geometry (at + 1) (n + 1) m other entry
-    (omega (arith, before)) here also) call (so_far at other before there))
+    (λ (before : at < n). new-stays geometry (at + 1) other (definition_in other).kind old.cur
+    new.cur (λ m here. call.content m (λ also. areas-apart geometry (at + 1) (n + 1) m
+    (omega (arith, before)) here also)) (so_far at other before there))
     (λ (last : n ≤ at). let same : at ≡ n = omega (arith, last, below) in
     let entries : other ≡ entry = some-same other entry (sym there
-    ∙ ap (λ (k : ℕ). Rattle.std.specs.Prelude.slice_get clusters k) same ∙ is) in
-    subst (λ (e : CatEntry). StandsFor (KeyedShape (cluster_keyed geometry (at + 1) e)) new.cur [])
-    (sym entries)
-    (subst (λ (k : ℕ). StandsFor (KeyedShape (cluster_keyed geometry (k + 1) entry)) new.cur [])
-    (sym same) stands))
+    ∙ ap (λ (k : ℕ). slice_get clusters k) same ∙ is) in
+    subst (λ (e : CatEntry). IsNew geometry (at + 1) e new.cur) (sym entries)
+    (subst (λ (k : ℕ). IsNew geometry (k + 1) entry new.cur) (sym same) made))
     (cases_lt at n)
   where
     some-same : (x y : CatEntry) → Some x ≡ Some y → x ≡ y
@@ -140,7 +158,7 @@ pub record Steps (geometry : Geometry) (number : ℕ) (entries clusters : List C
   pub catalog : StandsFor (KeyedShape (catalog_keyed geometry)) third.cur
       (content_of (catalog_keyed geometry) entries)
   pub to_third : Touches (InArea (catalog_keyed geometry)) Anything second third
-  pub empty : AreEmpty geometry clusters (length clusters) last.cur
+  pub new : AreNew geometry clusters (length clusters) last.cur
   pub to_last : Touches (InClusters geometry (length clusters)) Anything third last
 
 module _ (geometry : Geometry) (number : ℕ) (entries clusters : List CatEntry)
@@ -164,14 +182,24 @@ module _ (geometry : Geometry) (number : ℕ) (entries clusters : List CatEntry)
       absurd (omega (arith, here.1, also.0, before))) steps.to_last steps.catalog)
 
   below-of : (xs : List CatEntry) (at : ℕ) (entry : CatEntry)
-      → Rattle.std.specs.Prelude.slice_get xs at ≡ Some entry → at < length xs
+      → slice_get xs at ≡ Some entry → at < length xs
   below-of [] at entry is = absurd cc
   below-of (x ∷ xs) zero entry is = omega arith
   below-of (x ∷ xs) (suc at) entry is = omega (arith, below-of xs at entry is)
 
-  cluster-laid : (shape : Shape) → IsOneOf geometry clusters shape → StandsFor shape last.cur []
-  cluster-laid shape one = subst (λ (s : Shape). StandsFor s last.cur []) (sym one.shape_is)
-      (steps.empty one.at one.entry (below-of clusters one.at one.entry one.there) one.there)
+  cluster-made : (shape : Shape) → IsOneOf geometry clusters shape
+      → IsMade geometry shape last.cur
+  cluster-made shape one =
+      let below : one.at < length clusters = below-of clusters one.at one.entry one.there in
+      new-made geometry allowed (one.at + 1) one.entry (omega (arith, below, planned.areas))
+      (served-at one.at one.entry one.there) last.cur
+      (steps.new one.at one.entry below one.there) shape one.shape_is
+    where
+      served-at : (at : ℕ) (entry : CatEntry) → slice_get clusters at ≡ Some entry
+          → IsCluster geometry entry
+      served-at at entry there = subst (IsCluster geometry)
+          (get_or_from_slice_get clusters at entry entry there)
+          (planned.served at entry (below-of clusters at entry there))
 
   shapes-same : (x y : Shape) → Some x ≡ Some y → x ≡ y
   shapes-same x y same = cc
@@ -195,19 +223,20 @@ module _ (geometry : Geometry) (number : ℕ) (entries clusters : List CatEntry)
       → StandsFor shape last.cur (cond is (catalog_of entries) [])
   laid-by part shape true is there = subst (λ (s : Shape). StandsFor s last.cur (catalog_of entries))
       (catalog-is part shape is there) catalog-stays
-  laid-by part shape false is there = cluster-laid shape (one-of part shape is there)
+  laid-by part shape false is there = (cluster-made shape (one-of part shape is there)).stands
 
   inside-by : (part : ℕ) (shape : Shape) (is : Bool) → nat_eq part 0 ≡ is
       → shape_by geometry (catalog_of entries) part ≡ Some shape → IsInside geometry shape
   inside-by part shape true is there = subst (IsInside geometry) (catalog-is part shape is there)
       (area-on geometry 0 (omega (arith, two-areas geometry allowed)), refl)
-  inside-by part shape false is there =
-      let one = one-of part shape is there in
-      subst (IsInside geometry) (sym one.shape_is) (
-        area-on geometry (one.at + 1)
-            (omega (arith, below-of clusters one.at one.entry one.there, planned.areas)),
-        refl,
-      )
+  inside-by part shape false is there = (cluster-made shape (one-of part shape is there)).inside
+
+  alone-by : (part : ℕ) (shape : Shape) (is : Bool) → nat_eq part 0 ≡ is
+      → shape_by geometry (catalog_of entries) part ≡ Some shape
+      → HasOneArea geometry shape last.cur
+  alone-by part shape true is there = subst (λ (s : Shape). HasOneArea geometry s last.cur)
+      (catalog-is part shape is there) (λ area reaches. reaches)
+  alone-by part shape false is there = (cluster-made shape (one-of part shape is there)).alone
 
   pub all-made : length last.cur ≡ geometry.blocks → IsFormatted geometry number entries last.cur
   all-made long = record {
@@ -218,4 +247,5 @@ module _ (geometry : Geometry) (number : ℕ) (entries clusters : List CatEntry)
     apart = planned.apart;
     inside = λ part shape there. inside-by part shape (nat_eq part 0) refl there;
     laid = λ part shape there. laid-by part shape (nat_eq part 0) refl there;
+    alone = λ part shape there. alone-by part shape (nat_eq part 0) refl there;
   }

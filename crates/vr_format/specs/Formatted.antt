@@ -14,11 +14,12 @@ use Rattle.vr_catalog.specs.Record.{spelling}
 use Rattle.vr_catalog.specs.declared.entry.CatEntry.{CatEntry}
 use Rattle.vr_catalog.specs.declared.entry.EntryKind.TheVariants.{Cluster}
 use Rattle.vr_catalog.specs.declared.entry.SpaceUnit.TheVariants.{Unstated}
-use Rattle.vr_attach.specs.Laid.{AreApart}
+use Rattle.vr_attach.specs.Laid.{AreApart, ReachesArea}
 use Rattle.vr_volume.specs.CatalogRules.{IsCatalog}
 use Rattle.vr_volume.specs.Header.{header_block}
 use Rattle.vr_volume.specs.Laid.{shape_by}
 use Rattle.vr_volume.specs.Volume.{IsInside}
+use Rattle.vr_mount.specs.Areas.{BeginsWith}
 
 -- the shape of a volume on blocks that are seen so, with this log and these intervals an area
 abbrev pub geometry_of : Seen → ℕ → ℕ → Geometry
@@ -41,6 +42,11 @@ catalog_of (entry ∷ entries) =
 abbrev pub contents_of : List CatEntry → ℕ → Content
 contents_of entries part = if part == 0 then catalog_of entries else []
 
+-- it reaches no area but its first
+abbrev pub HasOneArea : Geometry → Shape → Image → Type 0
+HasOneArea geometry shape image = (area : ℕ) → ReachesArea geometry shape image area
+    → BeginsWith (head_block geometry area) shape
+
 -- The image is that of a volume which was formatted with these entries and not changed since.
 pub record IsFormatted (geometry : Geometry) (number : ℕ) (entries : List CatEntry)
     (image : Image) : Type 0 where
@@ -55,6 +61,8 @@ pub record IsFormatted (geometry : Geometry) (number : ℕ) (entries : List CatE
   pub laid : (part : ℕ) (shape : Shape)
       → shape_by geometry (catalog_of entries) part ≡ Some shape
       → StandsFor shape image (contents_of entries part)
+  pub alone : (part : ℕ) (shape : Shape)
+      → shape_by geometry (catalog_of entries) part ≡ Some shape → HasOneArea geometry shape image
 
 -- ---- what a new volume has
 

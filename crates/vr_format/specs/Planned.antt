@@ -1,24 +1,30 @@
 -- What is to be formatted, for the private functions that write it.
 use Rattle.std.specs.Prelude.{◌≡◌, ◌≢◌, ◌+◌, ◌*◌, ◌-◌, ◌^◌, ◌<◌, ◌≤◌, ℕ, true, IsTrue, List, []}
 use Rattle.std.specs.Prelude.{◌∷◌}
-use Rattle.std.specs.Prelude.{length, replicate, map, All, Some, None, slice_get}
+use Rattle.std.specs.Prelude.{length, replicate, map, All, Option, Some, None, slice_get}
 use Rattle.std.specs.List.Sorted.{IsStrictlySortedBy}
 use Rattle.std.specs.Ordering.{is_le}
 use Rattle.vr_types.specs.BlockSize.{IsBlockSize}
 use Rattle.vr_types.specs.Content.{Content, Placed, Standing, place_cmp}
 use Rattle.vr_types.specs.Geometry.{head_block, area_count}
-use Rattle.vr_types.specs.Image.{Image}
+use Rattle.vr_types.specs.Image.{Image, block_at}
 use Rattle.vr_types.specs.declared.geometry.Geometry.{Geometry}
+use Rattle.vr_types.specs.declared.unit.Kind.{Kind}
+use Rattle.vr_types.specs.declared.unit.Kind.TheVariants as kinds
 use Rattle.vr_ci.specs.Interval as ci
 use Rattle.vr_seqset.specs.Entry.{Entry}
 use Rattle.vr_seqset.specs.Numbers.{intervals_used}
+use Rattle.vr_seqset.specs.Roster.{IsRoster, Roster}
 use Rattle.vr_seqset.specs.SequenceSet.{SequenceSet}
 use Rattle.vr_space.specs.Keyed.{Keyed, IsValid, key_of}
 use Rattle.vr_space.specs.Part.{Shape, KeyedShape, StandsFor}
+use Rattle.vr_space.specs.Rosters.{Numbered, roster_block}
+use Rattle.vr_catalog.specs.Catalog.{definition_in}
 use Rattle.vr_catalog.specs.Definition.{catalog_definition}
 use Rattle.vr_catalog.specs.Record.{spelling}
 use Rattle.vr_catalog.specs.declared.entry.CatEntry.{CatEntry}
-use Rattle.vr_attach.specs.Laid.{AreApart, keyed_part}
+use Rattle.vr_catalog.specs.declared.entry.EntryKind.TheVariants.{Cluster}
+use Rattle.vr_attach.specs.Laid.{AreApart, keyed_part, numbered_part, shape_by_kind}
 use Rattle.vr_volume.specs.CatalogRules.{IsCatalog}
 use Rattle.vr_volume.specs.Laid.{shape_by}
 use Rattle.vr_format.specs.Fit.{AreTaken}
@@ -74,28 +80,67 @@ pub record MayStand (part : Keyed) (entries : List CatEntry) : Type 0 where
 abbrev pub catalog_keyed : Geometry → Keyed
 catalog_keyed geometry = keyed_part geometry 0 0 catalog_definition
 
--- a key-sequenced cluster in this area
-abbrev pub cluster_keyed : Geometry → ℕ → CatEntry → Keyed
-cluster_keyed geometry area entry = record {
-  part = entry.part.0;
-  head = head_block geometry area;
-  area = geometry.area;
-  size = geometry.size;
-  key = entry.key_length;
-  offset = entry.key_offset;
-  most = entry.maximum;
-}
+-- the blocks of an area
+abbrev pub InAreaAt : Geometry → ℕ → ℕ → Type 0
+InAreaAt geometry area n =
+    (head_block geometry area ≤ n) × (n ≤ head_block geometry area + geometry.area)
 
--- It may have a head, and each of its records has room in an interval of its own.
-pub record IsCluster (geometry : Geometry) (entry : CatEntry) : Type 0 where
+-- a cluster in this area, by its kind
+abbrev pub cluster_keyed : Geometry → ℕ → CatEntry → Keyed
+cluster_keyed geometry area entry = keyed_part geometry entry.part.0 area (definition_in entry)
+
+abbrev pub cluster_numbered : Geometry → ℕ → CatEntry → Numbered
+cluster_numbered geometry area entry =
+    numbered_part geometry entry.part.0 area (definition_in entry)
+
+abbrev pub cluster_shape : Geometry → ℕ → CatEntry → Option Shape
+cluster_shape geometry area entry =
+    shape_by_kind geometry entry.part.0 area (definition_in entry) (definition_in entry).kind
+
+-- A key-sequenced one may have a head, and each of its records has room in an interval of its own.
+pub record MayBeKeyed (geometry : Geometry) (entry : CatEntry) : Type 0 where
   pub head : HasHead (cluster_keyed geometry 0 entry)
   pub most : entry.maximum + 7 ≤ geometry.size
 
--- the first clusters, this many, have no record
-abbrev pub AreEmpty : Geometry → List CatEntry → ℕ → Image → Type 0
-AreEmpty geometry clusters n image = (at : ℕ) (entry : CatEntry) → at < n
-    → slice_get clusters at ≡ Some entry
-    → StandsFor (KeyedShape (cluster_keyed geometry (at + 1) entry)) image []
+-- A relative one has records, each with room in an interval.
+pub record MayBeRelative (geometry : Geometry) (entry : CatEntry) : Type 0 where
+  pub some : 0 < entry.maximum
+  pub most : entry.maximum + 7 ≤ geometry.size
+
+abbrev pub IsClusterOf : Geometry → CatEntry → Kind → Type 0
+IsClusterOf geometry entry kinds.Keyed = MayBeKeyed geometry entry
+IsClusterOf geometry entry kinds.Entry = ⊥
+IsClusterOf geometry entry kinds.Relative = MayBeRelative geometry entry
+
+pub record IsCluster (geometry : Geometry) (entry : CatEntry) : Type 0 where
+  pub kind : entry.entry_kind ≡ Cluster
+  pub organised : IsClusterOf geometry entry (definition_in entry).kind
+
+-- the roster of an area that a new part begins with: no interval is used, and no area comes next
+abbrev pub first_roster : Numbered → Roster
+first_roster part = record { used = 0; part = part.part; next = None }
+
+-- The first area of the part has such a roster.
+pub record BeginsEmpty (part : Numbered) (image : Image) : Type 0 where
+  pub roster : IsRoster part.geometry.area (block_at image (roster_block part part.first))
+      (first_roster part)
+  pub size : length (block_at image (roster_block part part.first)) ≡ part.geometry.size
+
+-- the cluster in the area is new
+abbrev pub IsNewOf : Geometry → ℕ → CatEntry → Image → Kind → Type 0
+IsNewOf geometry area entry image kinds.Keyed =
+    StandsFor (KeyedShape (cluster_keyed geometry area entry)) image []
+IsNewOf geometry area entry image kinds.Entry = ⊥
+IsNewOf geometry area entry image kinds.Relative =
+    BeginsEmpty (cluster_numbered geometry area entry) image
+
+abbrev pub IsNew : Geometry → ℕ → CatEntry → Image → Type 0
+IsNew geometry area entry image = IsNewOf geometry area entry image (definition_in entry).kind
+
+-- the first clusters, this many, are new
+abbrev pub AreNew : Geometry → List CatEntry → ℕ → Image → Type 0
+AreNew geometry clusters n image = (at : ℕ) (entry : CatEntry) → at < n
+    → slice_get clusters at ≡ Some entry → IsNew geometry (at + 1) entry image
 
 -- the areas of this many clusters
 abbrev pub InClusters : Geometry → ℕ → ℕ → Type 0
@@ -107,7 +152,7 @@ pub record IsOneOf (geometry : Geometry) (clusters : List CatEntry) (shape : Sha
   pub at : ℕ
   pub entry : CatEntry
   pub there : slice_get clusters at ≡ Some entry
-  pub shape_is : shape ≡ KeyedShape (cluster_keyed geometry (at + 1) entry)
+  pub shape_is : cluster_shape geometry (at + 1) entry ≡ Some shape
 
 -- A volume may be formatted with this catalog and these clusters.
 pub record ArePlanned (geometry : Geometry) (entries clusters : List CatEntry) : Type 0 where
@@ -115,7 +160,7 @@ pub record ArePlanned (geometry : Geometry) (entries clusters : List CatEntry) :
   pub apart : AreApart (shape_by geometry (catalog_of entries))
   pub content : catalog_of entries ≡ content_of (catalog_keyed geometry) entries
   pub records : MayStand (catalog_keyed geometry) entries
-  pub keyed : All (IsCluster geometry) clusters
+  pub served : All (IsCluster geometry) clusters
   pub areas : length clusters < area_count geometry
   pub laid : (part : ℕ) (shape : Shape) → part ≢ 0
       → shape_by geometry (catalog_of entries) part ≡ Some shape → IsOneOf geometry clusters shape

@@ -1,40 +1,21 @@
 //! Writing the clusters of a volume, without records.
-ghost use Rattle.std.specs.Prelude.{◌≡◌, ◌+◌, ◌<◌, ℕ, [], IsTrue, length, All, OnOk};
+ghost use Rattle.std.specs.Prelude.{◌≡◌, ◌+◌, ◌<◌, ℕ, IsTrue, length, All, OnOk};
 ghost use Rattle.std.specs.Prelude.{slice_get, Some};
 ghost use Rattle.vr_types.specs.Faults.{CountsWrite};
 ghost use Rattle.vr_types.specs.Geometry.{IsAllowed, area_count};
 ghost use Rattle.vr_types.specs.Regions.{Touches};
 ghost use Rattle.vr_catalog.specs.declared.entry.CatEntry.{CatEntry as Entry};
 ghost use Rattle.vr_log.specs.LogNow.{IsOf};
-ghost use Rattle.vr_space.specs.Keyed.{InArea};
-ghost use Rattle.vr_space.specs.Part.{KeyedShape, StandsFor};
 ghost use Rattle.vr_mount.specs.Touched.{Anything};
-ghost use Rattle.vr_format.specs.Planned.{AreEmpty, InClusters, IsCluster, cluster_keyed};
+ghost use Rattle.vr_format.specs.Planned.{AreNew, InAreaAt, InClusters, IsCluster, IsNew};
 
 use crate::fillers::Fillers;
 use crate::part::write_part;
+use crate::roster::write_first_roster;
+use vr_attach::{chain_layout_of, layout_of};
 use vr_catalog::CatEntry;
 use vr_device::BlockDevice;
-use vr_space::Layout;
-use vr_types::{Failed, Geometry};
-
-/// Where a cluster is in an area, and what its records are.
-fn cluster_layout(geometry: &Geometry, area: u32, entry: &CatEntry) -> Layout
-    requires allowed { IsAllowed geometry.now }
-    requires area { area < area_count geometry.now }
-    requires cluster { IsCluster geometry.now entry.now }
-    ensures { result ≡ cluster_keyed geometry.now area entry.now }
-{
-    Layout {
-        part: entry.part,
-        head: geometry.head_block(area),
-        area: geometry.area as u16,
-        size: geometry.size,
-        key: entry.key_length,
-        offset: entry.key_offset,
-        most: entry.maximum,
-    }
-}
+use vr_types::{Failed, Geometry, Kind};
 
 /// Writes a cluster without records in an area.
 fn write_cluster<D: BlockDevice>(
@@ -51,16 +32,23 @@ fn write_cluster<D: BlockDevice>(
     requires cluster { IsCluster geometry.now entry.now }
     requires fillers { fillers.now.size ≡ geometry.now.size }
     requires buffer { length block.old ≡ geometry.now.size }
-    ensures stands { IsTrue D.tells → OnOk result (StandsFor
-        (KeyedShape (cluster_keyed geometry.now area entry.now)) (D.seen device.new).cur []) }
-    ensures after { IsTrue D.tells → Touches
-        (InArea (cluster_keyed geometry.now area entry.now)) Anything
+    ensures new { IsTrue D.tells → OnOk result
+        (IsNew geometry.now area entry.now (D.seen device.new).cur) }
+    ensures after { IsTrue D.tells → Touches (InAreaAt geometry.now area) Anything
         (D.seen device.old) (D.seen device.new) }
     ensures shape { IsOf geometry.now (D.seen device.new) }
     ensures fault { CountsWrite (D.faults device.old) (D.faults device.new) result }
 {
-    let layout = cluster_layout(geometry, area, entry);
-    write_part(device, &layout, &[], fillers, block)
+    let Some(definition) = entry.cluster_definition() else {
+        return Ok(());
+    };
+    if definition.kind == Kind::Relative {
+        let layout = chain_layout_of(*geometry, entry.part, area, &definition);
+        write_first_roster(device, &layout, block)
+    } else {
+        let layout = layout_of(*geometry, entry.part, area, &definition);
+        write_part(device, &layout, &[], fillers, block)
+    }
 }
 
 /// Writes each cluster without records, the first in area 1 and each other in the next area.
@@ -77,7 +65,7 @@ pub(crate) fn write_clusters<D: BlockDevice>(
     requires clusters { All (IsCluster geometry.now) clusters.now }
     requires fillers { fillers.now.size ≡ geometry.now.size }
     requires buffer { length block.old ≡ geometry.now.size }
-    ensures empty { IsTrue D.tells → OnOk result (AreEmpty geometry.now clusters.now
+    ensures new { IsTrue D.tells → OnOk result (AreNew geometry.now clusters.now
         (length clusters.now) (D.seen device.new).cur) }
     ensures after { IsTrue D.tells → Touches (InClusters geometry.now (length clusters.now))
         Anything (D.seen device.old) (D.seen device.new) }

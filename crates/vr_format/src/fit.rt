@@ -2,12 +2,12 @@
 ghost use Rattle.std.specs.Prelude.{◌≡◌, ◌+◌, ◌*◌, ◌<◌, ◌≤◌, ◌↔◌, ℕ, [], length, Some, None};
 ghost use Rattle.std.specs.Prelude.{IfOk, IfSome, IsTrue, IsErrOf};
 ghost use Rattle.vr_types.specs.Geometry.{IsAllowed, area_count};
-ghost use Rattle.vr_types.specs.declared.unit.Kind.TheVariants as kinds;
 ghost use Rattle.vr_catalog.specs.Record.{entry_of, spelling};
 ghost use Rattle.vr_catalog.specs.declared.entry.EntryKind.TheVariants.{Cluster};
 ghost use Rattle.vr_catalog.specs.declared.read.EntryNo.TheVariants.{Misspelled};
-ghost use Rattle.vr_volume.specs.CatalogRules.{IsEntryOf};
-ghost use Rattle.vr_format.specs.Fit.{AreTaken, IsFirstUnfit, IsNext, TakesNext, in_area};
+ghost use Rattle.vr_volume.specs.CatalogRules.{IsEntryOf, has_intervals_by};
+ghost use Rattle.vr_format.specs.Fit.{AreTaken, IsFirstUnfit, IsNext, IsServedKind, TakesNext};
+ghost use Rattle.vr_format.specs.Fit.{in_area};
 
 use std::alloc::Global;
 use vr_catalog::{
@@ -30,18 +30,30 @@ fn spelled_in(alloc: Global, entry: &CatEntry, area: u32) -> Result<CatEntry, En
     read_entry(alloc, &record)
 }
 
-/// Whether an entry is that of a key-sequenced cluster.
-fn is_keyed(entry: &CatEntry) -> bool
+/// Whether an entry is that of a key-sequenced or relative cluster.
+fn is_served(entry: &CatEntry) -> bool
     ensures { IsTrue result
-        ↔ ((entry.now.entry_kind ≡ Cluster) × (entry.now.kind ≡ Some kinds.Keyed)) }
+        ↔ ((entry.now.entry_kind ≡ Cluster) × IsServedKind entry.now.kind) }
 {
-    entry.entry_kind == EntryKind::Cluster && entry.kind == Some(Kind::Keyed)
+    entry.entry_kind == EntryKind::Cluster
+        && (entry.kind == Some(Kind::Keyed) || entry.kind == Some(Kind::Relative))
 }
 
-/// Whether a key-sequenced cluster in an area keeps the rules of a catalog.
+/// Whether an area has the intervals that a cluster needs.
+fn has_intervals(geometry: &Geometry, cluster: &CatEntry) -> bool
+    ensures { result ≡ has_intervals_by geometry.now cluster.now cluster.now.kind }
+{
+    match cluster.kind {
+        Some(Kind::Keyed) => {
+            cluster.first_area.is_none() || !are_few_intervals(geometry, cluster.key_length as u32)
+        }
+        Some(Kind::Entry) | Some(Kind::Relative) | None => true,
+    }
+}
+
+/// Whether a cluster keeps the rules of a catalog.
 fn keeps_rules(geometry: &Geometry, before: &Catalog, cluster: &CatEntry) -> bool
-    requires kind { cluster.now.entry_kind ≡ Cluster }
-    requires organised { cluster.now.kind ≡ Some kinds.Keyed }
+    requires { cluster.now.entry_kind ≡ Cluster }
     ensures { IsTrue result ↔ IsEntryOf geometry.now before.now cluster.now }
 {
     let Some(definition) = cluster.cluster_definition() else {
@@ -50,7 +62,7 @@ fn keeps_rules(geometry: &Geometry, before: &Catalog, cluster: &CatEntry) -> boo
     cluster.related.is_none()
         && !ends_past(cluster.key_length, cluster.key_offset, cluster.maximum)
         && !is_bad_cluster(geometry, &definition, cluster.average)
-        && (cluster.first_area.is_none() || !are_few_intervals(geometry, cluster.key_length as u32))
+        && has_intervals(geometry, cluster)
 }
 
 /// Whether there is room for a cluster of this number: for a record in an interval, for the area,
@@ -69,7 +81,7 @@ fn is_next(geometry: &Geometry, before: &Catalog, cluster: &CatEntry, number: u3
     requires { number ≡ length before.now + 1 }
     ensures { IsTrue result ↔ IsNext geometry.now before.now cluster.now }
 {
-    is_keyed(cluster)
+    is_served(cluster)
         && cluster.part == PartNo(number)
         && cluster.first_area == Some(AreaNo(number))
         && before.find(&cluster.name).is_none()

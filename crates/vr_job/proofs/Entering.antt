@@ -56,7 +56,8 @@ pub step-none : (volume : ℕ) (asking : UnitOfRecovery) (request : Request) (en
     → IsStepFor asking request entry → request_in volume entry.line entry.what ≡ []
 step-none volume asking request entry is = ⊎_elim
     (λ split. ap (request_in volume entry.line) split.1)
-    (λ back. ap (request_in volume entry.line) back.3) is.1
+    (λ later. ⊎_elim (λ claim. ap (request_in volume entry.line) claim.2)
+    (λ back. ap (request_in volume entry.line) back.3) later) is.1
 
 module _ (number deck : ℕ) where
   abbrev part-of : List Entry → List Bound
@@ -129,7 +130,12 @@ made-goes (Again given) asking line request made own is may = ⊎_elim
     (sym (ap (λ (m : List Entry). undoes (own ++ m)) one.1
     ∙ undoes-append false own (one.0 ∷ [])
     ∙ ap (asked.undoing_after (undoes own)) split.1)) may)
-    (λ back. inr back.0) one.2.1) is
+    (λ later. ⊎_elim
+    (λ claim. subst (λ (b : Bool). (b ≡ false) ⊎ IsTrue (is_backout request))
+    (sym (ap (λ (m : List Entry). undoes (own ++ m)) one.1
+    ∙ undoes-append false own (one.0 ∷ [])
+    ∙ ap (asked.undoing_after (undoes own)) claim.2)) may)
+    (λ back. inr back.0) later) one.2.1) is
 
 -- ---- what is entered
 

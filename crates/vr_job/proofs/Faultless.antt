@@ -5,11 +5,12 @@ use Rattle.vr_types.specs.Faults.{Faults}
 use Rattle.vr_types.specs.declared.reply.Reply.{Reply}
 use Rattle.vr_types.specs.declared.reply.Reply.TheVariants.{Done as DoneReply}
 use Rattle.vr_types.specs.declared.request.Request.{Request}
+use Rattle.vr_types.specs.declared.unit.AreaNo.{AreaNo}
 use Rattle.vr_types.specs.declared.unit.PartNo.{PartNo}
 use Rattle.vr_types.specs.declared.unit.Unit.{Unit as UnitOfRecovery}
 use Rattle.vr_history.specs.declared.entry.Entry.{Entry}
 use Rattle.vr_history.specs.declared.entry.What.{What}
-use Rattle.vr_history.specs.declared.entry.What.TheVariants.{Asked, Faulted, Split, Undone}
+use Rattle.vr_history.specs.declared.entry.What.TheVariants.{Asked, Claimed, Faulted, Split, Undone}
 use Rattle.vr_types.specs.declared.fault.DeviceFault.{DeviceFault}
 use Rattle.vr_record_file.specs.Now.{FileNow, ended, entry_next, with_event}
 use Rattle.vr_event.specs.Acting.{HasStepped, IsActed, IsAnsweredFor}
@@ -31,6 +32,12 @@ split-none : (part : PartNo) → ¬ IsFaulted (Split part)
 split-none part is = differ is.0 is.1
   where
     differ : (fault : DeviceFault) → Split part ≡ Faulted fault → ⊥
+    differ fault same = cc
+
+claimed-none : (part : PartNo) (area : AreaNo) → ¬ IsFaulted (Claimed part area)
+claimed-none part area is = differ is.0 is.1
+  where
+    differ : (fault : DeviceFault) → Claimed part area ≡ Faulted fault → ⊥
     differ fault same = cc
 
 undone-none : (part : PartNo) (place : List ℕ) → ¬ IsFaulted (Undone part place)
@@ -65,8 +72,12 @@ stepped after unit request old new is = ⊎_elim
     (λ step. ⊎_elim
     (λ split. one-entered after unit 0 (Split split.0) old old new split.1 refl refl
     (split-none split.0))
+    (λ later. ⊎_elim
+    (λ claim. one-entered after unit 0 (Claimed claim.0 claim.1) old old new claim.2 refl refl
+    (claimed-none claim.0 claim.1))
     (λ back. one-entered after unit 0 (Undone back.1 back.2) old old new back.3 refl refl
     (undone-none back.1 back.2))
+    later)
     step) is
 
 answered : (before now : Faults) (after : ℕ) (unit : UnitOfRecovery) (line : ℕ) (request : Request)

@@ -17,7 +17,7 @@ use Rattle.vr_types.specs.declared.request.Request.{Request}
 use Rattle.vr_types.specs.declared.unit.Unit.{Unit as UnitOfRecovery}
 use Rattle.vr_history.specs.declared.entry.Entry.{Entry}
 use Rattle.vr_history.specs.declared.entry.What.{What}
-use Rattle.vr_history.specs.declared.entry.What.TheVariants.{Asked, Faulted, Split, Undone}
+use Rattle.vr_history.specs.declared.entry.What.TheVariants.{Asked, Claimed, Faulted, Split, Undone}
 use Rattle.vr_record_file.specs.Now.{FileNow, asked_failing, ended, entry_next, failed, with_event}
 use Rattle.vr_event.specs.Acting.{HasStepped, IsActed, IsAnsweredFor}
 use Rattle.vr_event.specs.declared.act.Act.{Act}
@@ -86,7 +86,9 @@ module _ (old new : FileNow) (made : List Entry)
   stepped-read after unit request is = ⊎_elim none-read
       (λ step. ⊎_elim
       (λ split. one-read after unit 0 (Split split.0) old split.1 refl)
-      (λ back. one-read after unit 0 (Undone back.1 back.2) old back.3 refl) step) is
+      (λ later. ⊎_elim
+      (λ claim. one-read after unit 0 (Claimed claim.0 claim.1) old claim.2 refl)
+      (λ back. one-read after unit 0 (Undone back.1 back.2) old back.3 refl) later) step) is
 
   -- a write failed
   failed-read : (after : ℕ) (unit : UnitOfRecovery) (line : ℕ) (request : Request) (mid : FileNow)

@@ -8,21 +8,23 @@ use Rattle.std.proofs.lemmas.Bool.Decides.{Decides-eqb}
 use Rattle.std.proofs.lemmas.List.Elements.{All-cons, All-head, All-map, All-nil, All-tail}
 use Rattle.std.proofs.lemmas.Option.{get_or_from_slice_get, slice_get_within}
 use Rattle.vr_types.specs.Content.{Content}
-use Rattle.vr_types.specs.Geometry.{IsAllowed}
+use Rattle.vr_types.specs.Geometry.{IsAllowed, area_count}
+use Rattle.vr_types.specs.Space.{is_owner}
 use Rattle.vr_types.specs.Faults.{Faults}
 use Rattle.vr_types.specs.Seen.{Seen}
 use Rattle.vr_types.specs.declared.geometry.Geometry.{Geometry}
 use Rattle.vr_types.specs.declared.unit.PartNo.{PartNo}
 use Rattle.vr_space.specs.Owners.{Owners}
-use Rattle.vr_space.specs.Part.{IsAtRest, IsOn, Shape, part_no}
-use Rattle.vr_answer.specs.Scope.{AreKeyedClusters}
+use Rattle.vr_space.specs.Part.{IsAtRest, IsOn, OwnsChain, Shape, owned_count, part_no}
+use Rattle.vr_mount.specs.Areas.{AreOwners}
 use Rattle.vr_catalog.specs.Catalog.{cluster_definition, entries_in, entry_with_part, parts_in}
 use Rattle.vr_catalog.specs.declared.entry.CatEntry.{CatEntry}
 use Rattle.vr_catalog.specs.declared.entry.EntryKind.{EntryKind}
 use Rattle.vr_catalog.specs.declared.entry.EntryKind.TheVariants.{Cluster, Alternate, Path}
 use Rattle.vr_history.specs.Effects.{has_areas, has_part, parts_laid}
 use Rattle.vr_history.specs.State.{Owned as OwnedArea}
-use Rattle.vr_keyed.specs.Owned.{Owned, known_of}
+use Rattle.vr_part.specs.Any.{known_any, shape_any}
+use Rattle.vr_part.specs.declared.any.AnyPart.{AnyPart}
 use Rattle.vr_log.specs.LogNow.{IsOf, LogNow}
 use Rattle.vr_attach.specs.CatalogRules.{IsCatalog}
 use Rattle.vr_attach.specs.Laid.{shape_by, shape_from, shape_in, shape_of}
@@ -30,7 +32,7 @@ use Rattle.vr_attach.specs.Owning.{owner_of}
 use Rattle.vr_event.specs.Opening.{IsOpened as IsOpenedBy, IsPartOpened, opened_store, owned_from}
 use Rattle.vr_event.specs.Opening.{owned_in}
 use Rattle.vr_store.specs.Store.{ChangedBy, IsFitImage, IsPartSet, IsSet, PartNow, shape_among}
-use Rattle.vr_recover.specs.Opening.{IsHandedOut, IsOpenedBy as IsOpenedWith, shape_owned, shapes_laid}
+use Rattle.vr_recover.specs.Opening.{IsHandedOut, IsOpenedBy as IsOpenedWith, shapes_laid}
 use Rattle.vr_recover.specs.Undone.{IsReady as IsReadyPart, alike}
 use Rattle.vr_recover.proofs.CallerLemmas.{laid-cases, shape-number}
 use Rattle.vr_recover.specs.Opening.{IsRefused}
@@ -50,7 +52,7 @@ use Rattle.vr_history.specs.State.{State}
 use Rattle.vr_record_file.specs.Now.{state_now}
 use Rattle.vr_volume.specs.Crashes.{RecoversTo}
 use Rattle.vr_volume.specs.Safe.{IsSafe}
-use Rattle.vr_event.specs.Volume.{IsHeld, IsWhole, VolumeNow}
+use Rattle.vr_event.specs.Volume.{AreServedClusters, IsHeld, IsWhole, OwnLaid, VolumeNow}
 use Rattle.vr_store.proofs.CallerLemmas.{idle-guards}
 use Rattle.vr_job.specs.Committed.{KeepTheCatalog}
 use Rattle.vr_job.specs.Going.{HasRun}
@@ -59,12 +61,12 @@ use Rattle.vr_job.specs.Opened.{IsReady, IsReadyFrom, opened_now}
 
 -- ---- lists
 
-each-owned : (P : Shape → Type 0) (owned : List Owned) → All P (map shape_owned owned)
-    → All (λ (keyed : Owned). P (shape_owned keyed)) owned
-each-owned P [] all = All-nil (λ (keyed : Owned). P (shape_owned keyed))
-each-owned P (keyed ∷ owned) all = All-cons (λ (k : Owned). P (shape_owned k)) keyed owned
-    (All-head P (shape_owned keyed) (map shape_owned owned) all)
-    (each-owned P owned (All-tail P (shape_owned keyed) (map shape_owned owned) all))
+each-owned : (P : Shape → Type 0) (owned : List AnyPart) → All P (map shape_any owned)
+    → All (λ (one : AnyPart). P (shape_any one)) owned
+each-owned P [] all = All-nil (λ (one : AnyPart). P (shape_any one))
+each-owned P (one ∷ owned) all = All-cons (λ (k : AnyPart). P (shape_any k)) one owned
+    (All-head P (shape_any one) (map shape_any owned) all)
+    (each-owned P owned (All-tail P (shape_any one) (map shape_any owned) all))
 
 at-place : {X : Type 0} (P : X → Type 0) (xs : List X) (at : ℕ) (x : X) → All P xs
     → slice_get xs at ≡ Some x → P x
@@ -120,52 +122,52 @@ unfolding IsDistinct
 distinct-shapes geometry entries distinct =
     (new-laid geometry 0 entries distinct.0, distinct-laid geometry entries distinct.1)
 
-numbers-opened : (owned : List Owned)
+numbers-opened : (owned : List AnyPart)
     → map (λ (part : PartNow). part.number.0) (map opened_now owned)
-    ≡ numbers-of (map shape_owned owned)
+    ≡ numbers-of (map shape_any owned)
 numbers-opened [] = refl
-numbers-opened (keyed ∷ owned) =
-    ap (λ (rest : List ℕ). (part_no (shape_owned keyed)).0 ∷ rest) (numbers-opened owned)
+numbers-opened (one ∷ owned) =
+    ap (λ (rest : List ℕ). (part_no (shape_any one)).0 ∷ rest) (numbers-opened owned)
 
 -- ---- the part of a number
 
-pub data Among (owned : List Owned) (part : ℕ) : Type 0 where
+pub data Among (owned : List AnyPart) (part : ℕ) : Type 0 where
   None-there : shape_among (map opened_now owned) part ≡ None
-      → ((at : ℕ) (shape : Shape) → slice_get (map shape_owned owned) at ≡ Some shape
+      → ((at : ℕ) (shape : Shape) → slice_get (map shape_any owned) at ≡ Some shape
       → (part_no shape).0 ≡ part → ⊥) → Among owned part
-  One-there : (at : ℕ) (shape : Shape) → slice_get (map shape_owned owned) at ≡ Some shape
+  One-there : (at : ℕ) (shape : Shape) → slice_get (map shape_any owned) at ≡ Some shape
       → (part_no shape).0 ≡ part → shape_among (map opened_now owned) part ≡ Some shape
       → Among owned part
 
 some-is : (x y : Shape) → Some x ≡ Some y → x ≡ y
 some-is x y same = cc
 
-among : (owned : List Owned) (part : ℕ) → Among owned part
+among : (owned : List AnyPart) (part : ℕ) → Among owned part
 among [] part = None-there refl (λ at shape there number. absurd cc)
-among (keyed ∷ owned) part = by ((part_no (shape_owned keyed)).0 == part) refl (among owned part)
+among (one ∷ owned) part = by ((part_no (shape_any one)).0 == part) refl (among owned part)
   where
     here : ℕ
-    here = (part_no (shape_owned keyed)).0
+    here = (part_no (shape_any one)).0
 
     step : (b : Bool) → (here == part) ≡ b → (o : Option Shape)
         → shape_among (map opened_now owned) part ≡ o
-        → shape_among (map opened_now (keyed ∷ owned)) part
-        ≡ cond b (Some (shape_owned keyed)) o
+        → shape_among (map opened_now (one ∷ owned)) part
+        ≡ cond b (Some (shape_any one)) o
     step true is o rest = rw is refl
     step false is o rest = rw is rest
 
-    by : (b : Bool) → (here == part) ≡ b → Among owned part → Among (keyed ∷ owned) part
-    by true is rest = One-there 0 (shape_owned keyed) refl ((Decides-eqb here part).0 is)
+    by : (b : Bool) → (here == part) ≡ b → Among owned part → Among (one ∷ owned) part
+    by true is rest = One-there 0 (shape_any one) refl ((Decides-eqb here part).0 is)
         (step true is (shape_among (map opened_now owned) part) refl)
     by false is (None-there none has) = None-there (step false is None none) off
       where
         off : (at : ℕ) (shape : Shape)
-            → slice_get (shape_owned keyed ∷ map shape_owned owned) at ≡ Some shape
+            → slice_get (shape_any one ∷ map shape_any owned) at ≡ Some shape
             → (part_no shape).0 ≡ part → ⊥
         off zero shape there number =
             let same : (here == part) ≡ true =
             (Decides-eqb here part).1
-            (ap (λ (s : Shape). (part_no s).0) (some-is (shape_owned keyed) shape there)
+            (ap (λ (s : Shape). (part_no s).0) (some-is (shape_any one) shape there)
             ∙ number) in
             cc
         off (suc at) shape there number = has at shape there number
@@ -247,15 +249,40 @@ owned-each P from (None ∷ owners) each =
 owned-each P from (Some part ∷ owners) each =
     (each part 0 refl, owned-each P (from + 1) owners (λ other at there. each other (suc at) there))
 
+-- a part without an area owns none
+none-owned : (part : PartNo) (owners : List (Option PartNo))
+    → ((at : ℕ) → slice_index_or owners at None ≡ Some part → ⊥) → owned_count part owners ≡ 0
+none-owned part [] none = refl
+none-owned part (None ∷ owners) none = none-owned part owners (λ at. none (suc at))
+none-owned part (Some owner ∷ owners) none =
+    by (owner.0 == part.0) refl (none-owned part owners (λ at. none (suc at)))
+  where
+    same-owner : (one other : PartNo) → one.0 ≡ other.0 → Some one ≡ Some other
+    same-owner one other same = ap (λ (n : ℕ). Some (record { 0 = n })) same
+
+    by : (b : Bool) → (owner.0 == part.0) ≡ b → owned_count part owners ≡ 0
+        → owned_count part (Some owner ∷ owners) ≡ 0
+    by true is rest = absurd (none 0 (same-owner owner part ((Decides-eqb owner.0 part.0).0 is)))
+    by false is rest = rw is rest
+
+-- a part that the catalog doesn't lay owns no area, as parts own those that they reach
+pub own-laid : (geometry : Geometry) (entries : List CatEntry) (image : Image)
+    (owners : List (Option PartNo)) → AreOwners geometry entries image owners
+    → OwnLaid geometry entries owners
+own-laid geometry entries image owners are part unlaid = none-owned part owners
+    (λ at there. let reached = are.only part at there in
+    let laid : Some reached.shape ≡ None = sym reached.laid ∙ unlaid in
+    absurd cc)
+
 -- ---- what is handed out
 
-module _ (geometry : Geometry) (entries : List CatEntry) (owned : List Owned) (log : LogNow)
+module _ (geometry : Geometry) (entries : List CatEntry) (owned : List AnyPart) (log : LogNow)
     (space : List (Option PartNo)) (now : Seen)
     (handed : IsHandedOut geometry entries owned log space now) where
   abbrev parts : List PartNow
   parts = map opened_now owned
 
-  on-each : All (λ (keyed : Owned). IsOn (shape_owned keyed) now) owned
+  on-each : All (λ (one : AnyPart). IsOn (shape_any one) now) owned
   on-each = each-owned (λ (shape : Shape). IsOn shape now) owned handed.on
 
   part-set : All (IsPartSet now) parts
@@ -277,6 +304,9 @@ module _ (geometry : Geometry) (entries : List CatEntry) (owned : List Owned) (l
     changed = All-nil (λ (by : ChangedBy). All (λ (n : ℕ). n < now.count) by.blocks);
     idle = λ none. handed.records;
     kept = All-nil (IsFitImage parts);
+    areas = handed.owners_are.count ∙ ap area_count (sym handed.log_is);
+    owns = All-map (λ (part : PartNow). OwnsChain part.shape part.known space) opened_now owned
+        handed.owners_are.owns;
   }
 
   pub handed-laid : (part : ℕ) → shape_among parts part ≡ shape_in geometry entries part
@@ -296,13 +326,24 @@ module _ (geometry : Geometry) (entries : List CatEntry) (owned : List Owned) (l
           (shapes_laid geometry entries) at shape handed.laid.each
           (ap (λ (shapes : List Shape). slice_get shapes at) (sym handed.shapes) ∙ there))) ∙ is
 
+  laid-each : All (λ (one : AnyPart).
+      shape_in geometry entries (part_no (shape_any one)).0 ≡ Some (shape_any one)) owned
+  laid-each = each-owned
+      (λ (shape : Shape). shape_in geometry entries (part_no shape).0 ≡ Some shape) owned
+      (subst (All (λ (shape : Shape). shape_in geometry entries (part_no shape).0 ≡ Some shape))
+      (sym handed.shapes) handed.laid.each)
+
   handed-owned : AllByRecursion
       (λ (area : OwnedArea). has_part (parts_laid entries) area.part ≡ true) (owned_in space)
   handed-owned = owned-each (λ (n : ℕ). has_part (parts_laid entries) n ≡ true) 0 space
-      (λ part at there. let laid = handed.owners_are.only part at there in
-      has-laid geometry entries handed.distinct part.0 laid.shape laid.laid)
+      (λ part at there. let held = handed.owners_are.only part at there in
+      subst (λ (who : PartNo). has_part (parts_laid entries) who.0 ≡ true) held.number
+      (has-laid geometry entries handed.distinct (part_no (shape_any held.one)).0
+      (shape_any held.one)
+      (at-place (λ (one : AnyPart). shape_in geometry entries (part_no (shape_any one)).0
+      ≡ Some (shape_any one)) owned held.at held.one laid-each held.there)))
 
-  pub handed-ready : AreKeyedClusters entries → IsReady geometry entries parts log space now
+  pub handed-ready : AreServedClusters entries → IsReady geometry entries parts log space now
   handed-ready clusters = record {
     set = handed-set;
     geometry_is = handed.log_is;
@@ -310,7 +351,6 @@ module _ (geometry : Geometry) (entries : List CatEntry) (owned : List Owned) (l
     records = handed.records;
     sound = handed.sound;
     clusters = clusters;
-    owners = handed.owners_are;
     owned = handed-owned;
   }
 
@@ -329,27 +369,20 @@ module _ (geometry : Geometry) (entries : List CatEntry) (owned : List Owned) (l
     by-contents part = ap (λ (g : Geometry). shape_in g (entries_in (contents 0)) part) handed.log_is
         ∙ ap (λ (them : List CatEntry). shape_in geometry them part) (sym is.catalog)
 
-    laid-each : All (λ (keyed : Owned).
-        shape_in geometry entries (part_no (shape_owned keyed)).0 ≡ Some (shape_owned keyed)) owned
-    laid-each = each-owned
-        (λ (shape : Shape). shape_in geometry entries (part_no shape).0 ≡ Some shape) owned
-        (subst (All (λ (shape : Shape). shape_in geometry entries (part_no shape).0 ≡ Some shape))
-        (sym handed.shapes) handed.laid.each)
-
-    part-opened : (keyed : Owned) → IsOn (shape_owned keyed) now
-        → IsReadyPart (shape_owned keyed) (owner_of geometry space) (known_of keyed) [] now
-        → shape_in geometry entries (part_no (shape_owned keyed)).0 ≡ Some (shape_owned keyed)
-        → IsPartOpened log.geometry owners contents now (opened_now keyed)
-    part-opened keyed on ready laid =
-        let there : shape_by log.geometry (contents 0) (part_no (shape_owned keyed)).0
-        ≡ Some (shape_owned keyed) = by-contents (part_no (shape_owned keyed)).0 ∙ laid in
+    part-opened : (one : AnyPart) → IsOn (shape_any one) now
+        → IsReadyPart (shape_any one) (owner_of geometry space) (known_any one) [] now
+        → shape_in geometry entries (part_no (shape_any one)).0 ≡ Some (shape_any one)
+        → IsPartOpened log.geometry owners contents now (opened_now one)
+    part-opened one on ready laid =
+        let there : shape_by log.geometry (contents 0) (part_no (shape_any one)).0
+        ≡ Some (shape_any one) = by-contents (part_no (shape_any one)).0 ∙ laid in
         record {
           laid = there;
           on = on;
-          rests = by-owners (λ (o : Owners). IsAtRest (shape_owned keyed) o now) ready.rests;
+          rests = by-owners (λ (o : Owners). IsAtRest (shape_any one) o now) ready.rests;
           room = ready.room;
           knows = ready.knows;
-          holds = is.undone.all (part_no (shape_owned keyed)).0 (shape_owned keyed) there;
+          holds = is.undone.all (part_no (shape_any one)).0 (shape_any one) there;
         }
 
     opened-each : All (IsPartOpened log.geometry owners contents now) parts
@@ -372,7 +405,12 @@ module _ (geometry : Geometry) (entries : List CatEntry) (owned : List Owned) (l
     }
 
     pub handed-from : IsReadyFrom number geometry entries parts log space contents old now
-    handed-from = record { volume = is.volume; catalog_is = is.catalog; opened = handed-opened }
+    handed-from = record {
+      volume = is.volume;
+      catalog_is = is.catalog;
+      opened = handed-opened;
+      owners_are = is.owners_are;
+    }
 
 -- ---- what is equal to it
 

@@ -15,6 +15,7 @@ use Rattle.vr_types.specs.declared.reply.Reply.{Reply}
 use Rattle.vr_types.specs.declared.reply.Reply.TheVariants.{Done as DoneReply, Refused}
 use Rattle.vr_types.specs.declared.request.Request.{Request}
 use Rattle.vr_types.specs.declared.request.Request.TheVariants.{Commit}
+use Rattle.vr_types.specs.declared.unit.AreaNo.{AreaNo}
 use Rattle.vr_types.specs.declared.unit.PartNo.{PartNo}
 use Rattle.vr_types.specs.declared.unit.Unit.{Unit as UnitOfRecovery}
 use Rattle.vr_history.specs.Legal.{AreSteps, state_of}
@@ -23,7 +24,7 @@ use Rattle.vr_history.specs.State.{State}
 use Rattle.vr_history.specs.Step.{MayEnter, Step, case_of, state_after}
 use Rattle.vr_history.specs.declared.entry.Entry.{Entry}
 use Rattle.vr_history.specs.declared.entry.What.{What}
-use Rattle.vr_history.specs.declared.entry.What.TheVariants.{Asked, Faulted, Split, Undone}
+use Rattle.vr_history.specs.declared.entry.What.TheVariants.{Asked, Claimed, Faulted, Split, Undone}
 use Rattle.vr_record_file.specs.Now.{FileNow}
 use Rattle.vr_event.specs.Made.{HasStopped as HasStoppedWith, IsStepFor, MadeBy}
 use Rattle.vr_event.specs.declared.act.Act.{Act}
@@ -83,6 +84,12 @@ faulted-not-split part is = differ is.0 is.1
     differ : (fault : DeviceFault) → Split part ≡ Faulted fault → ⊥
     differ fault same = cc
 
+faulted-not-claimed : (part : PartNo) (area : AreaNo) → ¬ IsFaulted (Claimed part area)
+faulted-not-claimed part area is = differ is.0 is.1
+  where
+    differ : (fault : DeviceFault) → Claimed part area ≡ Faulted fault → ⊥
+    differ fault same = cc
+
 faulted-not-undone : (part : PartNo) (place : List ℕ) → ¬ IsFaulted (Undone part place)
 faulted-not-undone part place is = differ is.0 is.1
   where
@@ -119,7 +126,10 @@ faults-follow (Again given) unit line request made is = inr (⊎_elim
     (λ none. none-faultless made none)
     (λ one. one-faultless made one.0 one.1 (⊎_elim
     (λ split fault. faulted-not-split split.0 (subst IsFaulted split.1 fault))
-    (λ back fault. faulted-not-undone back.1 back.2 (subst IsFaulted back.3 fault)) one.2.1)) is)
+    (λ later. ⊎_elim
+    (λ claim fault. faulted-not-claimed claim.0 claim.1 (subst IsFaulted claim.2 fault))
+    (λ back fault. faulted-not-undone back.1 back.2 (subst IsFaulted back.3 fault)) later)
+    one.2.1)) is)
 
 refused-not-done : (request : Request)
     → Asked request (Refused WriteFault) ≡ Asked Commit (DoneReply 0 None None) → ⊥
@@ -173,13 +183,18 @@ commit-first (Again given) unit line request made is done = absurd (⊎_elim
     split-done : (part : PartNo) → IsDoneCommit (Split part) → ⊥
     split-done part done = cc
 
+    claimed-done : (part : PartNo) (area : AreaNo) → IsDoneCommit (Claimed part area) → ⊥
+    claimed-done part area done = cc
+
     undone-done : (part : PartNo) (place : List ℕ) → IsDoneCommit (Undone part place) → ⊥
     undone-done part place done = cc
 
     step-done : (entry : Entry) → IsStepFor unit request entry → IsDoneCommit entry.what → ⊥
     step-done entry step done = ⊎_elim
         (λ split. split-done split.0 (subst IsDoneCommit split.1 done))
-        (λ back. undone-done back.1 back.2 (subst IsDoneCommit back.3 done)) step.1
+        (λ later. ⊎_elim
+        (λ claim. claimed-done claim.0 claim.1 (subst IsDoneCommit claim.2 done))
+        (λ back. undone-done back.1 back.2 (subst IsDoneCommit back.3 done)) later) step.1
 
 second-faulted : (entry fault : Entry) → AreFaultless (entry ∷ fault ∷ []) → IsFaulted fault.what
     → ⊥

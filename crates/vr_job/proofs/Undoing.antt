@@ -82,7 +82,8 @@ module _ (asking : UnitOfRecovery) (request : Request) (old new : FileNow) (entr
   -- the entry leaves a deck as one that undoes
   keeps : asked.undoing_after true entry.what ≡ true
   keeps = ⊎_elim (λ split. ap (asked.undoing_after true) split.1)
-      (λ back. ap (asked.undoing_after true) back.3) step.1
+      (λ later. ⊎_elim (λ claim. ap (asked.undoing_after true) claim.2)
+      (λ back. ap (asked.undoing_after true) back.3) later) step.1
 
   -- a unit that had begun before
   before-shown : (unit : UnitOfRecovery) → is_undoing unit old.entries ≡ true → Shown unit
@@ -116,13 +117,16 @@ module _ (asking : UnitOfRecovery) (request : Request) (old new : FileNow) (entr
   step-shows own unit undoing = ⊎_elim
       (λ split. before-shown unit
       (sym (whole ∙ ap (undoing_after unit was entry) split.1) ∙ undoing))
+      (λ later. ⊎_elim
+      (λ claim. before-shown unit
+      (sym (whole ∙ ap (undoing_after unit was entry) claim.2) ∙ undoing))
       (λ back. ⊎_elim (before-shown unit)
       (λ same. subst Shown (sym (one-unit unit asking same))
       (asking-shown (λ before. ap (asked.undoing_after before) back.3) own))
       (or_cases was (same_unit unit asking) (sym (whole
       ∙ ap (undoing_after unit was entry) back.3
       ∙ ap (λ (u : UnitOfRecovery). was || same_unit unit u) step.0) ∙ undoing)))
-      step.1
+      later) step.1
     where
       was : Bool
       was = is_undoing unit old.entries

@@ -221,13 +221,13 @@ module _ {D : Type 0} (tells : Bool) (seen : D → Seen) (faults : D → Faults)
           (subst (λ (n : ℕ). IsVolume n volume.file.geometry held.contents old) (sym same-number)
           held.volume_is);
       catalog_is = held.catalog_is;
-      owners_are = subst (λ (g : Geometry). AreOwners g volume.file.catalog held.owners)
-          (sym same-geometry) held.owners_are;
       legal = run.held.file.legal;
       keeps_catalog = run.keeps_catalog;
       moments = guards-keeps tells old (seen end.blocks) (seen device) MayLeave each-moment
           ended.closed.keeps told;
       opened = volume.blocks;
+      owners_are = subst (λ (g : Geometry). AreOwners g volume.file.catalog
+          (seen volume.blocks).cur held.owners) (sym same-geometry) held.owners_are;
       quiet = opens_so.quiet;
       opens = guards-weaken old (seen volume.blocks) (λ (image : Image). Left old image
           ⊎ Recovers volume.file.geometry number image held.contents) (λ (image : Image).

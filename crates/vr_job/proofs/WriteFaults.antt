@@ -9,7 +9,7 @@ use Rattle.vr_types.specs.declared.request.Request.{Request}
 use Rattle.vr_types.specs.declared.unit.Unit.{Unit as UnitOfRecovery}
 use Rattle.vr_history.specs.declared.entry.Entry.{Entry}
 use Rattle.vr_history.specs.declared.entry.What.{What}
-use Rattle.vr_history.specs.declared.entry.What.TheVariants.{Asked, Split, Undone}
+use Rattle.vr_history.specs.declared.entry.What.TheVariants.{Asked, Claimed, Split, Undone}
 use Rattle.vr_record_file.specs.Now.{FileNow, ended, entry_next, with_event}
 use Rattle.vr_event.specs.Acting.{HasStepped, IsActed, IsAnsweredFor}
 use Rattle.vr_event.specs.declared.act.Act.{Act}
@@ -48,7 +48,9 @@ module _ (old new : FileNow) (made : List Entry) (entries : new.entries ≡ old.
   not-stepped after unit request is = ⊎_elim not-none
       (λ step. ⊎_elim
       (λ split. not-one after unit 0 (Split split.0) old split.1 refl)
-      (λ back. not-one after unit 0 (Undone back.1 back.2) old back.3 refl) step) is
+      (λ later. ⊎_elim
+      (λ claim. not-one after unit 0 (Claimed claim.0 claim.1) old claim.2 refl)
+      (λ back. not-one after unit 0 (Undone back.1 back.2) old back.3 refl) later) step) is
 
   answered-rose : (before now : Faults) (after : ℕ) (unit : UnitOfRecovery) (line : ℕ)
       (request : Request) → IsAnsweredFor before now after unit line request old new

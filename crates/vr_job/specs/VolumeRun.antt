@@ -45,8 +45,8 @@ abbrev pub opening_of : (ℕ → Content) → List (Option PartNo) → State
 opening_of contents owners = opening_state contents (owned_in owners)
 
 -- The volume was opened: the blocks were one's of this number, which recovered to contents with
--- this catalog; an area is owned by the part that the catalog lays in it, and by no other, and else
--- it is free; the history is legal from its opening, and no entry of it changes the catalog; and
+-- this catalog; an area is owned by the part of the catalog that reaches it once it is opened, and by
+-- no other, and else it is free; the history is legal from its opening, and no entry of it changes the catalog; and
 -- each image of each moment is one that a crash left before, or is left by the history. No fault
 -- came as it was opened. From the end of its opening on the run is events, in each of which an
 -- image recovers to what is committed by the history before it, perhaps with the unit whose COMMIT
@@ -63,12 +63,12 @@ pub record IsRun {D : Type 0} (tells : Bool) (seen : D → Seen) (faults : D →
   pub owners : List (Option PartNo)
   pub volume : IsVolume number geometry contents (seen old)
   pub catalog_is : catalog ≡ entries_in (contents 0)
-  pub owners_are : AreOwners geometry catalog owners
   pub legal : IsLegal geometry (opening_state contents (owned_in owners)) entries
   pub keeps_catalog : KeepTheCatalog geometry (opening_state contents (owned_in owners)) entries
   pub moments : Guards (seen old) (seen new) (λ image. Left (seen old) image
       ⊎ IsLeftBy geometry number (opening_state contents (owned_in owners)) entries image)
   pub opened : D
+  pub owners_are : AreOwners geometry catalog (seen opened).cur owners
   pub quiet : faults opened ≡ faults old
   pub opens : Guards (seen old) (seen opened) (λ image. Left (seen old) image
       ⊎ Recovers geometry number image contents)

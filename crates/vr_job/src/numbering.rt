@@ -4,8 +4,8 @@ ghost use Rattle.vr_job.specs.Opened.{laid_now, opened_now};
 
 use std::alloc::Global;
 use vr_catalog::Catalog;
-use vr_keyed::Keyed;
 use vr_log::UndoLog;
+use vr_part::AnyPart;
 use vr_recover::Opened;
 use vr_store::Laid;
 use vr_trace::EndLine;
@@ -16,13 +16,13 @@ use vr_types::{Geometry, OutOfMemory, Space};
 pub(crate) struct Ready {
     pub(crate) geometry: Geometry,
     pub(crate) catalog: Box<Catalog>,
-    pub(crate) parts: Vec<Laid<Keyed>>,
+    pub(crate) parts: Vec<Laid<AnyPart>>,
     pub(crate) log: UndoLog,
     pub(crate) space: Space,
 }
 
 /// A part with its number.
-fn numbered(part: Keyed) -> Laid<Keyed>
+fn numbered(part: AnyPart) -> Laid<AnyPart>
     ensures { laid_now result ≡ opened_now part }
 {
     Laid {
@@ -32,7 +32,7 @@ fn numbered(part: Keyed) -> Laid<Keyed>
 }
 
 /// Adds parts with their numbers.
-fn add_parts(into: &mut Vec<Laid<Keyed>>, parts: Vec<Keyed>) -> Result<(), OutOfMemory>
+fn add_parts(into: &mut Vec<Laid<AnyPart>>, parts: Vec<AnyPart>) -> Result<(), OutOfMemory>
     requires { into.old.items ≡ [] }
     ensures { OnOk result (map laid_now into.new.items ≡ map opened_now parts.items) }
 {
@@ -43,7 +43,7 @@ fn add_parts(into: &mut Vec<Laid<Keyed>>, parts: Vec<Keyed>) -> Result<(), OutOf
 }
 
 /// Parts with their numbers. Out of memory is its one error.
-fn number_all(alloc: Global, parts: Vec<Keyed>) -> Result<Vec<Laid<Keyed>>, OutOfMemory>
+fn number_all(alloc: Global, parts: Vec<AnyPart>) -> Result<Vec<Laid<AnyPart>>, OutOfMemory>
     ensures { IfOk result (λ laid. map laid_now laid.items ≡ map opened_now parts.items) }
 {
     let mut laid = Vec::new(alloc);

@@ -8,7 +8,7 @@ ghost use Rattle.vr_types.specs.declared.geometry.Geometry.{Geometry as VolumeSh
 ghost use Rattle.vr_attach.specs.Owning.{owner_of};
 ghost use Rattle.vr_catalog.specs.Catalog.{entries_in};
 ghost use Rattle.vr_event.specs.Opening.{IsOpened as IsOpenedWith, owned_in};
-ghost use Rattle.vr_event.specs.Volume.{IsWhole};
+ghost use Rattle.vr_event.specs.Volume.{IsWhole, OwnLaid};
 ghost use Rattle.vr_history.specs.State.{opening_state};
 ghost use Rattle.vr_volume.specs.Volume.{Recovers};
 ghost use Rattle.vr_recover.specs.Opening.{IsHandedOut, IsNoVolume, IsOpened, IsVolume};
@@ -21,7 +21,7 @@ ghost use Rattle.vr_job.specs.Opened.{IsOpenHeld, IsReady, IsReadyFrom, laid_now
 use crate::numbering::{Ready, number_parts};
 use std::alloc::Global;
 use vr_event::Volume;
-use vr_keyed::Keyed;
+use vr_part::AnyPart;
 use vr_recover::{OpenNo, Opened, Unserved, open_volume};
 use vr_trace::EndLine;
 use vr_types::Blocks;
@@ -133,12 +133,13 @@ fn open_parts<B: Blocks>(
 }
 
 /// The volume of these blocks, of what was opened on them.
-fn made<B: Blocks>(alloc: Global, blocks: B, number: u32, found: Box<Ready>) -> Volume<B, Keyed>
+fn made<B: Blocks>(alloc: Global, blocks: B, number: u32, found: Box<Ready>) -> Volume<B, AnyPart>
     requires ready { IsReady found.value.geometry found.value.catalog.value
         (map laid_now found.value.parts.items) found.value.log found.value.space (B.seen blocks) }
     ensures whole { IsWhole B.seen result }
     ensures run { IsTrue B.tells → (contents : ℕ → Content)
         → found.value.catalog.value ≡ entries_in (contents 0)
+        → OwnLaid found.value.geometry found.value.catalog.value found.value.space
         → IsOpenedWith number (owner_of found.value.log.geometry found.value.space)
         found.value.log (map laid_now found.value.parts.items) contents (B.seen blocks)
         → HasRun B.seen B.faults (opening_state contents (owned_in found.value.space)) blocks
@@ -171,7 +172,7 @@ pub fn open<B: Blocks + Drop>(
     mut blocks: B,
     count: u32,
     number: u32,
-) -> Result<Volume<B, Keyed>, (B, EndLine)>
+) -> Result<Volume<B, AnyPart>, (B, EndLine)>
     requires { (B.seen blocks).count ≡ count }
     ensures whole { IfOk result (IsWhole B.seen) }
     ensures begins { IfOk result (λ volume. volume.file.entries ≡ []) }

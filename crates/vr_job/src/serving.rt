@@ -16,7 +16,7 @@ use vr_catalog::Catalog;
 use vr_device::{BlockDevice, Direct};
 use vr_event::{Act, Volume};
 use vr_history::History;
-use vr_keyed::Keyed;
+use vr_part::AnyPart;
 use vr_space::Part;
 use vr_types::{Blocks, OutOfMemory, SharedRequest, Unit};
 use vr_worker::{Cataloged, RunNo, Served};
@@ -141,7 +141,7 @@ fn serve<B: Blocks, P: Part>(
 #[derive(Drop)]
 pub(crate) struct Serving<D: BlockDevice> {
     alloc: Global,
-    volume: Volume<Direct<D>, Keyed>,
+    volume: Volume<Direct<D>, AnyPart>,
 }
 
 impl<D: BlockDevice> Model for Serving<D> {
@@ -157,7 +157,7 @@ impl<D: BlockDevice> Model for Serving<D> {
 
 impl<D: BlockDevice> Serving<D> {
     /// A volume with no history yet, ready to serve.
-    pub(crate) fn new(alloc: Global, volume: Volume<Direct<D>, Keyed>) -> Serving<D>
+    pub(crate) fn new(alloc: Global, volume: Volume<Direct<D>, AnyPart>) -> Serving<D>
         requires whole { IsWhole D.seen volume }
         requires holds { IsTrue D.tells → Holds D.seen volume }
         requires begins { volume.file.entries ≡ [] }
@@ -167,7 +167,7 @@ impl<D: BlockDevice> Serving<D> {
     }
 
     /// The volume alone.
-    pub(crate) fn into_volume(self) -> Volume<Direct<D>, Keyed>
+    pub(crate) fn into_volume(self) -> Volume<Direct<D>, AnyPart>
         ensures volume { result ≡ self }
         ensures whole { IsWhole D.seen result }
     {

@@ -11,7 +11,7 @@ use std::alloc::Global;
 use vr_device::{BlockDevice, Direct, direct};
 use vr_event::Volume;
 use vr_history::History;
-use vr_keyed::Keyed;
+use vr_part::AnyPart;
 use vr_trace::EndLine;
 use vr_types::Failed;
 
@@ -29,7 +29,7 @@ fn open_blocks<D: BlockDevice>(
     blocks: Direct<D>,
     count: u32,
     number: u32,
-) -> Result<Volume<Direct<D>, Keyed>, (D, EndLine)>
+) -> Result<Volume<Direct<D>, AnyPart>, (D, EndLine)>
     requires { (D.seen blocks).count ≡ count }
     ensures open { IfOk result (IsOpen D.tells D.seen D.faults number blocks) }
     ensures not_open { IfErr result (λ back.

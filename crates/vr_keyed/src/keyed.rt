@@ -1,9 +1,11 @@
 //! A keyed part of one area.
-ghost use Rattle.std.specs.Prelude.{◌≡◌, ◌≤◌, ◌↔◌, [], Some, None, IfOk, IsTrue, MatchOption};
+ghost use Rattle.std.specs.Prelude.{◌≡◌, ◌≤◌, ◌↔◌, [], Some, None, IfOk, IfSome, IsTrue};
+ghost use Rattle.std.specs.Prelude.{MatchOption};
 ghost use Rattle.std.specs.Prelude.{vec_capacity};
 ghost use Rattle.vr_types.specs.Blocks.{Keeps};
 ghost use Rattle.vr_types.specs.Faults.{HasCause};
-ghost use Rattle.vr_space.specs.Part.{HasRoom, KeyedShape, IsOn, Stands, part_no};
+ghost use Rattle.vr_space.specs.Part.{HasRoom, IsOn, IsPlaceOf, IsRecordOf, KeyedShape, Stands};
+ghost use Rattle.vr_space.specs.Part.{given, part_no};
 ghost use Rattle.vr_attach.specs.Damage.{IsDamagedAt};
 ghost use Rattle.vr_keyed.specs.Lent.{ArePlaces};
 ghost use Rattle.vr_keyed.specs.Ready.{put_of};
@@ -115,6 +117,23 @@ impl Keyed {
         ensures { result ≡ part_no (KeyedShape self.now.part) }
     {
         self.layout.part
+    }
+
+    /// Whether this may stand at the place: the place has the key's length, and what is given is a
+    /// record of at most the greatest length whose key is there, or none.
+    pub fn may_stand(&self, place: &Place, bytes: Option<&[u8]>) -> bool
+        ensures { IsTrue result ↔ (IsPlaceOf (KeyedShape self.now.part) place.now
+            × IfSome (given bytes.entry) (IsRecordOf (KeyedShape self.now.part) place.now)) }
+    {
+        let layout = &self.layout;
+        let place = place.as_slice();
+        if place.len() != layout.key as usize {
+            return false;
+        }
+        match bytes {
+            Some(bytes) => bytes.len() <= layout.most as usize && layout.is_at(bytes, place),
+            None => true,
+        }
     }
 
     /// The first damage of the part's blocks, if there is one. The part's area is the one of this
@@ -252,6 +271,10 @@ impl Part for Keyed {
         )?;
         note_put(&mut self.put, put);
         Ok(())
+    }
+
+    fn areas(&self) -> u32 {
+        0
     }
 
     fn put_blocks(&self) -> &[u32] {

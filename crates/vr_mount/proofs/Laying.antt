@@ -14,7 +14,8 @@ use Rattle.vr_catalog.specs.Catalog.{entry_with_part, cluster_definition}
 use Rattle.vr_catalog.specs.declared.definition.Definition.{Definition}
 use Rattle.vr_catalog.specs.declared.entry.CatEntry.{CatEntry}
 use Rattle.vr_space.specs.Part.{Shape, KeyedShape, RelativeShape, InFirstArea}
-use Rattle.vr_attach.specs.Laid.{keyed_shape, catalog_shape, shape_by_kind, shape_from, shape_of}
+use Rattle.vr_attach.specs.Laid.{keyed_shape, catalog_shape, numbered_part, shape_by_kind}
+use Rattle.vr_attach.specs.Laid.{shape_from, shape_of}
 use Rattle.vr_attach.specs.Laid.{shape_in}
 use Rattle.vr_attach.specs.Laid.{AreApart}
 use Rattle.vr_mount.specs.Areas.{area_in, area_length, AreOn, EndsBefore, first_block, IsBelow}
@@ -25,32 +26,38 @@ use Rattle.vr_mount.proofs.Telling.{distinct_from_zero, zero_is_new, others_dist
 use Rattle.vr_mount.proofs.Telling.{one_found, new_by_each, none_has_new, distinct_by_each}
 use Rattle.vr_mount.proofs.Telling.{each_distinct, found_at, found_passes, found_place}
 
-some_is : {X : Type 0} (x y : X) → Some x ≡ Some y → x ≡ y
+pub some_is : {X : Type 0} (x y : X) → Some x ≡ Some y → x ≡ y
 some_is x y same = cc
 
 -- ---- a shape and its area
 
--- the size of its blocks
-abbrev pub block_size : Shape → ℕ
-block_size (KeyedShape part) = part.size
-block_size (RelativeShape part) = part.geometry.size
+-- its blocks have the size that those of the volume have
+abbrev pub IsSized : Geometry → Shape → Type 0
+IsSized geometry (KeyedShape part) = part.size ≡ geometry.size
+IsSized geometry (RelativeShape part) = part.geometry ≡ geometry
 
 -- the first area of a shape is on the blocks of an area
 abbrev pub IsAt : Geometry → ℕ → Shape → Type 0
 IsAt geometry area shape = (first_block shape ≡ head_block geometry area)
-    × (area_length shape ≡ geometry.area) × (block_size shape ≡ geometry.size)
+    × (area_length shape ≡ geometry.area) × IsSized geometry shape
 
 by_kind : (geometry : Geometry) (part a : ℕ) (area : AreaNo) (d : Definition) (kind : Kind)
     (shape : Shape) → area.0 ≡ a → shape_by_kind geometry part a d kind ≡ Some shape
-    → (area_by_kind (Some area) kind ≡ Some a) × (keyed_shape geometry part a d ≡ shape)
-by_kind geometry part a area d kinds.Keyed shape is laid =
-    (ap Some is, some_is (keyed_shape geometry part a d) shape laid)
+    → (area_by_kind (Some area) kind ≡ Some a) × IsAt geometry a shape
+by_kind geometry part a area d kinds.Keyed shape is laid = (
+  ap Some is,
+  subst (IsAt geometry a) (some_is (keyed_shape geometry part a d) shape laid) (refl, refl, refl),
+)
 by_kind geometry part a area d kinds.Entry shape is laid = absurd cc
-by_kind geometry part a area d kinds.Relative shape is laid = absurd cc
+by_kind geometry part a area d kinds.Relative shape is laid = (
+  ap Some is,
+  subst (IsAt geometry a) (some_is (RelativeShape (numbered_part geometry part a d)) shape laid)
+      (refl, refl, refl),
+)
 
 by_area : (geometry : Geometry) (part : ℕ) (area : Option AreaNo) (d : Definition) (shape : Shape)
     → shape_from geometry part area d ≡ Some shape
-    → (a : ℕ) × (area_by_kind area d.kind ≡ Some a) × (keyed_shape geometry part a d ≡ shape)
+    → (a : ℕ) × (area_by_kind area d.kind ≡ Some a) × IsAt geometry a shape
 by_area geometry part None d shape laid = absurd cc
 by_area geometry part (Some area) d shape laid =
     let found = by_kind geometry part area.0 area d d.kind shape refl laid in
@@ -61,35 +68,49 @@ by_definition : (geometry : Geometry) (part : ℕ) (area : Option AreaNo) (o : O
     → (a : ℕ) × (option_and_then (λ (d : Definition). area_by_kind area d.kind) o ≡ Some a)
     × IsAt geometry a shape
 by_definition geometry part area None shape laid = absurd cc
-by_definition geometry part area (Some d) shape laid =
-    let found = by_area geometry part area d shape laid in
-    (found.0, found.1, subst (IsAt geometry found.0) found.2 (refl, refl, refl))
+by_definition geometry part area (Some d) shape laid = by_area geometry part area d shape laid
 
 kind_lays : (geometry : Geometry) (part a : ℕ) (area : Option AreaNo) (d : Definition)
     (kind : Kind) → area_by_kind area kind ≡ Some a
-    → (named : AreaNo) × (area ≡ Some named) × (named.0 ≡ a)
-    × (shape_by_kind geometry part a d kind ≡ Some (keyed_shape geometry part a d))
+    → (named : AreaNo) × (shape : Shape) × (area ≡ Some named) × (named.0 ≡ a)
+    × (shape_by_kind geometry part a d kind ≡ Some shape) × IsAt geometry a shape
 kind_lays geometry part a None d kinds.Keyed is = absurd cc
-kind_lays geometry part a (Some named) d kinds.Keyed is =
-    (named, refl, some_is named.0 a is, refl)
+kind_lays geometry part a (Some named) d kinds.Keyed is = (
+  named,
+  keyed_shape geometry part a d,
+  refl,
+  some_is named.0 a is,
+  refl,
+  (refl, refl, refl),
+)
 kind_lays geometry part a area d kinds.Entry is = absurd cc
-kind_lays geometry part a area d kinds.Relative is = absurd cc
+kind_lays geometry part a None d kinds.Relative is = absurd cc
+kind_lays geometry part a (Some named) d kinds.Relative is = (
+  named,
+  RelativeShape (numbered_part geometry part a d),
+  refl,
+  some_is named.0 a is,
+  refl,
+  (refl, refl, refl),
+)
 
 area_lays : (geometry : Geometry) (part a : ℕ) (area : Option AreaNo) (d : Definition)
     → area_by_kind area d.kind ≡ Some a
-    → shape_from geometry part area d ≡ Some (keyed_shape geometry part a d)
+    → (shape : Shape) × (shape_from geometry part area d ≡ Some shape) × IsAt geometry a shape
 area_lays geometry part a area d is =
-    let found = kind_lays geometry part a area d d.kind is in
-    ap (λ (named : Option AreaNo). shape_from geometry part named d) found.1
-    ∙ ap (λ (n : ℕ). shape_by_kind geometry part n d d.kind) found.2 ∙ found.3
+    let found = kind_lays geometry part a area d d.kind is in (
+      found.1,
+      ap (λ (named : Option AreaNo). shape_from geometry part named d) found.2
+          ∙ ap (λ (n : ℕ). shape_by_kind geometry part n d d.kind) found.3 ∙ found.4,
+      found.5,
+    )
 
 definition_lays : (geometry : Geometry) (part a : ℕ) (area : Option AreaNo) (o : Option Definition)
     → option_and_then (λ (d : Definition). area_by_kind area d.kind) o ≡ Some a
     → (shape : Shape) × (option_and_then (shape_from geometry part area) o ≡ Some shape)
     × IsAt geometry a shape
 definition_lays geometry part a area None is = absurd cc
-definition_lays geometry part a area (Some d) is =
-    (keyed_shape geometry part a d, area_lays geometry part a area d is, (refl, refl, refl))
+definition_lays geometry part a area (Some d) is = area_lays geometry part a area d is
 
 shape_by_test : (geometry : Geometry) (b : Bool) (o : Option CatEntry) (shape : Shape)
     → (if b then Some (catalog_shape geometry) else option_and_then (shape_of geometry) o)

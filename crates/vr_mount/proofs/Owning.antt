@@ -1,32 +1,32 @@
 -- Who owns each area, once the parts have marked theirs.
 use Rattle.std.proofs.Common.{◌≡◌, ◌⊎◌, ◌∙◌, ℕ, ◌+◌, ◌<◌, List, length, get_or, sym, ap}
-use Rattle.std.proofs.Common.{subst, arith, inl, inr, Option, Some, None}
+use Rattle.std.proofs.Common.{subst, arith, inl, inr, true, Option, Some, None}
 use Rattle.std.specs.Prelude.{set, ◌==◌}
 use Rattle.std.specs.List.{fold}
 use Rattle.std.proofs.lemmas.Bool.{cases_lt}
-use Rattle.std.proofs.lemmas.Bool.Decides.{eqb_tells}
+use Rattle.std.proofs.lemmas.Bool.Decides.{Decides-eqb, eqb_tells}
 use Rattle.std.proofs.lemmas.List.{get_or-set_same, get_or-set_other, length-set, get_or_past}
 use Rattle.std.proofs.lemmas.List.{get_or-replicate, length-replicate}
 use Rattle.vr_types.specs.Geometry.{area_count, head_block}
-use Rattle.vr_types.specs.Space.{all_free}
+use Rattle.vr_types.specs.Space.{all_free, is_owner}
 use Rattle.vr_types.specs.declared.geometry.Geometry.{Geometry}
 use Rattle.vr_types.specs.declared.unit.PartNo.{PartNo}
 use Rattle.vr_catalog.specs.Catalog.{entry_with_part}
 use Rattle.vr_catalog.specs.declared.entry.CatEntry.{CatEntry}
-use Rattle.vr_space.specs.Part.{Shape}
+use Rattle.vr_space.specs.Part.{Shape, owned_count}
 use Rattle.vr_attach.specs.Laid.{shape_in}
 use Rattle.vr_attach.specs.Laid.{AreApart}
-use Rattle.vr_mount.specs.Areas.{AreOn, AreOwners, BeginsWith, IsLaidIn, area_in}
+use Rattle.vr_mount.specs.Areas.{AreFirstOwners, AreOn, BeginsWith, IsLaidIn, area_in}
 use Rattle.vr_mount.specs.Areas.{catalog_part, part_of}
 use Rattle.vr_mount.specs.Marks.{marked}
 use Rattle.vr_mount.specs.Numbers.{laid_area, numbers_by, AreToldApart}
 use Rattle.vr_mount.specs.declared.distinct.Which.TheVariants.{Part, Area}
 use Rattle.vr_mount.proofs.Blocks.{one_area}
 use Rattle.vr_mount.proofs.Laying.{IsAt, apart_told, area_cases, area_of_entry, areas_below}
-use Rattle.vr_mount.proofs.Laying.{areas_by_on, at_shape, part_is, shape_at, some_area}
+use Rattle.vr_mount.proofs.Laying.{areas_by_on, at_shape, part_is, shape_at, some_area, some_is}
 use Rattle.vr_mount.proofs.Marking.{marks_elsewhere, marks_here, marks_length, marks_whose}
-use Rattle.vr_mount.proofs.Telling.{element, found_place, none_has_new, others_distinct}
-use Rattle.vr_mount.proofs.Telling.{zero_is_new}
+use Rattle.vr_mount.proofs.Telling.{element, found_place, none_has_new, one_passes}
+use Rattle.vr_mount.proofs.Telling.{others_distinct, zero_is_new}
 
 same_part : (one other : PartNo) → one.0 ≡ other.0 → one ≡ other
 same_part one other equal = ap (λ (n : ℕ). let part : PartNo = record { 0 = n } in part) equal
@@ -155,28 +155,67 @@ only_by geometry entries part area parts some is =
           (area_of_entry entries mark.0 d area parts mark.1 laid.0)
     ]
 
+-- ---- of each part one area
+
+-- who owns an area that is tested for a part
+owner_tested : (part : PartNo) (owner : Option PartNo) → is_owner part owner ≡ true
+    → owner ≡ Some part
+owner_tested part None is = absurd cc
+owner_tested part (Some owner) is =
+    ap Some (same_part owner part ((Decides-eqb owner.0 part.0).0 is))
+
+tested_owner : (part : PartNo) (owner : Option PartNo) → owner ≡ Some part
+    → is_owner part owner ≡ true
+tested_owner part None is = absurd cc
+tested_owner part (Some owner) is =
+    let same : owner ≡ part = cc in
+    (Decides-eqb owner.0 part.0).1 (ap (λ (one : PartNo). one.0) same)
+
+-- a part that owns this area alone owns one
+pub owns_one : (part : PartNo) (owners : List (Option PartNo)) (area : ℕ)
+    → get_or owners area None ≡ Some part
+    → ((other : ℕ) → get_or owners other None ≡ Some part → other ≡ area)
+    → owned_count part owners ≡ 1
+owns_one part owners area here only = one_passes (is_owner part) owners area None
+    (elim (cases_lt area (length owners)) [
+      | inl within ↦ within
+      | inr past ↦
+          let none : get_or owners area None ≡ None = get_or_past owners area None past in absurd cc
+    ])
+    (tested_owner part (get_or owners area None) here)
+    (λ other within passes.
+    only other (owner_tested part (get_or owners other None) passes))
+
 -- the owners of the areas are the parts that are laid in them
 pub owners_made : (geometry : Geometry) (entries : List CatEntry) (owners : List (Option PartNo))
     → AreToldApart Part entries → AreApart (shape_in geometry entries) → AreOn geometry entries
     → owners ≡ fold (marked laid_area part_of)
     (set (all_free (area_count geometry)) 0 (Some catalog_part)) entries
-    → AreOwners geometry entries owners
+    → AreFirstOwners geometry entries owners
 unfolding first_owners
 owners_made geometry entries owners parts apart on are =
     let some = some_area geometry entries on in
     let areas = apart_told geometry entries parts apart in
+    let whose : (part : PartNo) (area : ℕ) → get_or owners area None ≡ Some part
+    → area_in entries part.0 ≡ Some area = λ part area is.
+    only_by geometry entries part area parts some
+    (ap (λ (os : List (Option PartNo)). get_or os area None) (sym are) ∙ is) in
+    let mine : (part : PartNo) (area : ℕ) → IsLaidIn geometry entries part.0 area
+    → get_or owners area None ≡ Some part = λ part area laid.
+    let is = in_laid geometry entries part.0 area laid in
+    ap (λ (os : List (Option PartNo)). get_or os area None) are
+    ∙ owned_by geometry entries part area areas some
+    (areas_below (area_count geometry) entries part.0 area some
+    (areas_by_on geometry entries parts on) is) is in
     record {
       count = ap (λ (os : List (Option PartNo)). length os) are
           ∙ marks_length laid_area part_of (first_owners (area_count geometry)) entries
           ∙ first_length (area_count geometry);
-      owned = λ part area laid.
-          let is = in_laid geometry entries part.0 area laid in
-          ap (λ (os : List (Option PartNo)). get_or os area None) are
-          ∙ owned_by geometry entries part area areas some
-          (areas_below (area_count geometry) entries part.0 area some
-          (areas_by_on geometry entries parts on) is) is;
+      owned = mine;
       only = λ part area is.
-          laid_in geometry entries part.0 area
-          (only_by geometry entries part area parts some
-          (ap (λ (os : List (Option PartNo)). get_or os area None) (sym are) ∙ is));
+          laid_in geometry entries part.0 area (whose part area is);
+      alone = λ part area laid.
+          let is = in_laid geometry entries part.0 area laid in
+          owns_one part owners area (mine part area laid)
+          (λ other here. some_is other area (sym (whose part other here) ∙ is));
     }

@@ -4,7 +4,7 @@ use Rattle.std.proofs.Common.{List, [], ◌∷◌}
 use Rattle.std.proofs.Common.{length, get_or, drop, take, refl, sym, ap, ◌∙◌, subst, arith, map}
 use Rattle.std.proofs.Common.{◌++◌}
 use Rattle.std.proofs.Common.{Option, Some, None}
-use Rattle.std.specs.Prelude.{nat_eq, ◌==◌, All}
+use Rattle.std.specs.Prelude.{nat_eq, ◌==◌, All, filter}
 use Rattle.std.specs.List.{IsDistinct, filter_map, cons_option, find}
 use Rattle.std.proofs.lemmas.Bool.{ne_eqb, eqb-false}
 use Rattle.std.proofs.lemmas.Bool.Decides.{Decides-eqb}
@@ -314,3 +314,34 @@ mapped_all f P (x ∷ xs) each (suc k) d below =
 pub element : {X : Type 0} (xs : List X) (i : ℕ) → i < length xs → X
 element [] i within = absurd (omega arith)
 element (x ∷ xs) i within = x
+
+-- ---- elements that pass a test
+
+none_pass : {X : Type 0} (p : X → Bool) (xs : List X) (d : X)
+    → ((j : ℕ) → j < length xs → p (get_or xs j d) ≡ true → ⊥) → length (filter p xs) ≡ 0
+none_pass p [] d none = refl
+none_pass p (x ∷ xs) d none = by_test (p x) refl
+    (none_pass p xs d (λ j within passes. none (suc j) (omega (arith, within)) passes))
+  where
+    by_test : (b : Bool) → p x ≡ b → length (filter p xs) ≡ 0
+        → length (cond b (x ∷ filter p xs) (filter p xs)) ≡ 0
+    by_test true is rest = absurd (none 0 (omega arith) is)
+    by_test false is rest = rest
+
+-- where one alone does, one is left
+pub one_passes : {X : Type 0} (p : X → Bool) (xs : List X) (i : ℕ) (d : X) → i < length xs
+    → p (get_or xs i d) ≡ true
+    → ((j : ℕ) → j < length xs → p (get_or xs j d) ≡ true → j ≡ i) → length (filter p xs) ≡ 1
+one_passes p [] i d within passes alone = absurd (omega arith)
+one_passes p (x ∷ xs) zero d within passes alone =
+    ap (λ (b : Bool). length (cond b (x ∷ filter p xs) (filter p xs))) passes
+    ∙ ap suc (none_pass p xs d (λ j below other.
+    absurd (omega (arith, alone (suc j) (omega (arith, below)) other))))
+one_passes p (x ∷ xs) (suc i) d within passes alone = by_test (p x) refl
+    (one_passes p xs i d (omega arith) passes (λ j below other.
+    let same : suc j ≡ suc i = alone (suc j) (omega (arith, below)) other in omega (arith, same)))
+  where
+    by_test : (b : Bool) → p x ≡ b → length (filter p xs) ≡ 1
+        → length (cond b (x ∷ filter p xs) (filter p xs)) ≡ 1
+    by_test true is rest = absurd (omega (arith, alone 0 (omega arith) is))
+    by_test false is rest = rest

@@ -16,9 +16,9 @@ use Rattle.vr_mount.specs.declared.distinct.Which.TheVariants.{Part, Area}
 abbrev pub area_by_kind : Option AreaNo → Kind → Option ℕ
 area_by_kind area kinds.Keyed = option_map (λ (area : AreaNo). area.0) area
 area_by_kind area kinds.Entry = None
-area_by_kind area kinds.Relative = None
+area_by_kind area kinds.Relative = option_map (λ (area : AreaNo). area.0) area
 
--- the first area of a key-sequenced cluster, which is the part's only one yet
+-- the first area of a key-sequenced or relative cluster
 abbrev pub laid_area : CatEntry → Option ℕ
 laid_area entry = option_and_then
     (λ (definition : Definition). area_by_kind entry.first_area definition.kind)

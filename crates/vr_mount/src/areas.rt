@@ -7,7 +7,7 @@ ghost use Rattle.vr_types.specs.declared.geometry.Geometry.{Geometry as VolumeSh
 ghost use Rattle.vr_catalog.specs.Catalog.{parts_in};
 ghost use Rattle.vr_catalog.specs.Definition.{catalog_definition as definition_of_catalog};
 ghost use Rattle.vr_attach.specs.Laid.{AreApart, keyed_part, shape_in};
-ghost use Rattle.vr_mount.specs.Areas.{AreOn, AreOwners, IsBelow, catalog_part, part_of};
+ghost use Rattle.vr_mount.specs.Areas.{AreFirstOwners, AreOn, IsBelow, catalog_part, part_of};
 ghost use Rattle.vr_mount.specs.Marks.{marked};
 ghost use Rattle.vr_mount.specs.Numbers.{laid_area as area_of};
 
@@ -92,8 +92,8 @@ fn mark_parts(owners: &mut Space, entries: &[CatEntry])
     mark_each(owners, entries);
 }
 
-/// Who owns each area of a volume: the part that the catalog lays there, or none. It fails only if
-/// memory runs out.
+/// Who owns each area of a volume before the chains of areas are walked over: the part whose first
+/// area the catalog says that it is, or none. It fails only if memory runs out.
 pub fn owners_of(
     alloc: Global,
     geometry: &Geometry,
@@ -102,7 +102,7 @@ pub fn owners_of(
     requires parts { IsDistinct nat_eq (0 ∷ parts_in catalog.now) }
     requires apart { AreApart (shape_in geometry.now catalog.now) }
     requires on { AreOn geometry.now catalog.now }
-    ensures { IfOk result (AreOwners geometry.now catalog.now) }
+    ensures { IfOk result (AreFirstOwners geometry.now catalog.now) }
 {
     let mut owners = space(alloc, geometry.areas())?;
     mark_parts(&mut owners, catalog.as_slice());

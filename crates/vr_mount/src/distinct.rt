@@ -15,14 +15,14 @@ pub(crate) enum Which {
     Area,
 }
 
-/// The area that an entry lays: the first one of a key-sequenced cluster.
+/// The area that an entry lays: the first one of a key-sequenced or relative cluster.
 pub(crate) fn laid_area(entry: &CatEntry) -> Option<u32>
     ensures { result ≡ area_of entry.now }
 {
     let definition = entry.cluster_definition()?;
     match definition.kind {
-        Kind::Keyed => entry.first_area.map(|area| area.0),
-        Kind::Entry | Kind::Relative => None,
+        Kind::Keyed | Kind::Relative => entry.first_area.map(|area| area.0),
+        Kind::Entry => None,
     }
 }
 

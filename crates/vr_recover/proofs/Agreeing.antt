@@ -2,13 +2,13 @@
 -- shown refuses it.
 use Rattle.std.proofs.Common.{◌≡◌, ◌≢◌, ⊎_elim, ℕ, ◌+◌, ◌<◌, ◌≤◌, Bool, true, false}
 use Rattle.std.proofs.Common.{List, [], ◌∷◌, Some, length, refl, sym, ap, subst, ◌∙◌}
-use Rattle.std.proofs.Common.{cond, map, get_or}
+use Rattle.std.proofs.Common.{cond, get_or}
 use Rattle.std.specs.Prelude.{All, IfSome, nat_eq, slice_get}
 use Rattle.std.specs.List.{IsDistinct}
 use Rattle.std.specs.Option.{option_and_then}
 use Rattle.std.proofs.lemmas.Bool.{ne_eqb, true≢false}
 use Rattle.std.proofs.lemmas.List.Elements.{All-head, All-tail}
-use Rattle.std.proofs.lemmas.Option.{slice_get-get_or, slice_get-map}
+use Rattle.std.proofs.lemmas.Option.{slice_get-get_or}
 use Rattle.vr_types.specs.Content.{Content, record_of}
 use Rattle.vr_types.specs.Geometry.{IsAllowed, area_count, head_block}
 use Rattle.vr_types.specs.Image.{Image, block_at}
@@ -22,7 +22,6 @@ use Rattle.vr_attach.specs.Header.{header_block}
 use Rattle.vr_attach.specs.Laid.{AreApart, catalog_shape, keyed_part, shape_by, shape_in}
 use Rattle.vr_attach.proofs.CallerLemmas.{owned-apart}
 use Rattle.vr_attach.proofs.Walks.{damaged_none as part_damaged}
-use Rattle.vr_keyed.specs.Owned.{Owned}
 use Rattle.vr_history.specs.State.{BeforeImage}
 use Rattle.vr_log.specs.Content.{Content as LogContent}
 use Rattle.vr_log.specs.Spells.{Spells}
@@ -30,16 +29,18 @@ use Rattle.vr_log.proofs.CallerLemmas.{one_log}
 use Rattle.vr_mount.specs.Areas.{AreOn, EndsBefore}
 use Rattle.vr_mount.proofs.CallerLemmas.{area-on}
 use Rattle.vr_mount.proofs.Headers.{one_shape}
-use Rattle.vr_space.specs.Keyed.{Keyed}
-use Rattle.vr_space.specs.Part.{HasRoom, KeyedShape, RelativeShape, Shape, Stands, StandsFor}
+use Rattle.vr_part.specs.Attached.{IsAnyShown}
+use Rattle.vr_space.specs.Part.{HasRoom, IsPlaceOf, IsRecordOf, KeyedShape, RelativeShape, Shape}
+use Rattle.vr_space.specs.Part.{Stands, StandsFor, part_no}
 use Rattle.vr_volume.specs.PutBack.{AreAlone, images_of, lengths_kept, put_back}
 use Rattle.vr_volume.specs.Volume.{CanPutBack, IsInside, Recovers, catalog_back, shapes_by}
-use Rattle.vr_recover.specs.Found.{AreEntriesOf, AreOff, HasRoomFor, IsAreaNo}
+use Rattle.vr_recover.specs.Found.{AreEntriesOf, AreOff, HasRoomOf, IsAreaNo}
 use Rattle.vr_recover.specs.Found.{IsMountShown, MayGoBack}
 use Rattle.vr_recover.specs.Found.{AtAreas, AtCatalog, AtPart, Misspelled}
-use Rattle.vr_recover.specs.Opening.{IsNoVolume, IsVolume, shapes_laid}
+use Rattle.vr_recover.specs.Opening.{IsNoVolume, IsTaken, IsVolume, shapes_laid}
 use Rattle.vr_recover.specs.Undone.{FitsPart, IsCovered}
-use Rattle.vr_recover.proofs.Shapes.{entry-laid, laid-number, laid-there, layout-laid}
+use Rattle.vr_recover.proofs.Shapes.{entry-laid, laid-number, laid-there, shape-laid}
+use Rattle.vr_recover.proofs.Shown.{any-none}
 
 some-shape : (x y : Shape) → Some x ≡ Some y → x ≡ y
 some-shape x y same = cc
@@ -145,67 +146,60 @@ module _ (geometry : Geometry) (number : ℕ) (image : Image) (recovered : ℕ �
 
     -- ---- its before-images may be put back
 
-    module _ (distinct : IsDistinct nat_eq (0 ∷ parts_in entries)) (layouts : List Keyed)
-        (shapes : map KeyedShape layouts ≡ shapes_laid geometry entries) where
+    module _ (distinct : IsDistinct nat_eq (0 ∷ parts_in entries)) (shapes : List Shape)
+        (laid : shapes ≡ shapes_laid geometry entries) where
       covers : (image : BeforeImage)
-          → CanPutBack (shapes_by geometry is.log is.contents) image
-          → IsCovered (map KeyedShape layouts) image
+          → CanPutBack (shapes_by geometry is.log is.contents) image → IsCovered shapes image
       covers one can =
-          let laid : shape_in geometry entries one.part ≡ Some can.shape =
+          let here : shape_in geometry entries one.part ≡ Some can.shape =
           sym (shapes-same one.part) ∙ can.laid in
-          let there = laid-there geometry entries distinct one.part can.shape laid in (
+          let there = laid-there geometry entries distinct one.part can.shape here in (
             there.0,
             can.shape,
-            ap (λ (s : List Shape). slice_get s there.0) shapes ∙ there.1,
-            sym (laid-number geometry entries distinct one.part can.shape laid),
+            ap (λ (s : List Shape). slice_get s there.0) laid ∙ there.1,
+            sym (laid-number geometry entries distinct one.part can.shape here),
           )
 
-      fits : (part : Keyed) → shape_in geometry entries part.part ≡ Some (KeyedShape part)
+      fits : (shape : Shape) → shape_in geometry entries (part_no shape).0 ≡ Some shape
           → (image : BeforeImage) → CanPutBack (shapes_by geometry is.log is.contents) image
-          → FitsPart (KeyedShape part) image
-      fits part laid one can mine =
-          let same : can.shape ≡ KeyedShape part =
-          some-shape can.shape (KeyedShape part) (sym can.laid ∙ shapes-same one.part
-          ∙ ap (shape_in geometry entries) mine ∙ laid) in
+          → FitsPart shape image
+      fits shape here one can mine =
+          let same : can.shape ≡ shape =
+          some-shape can.shape shape (sym can.laid ∙ shapes-same one.part
+          ∙ ap (shape_in geometry entries) mine ∙ here) in
           record {
-            place = subst (λ (s : Shape). Rattle.vr_space.specs.Part.IsPlaceOf s one.place) same
-                can.place;
+            place = subst (λ (s : Shape). IsPlaceOf s one.place) same can.place;
             old = subst (λ (s : Shape). IfSome (option_and_then record_of one.old)
-                (Rattle.vr_space.specs.Part.IsRecordOf s one.place)) same can.old;
+                (IsRecordOf s one.place)) same can.old;
           }
+
+      laid-at : (k : ℕ) (d : Shape) → k < length shapes
+          → shape_in geometry entries (part_no (get_or shapes k d)).0 ≡ Some (get_or shapes k d)
+      laid-at k d below = shape-laid geometry entries distinct k (get_or shapes k d)
+          (ap (λ (s : List Shape). slice_get s k) (sym laid) ∙ slice_get-get_or shapes k d below)
 
       images-are : All (CanPutBack (shapes_by geometry is.log is.contents))
           (images_of content.records)
       images-are = subst (All (CanPutBack (shapes_by geometry is.log is.contents))) images-same
           is.images
 
-      pub goes-back : MayGoBack (images_of content.records) layouts
+      pub goes-back : MayGoBack (images_of content.records) shapes
       goes-back = record {
         alone = subst AreAlone images-same is.alone;
         covered = λ k d below. covers (get_or (images_of content.records) k d)
             (images-are k d below);
         fits = λ j e within k d below.
-            let part = get_or layouts j e in
-            fits part (layout-laid geometry entries distinct layouts shapes j part
-            (slice_get-get_or layouts j e within))
-            (get_or (images_of content.records) k d) (images-are k d below);
+            fits (get_or shapes j e) (laid-at j e within) (get_or (images_of content.records) k d)
+            (images-are k d below);
       }
 
       -- and there is room for them
-      pub has-rooms : (parts : List Owned) → map (λ (keyed : Owned). keyed.part) parts ≡ layouts
-          → All (HasRoomFor (images_of content.records) image) parts
-      has-rooms parts same j e within =
-          let keyed = get_or parts j e in
-          let there : slice_get layouts j ≡ Some keyed.part =
-          ap (λ (ls : List Keyed). slice_get ls j) (sym same)
-          ∙ slice_get-map (λ (k : Owned). k.part) parts j
-          ∙ ap (Rattle.std.specs.Option.option_map (λ (k : Owned). k.part))
-          (slice_get-get_or parts j e within) in
-          subst (λ (images : List BeforeImage). HasRoom (KeyedShape keyed.part)
-          (lengths_kept images keyed.part.part) image) images-same
-          (is.room keyed.part.part (KeyedShape keyed.part)
-          (is-laid keyed.part.part (KeyedShape keyed.part)
-          (layout-laid geometry entries distinct layouts shapes j keyed.part there)))
+      pub has-rooms : All (HasRoomOf (images_of content.records) image) shapes
+      has-rooms j e within =
+          let shape = get_or shapes j e in
+          subst (λ (images : List BeforeImage). HasRoom shape
+          (lengths_kept images (part_no shape).0) image) images-same
+          (is.room (part_no shape).0 shape (is-laid (part_no shape).0 shape (laid-at j e within)))
 
   -- ---- what is shown of the parts
 
@@ -225,13 +219,15 @@ module _ (geometry : Geometry) (number : ℕ) (image : Image) (recovered : ℕ �
       (subst (λ (i : Image). AreEntriesOf geometry i shown.entries) same shown.are.entries_are)
       block rule shown.shown
   mount-none block rule now same (AtPart shown) =
-      let are = subst (λ (i : Image). AreEntriesOf geometry i shown.entries) same
+      let entries = shown.entries in
+      let are = subst (λ (i : Image). AreEntriesOf geometry i entries) same
       shown.are.entries_are in
       let one = shown.shown in
-      let of = one.shown in
-      part_damaged of.part of.area (area_count geometry) image block of.shown.rule
-      (subst (λ (i : Image). Rattle.vr_attach.specs.Damage.IsDamagedAt of.part of.area
-      (area_count geometry) i block of.shown.rule) same of.shown.damaged)
-      (part-stands shown.entries are one.entry.part.0 (KeyedShape of.part)
-      (entry-laid geometry shown.entries shown.are.distinct one.at one.entry
-      (KeyedShape of.part) one.there of.laid))
+      let laid : shape_in geometry entries one.entry.part.0 ≡ Some one.shape =
+      entry-laid geometry entries shown.are.distinct one.at one.entry one.shape one.there one.laid in
+      any-none geometry entries is.stands.owners image
+      (λ part shape here. is.stands.within part shape (is-laid entries are part shape here)) one.at
+      one.entry.part.0 one.shape laid
+      (part-stands entries are one.entry.part.0 one.shape laid) block rule
+      (subst (λ (i : Image). IsAnyShown geometry one.shape
+      (IsTaken geometry entries one.at i one.entry.part.0) i block rule) same one.shown)

@@ -1,34 +1,43 @@
 -- The parts of a volume, attached one after another.
 use Rattle.std.proofs.Common.{◌≡◌, ℕ, ◌+◌, ◌<◌, ◌≤◌, List, [], ◌∷◌, ◌++◌, Option, Some, None, length}
-use Rattle.std.proofs.Common.{refl, sym, ap, subst, ◌∙◌, arith, map, take, append_assoc}
-use Rattle.std.specs.Prelude.{Bool, nat_eq, IfSome, IsTrue, true, false, slice_get, ◌↔◌}
+use Rattle.std.proofs.Common.{refl, sym, ap, subst, ◌∙◌, map, take, append_assoc}
+use Rattle.std.specs.Prelude.{Bool, nat_eq, IfSome, IsTrue, Result, true, false, ◌↔◌}
 use Rattle.std.proofs.lemmas.Bool.{true≢false}
 use Rattle.std.specs.List.{IsDistinct, cons_option, filter_map}
-use Rattle.std.proofs.lemmas.List.{take_more}
-use Rattle.std.proofs.lemmas.List.Elements.{All-nil, All-push, filter_map-append}
-use Rattle.vr_types.specs.Geometry.{area_count}
+use Rattle.std.proofs.lemmas.List.{map-append, take_more}
+use Rattle.std.proofs.lemmas.List.Elements.{All-push, filter_map-append}
+use Rattle.vr_types.specs.Faults.{Faults}
+use Rattle.vr_types.specs.Geometry.{area_count, head_block}
 use Rattle.vr_types.specs.Image.{Image}
 use Rattle.vr_types.specs.Seen.{Seen}
+use Rattle.vr_types.specs.declared.fault.DeviceFault.TheVariants as faults
 use Rattle.vr_types.specs.declared.geometry.Geometry.{Geometry}
+use Rattle.vr_types.specs.declared.unit.Kind.{Kind}
+use Rattle.vr_types.specs.declared.unit.Kind.TheVariants as kinds
 use Rattle.vr_catalog.specs.Catalog.{parts_in}
-use Rattle.vr_catalog.specs.Definition.{catalog_definition}
 use Rattle.vr_catalog.specs.declared.definition.Definition.{Definition}
 use Rattle.vr_catalog.specs.declared.entry.CatEntry.{CatEntry}
-use Rattle.vr_attach.specs.Laid.{catalog_shape, keyed_part, shape_of}
-use Rattle.vr_keyed.specs.Attached.{IsRuleShown}
+use Rattle.vr_attach.specs.Laid.{catalog_shape, keyed_shape, numbered_part, shape_by_kind, shape_of}
+use Rattle.vr_attach.specs.declared.part_no.PartNo2.{PartNo2}
+use Rattle.vr_attach.specs.declared.part_no.PartNo2.TheVariants as whys
 use Rattle.vr_log.specs.LogNow.{IsOf}
-use Rattle.vr_mount.specs.Areas.{IsBelow}
+use Rattle.vr_mount.specs.Areas.{BeginsWith, IsBelow}
+use Rattle.vr_part.specs.Any.{known_any, shape_any}
+use Rattle.vr_part.specs.Attached.{IsAnyShown, ShowsDamage, attached_known}
+use Rattle.vr_part.specs.declared.any.AnyPart.{AnyPart}
 use Rattle.vr_space.specs.Keyed.{Keyed}
-use Rattle.vr_space.specs.Part.{IsOn, KeyedShape, Shape, Stands}
-use Rattle.vr_mount.proofs.CallerLemmas.{area-on}
-use Rattle.vr_recover.specs.Found.{AllStand, AreEntries, AreEntriesOf, AtAreas, AtPart, IsAreaNo}
-use Rattle.vr_recover.specs.Found.{IsEntryNo, IsEntryShown, IsMountShown, IsOneShown, LaysIn}
+use Rattle.vr_space.specs.Part.{KeyedShape, RelativeShape, Shape, Stands, StandsFor}
+use Rattle.vr_space.specs.Rosters.{Numbered}
+use Rattle.vr_recover.specs.Found.{AllStand, AreEntries, AreEntriesOf, AreKnown, AtAreas, AtPart}
+use Rattle.vr_recover.specs.Found.{HasLength, IsAreaNo, IsEntryNo, IsMountShown, LaysIn}
 use Rattle.vr_recover.specs.Found.{ShowsBoth, ShowsOnly}
+use Rattle.vr_recover.specs.OpenNo.{HasOpenCause, part_answer}
+use Rattle.vr_recover.specs.Opening.{IsCatalogShown, IsEntryShown, IsTaken}
 use Rattle.vr_recover.specs.declared.open_no.OpenNo.{OpenNo}
 use Rattle.vr_recover.specs.declared.open_no.OpenNo.TheVariants as nos
 use Rattle.vr_recover.specs.declared.open_no.OpenNo.TheVariants.{Damaged, Version, Read, Write, Memory}
 use Rattle.vr_recover.specs.declared.open_no.Unserved.{Unserved}
-use Rattle.vr_recover.specs.Unserved.{IsCatalogUnserved, IsEntryCause, IsPlain}
+use Rattle.vr_recover.specs.Unserved.{IsCatalogUnserved, IsEntryCause, IsPlain, IsServedKind}
 
 -- ---- answers
 
@@ -57,17 +66,36 @@ pub shows-also : (P Q : ℕ → ℕ → Type 0) (S : ℕ → Unserved → Type 0
 shows-also P Q S more answer shown =
     shows-both P Q IsNever S more (λ block cause none. absurd none) answer shown
 
+-- why a part could not be attached says as much as its answer
+pub shows-answer : (P Q : ℕ → ℕ → Type 0) → ((block rule : ℕ) → P block rule → Q block rule)
+    → (why : PartNo2) → ShowsDamage P why → ShowsOnly Q (part_answer why)
+shows-answer P Q more (whys.Damaged block rule) shown = more block rule shown
+shows-answer P Q more (whys.Fault faults.Read) shown = tt
+shows-answer P Q more (whys.Fault faults.Write) shown = tt
+shows-answer P Q more whys.Memory shown = tt
+
+-- an answer after calls that counted no fault is the answer of both
+pub cause-then : {T : Type 0} (first now later : Faults) (result : Result T OpenNo) → now ≡ first
+    → HasOpenCause now later result → HasOpenCause first later result
+cause-then first now later result same cause =
+    subst (λ (f : Faults). HasOpenCause f later result) same cause
+
 -- ---- one part more
 
-pub stand-more : (layouts : List Keyed) (part : Keyed) (image : Image) → AllStand layouts image
-    → Stands (KeyedShape part) image → AllStand (layouts ++ part ∷ []) image
-stand-more layouts part image all here =
-    All-push (λ (p : Keyed). Stands (KeyedShape p) image) layouts part all here
+pub stand-more : (parts : List AnyPart) (part : AnyPart) (image : Image)
+    → AllStand (map shape_any parts) image → Stands (shape_any part) image
+    → AllStand (map shape_any (parts ++ part ∷ [])) image
+stand-more parts part image all here =
+    subst (λ (shapes : List Shape). AllStand shapes image)
+    (sym (map-append shape_any parts (part ∷ [])))
+    (All-push (λ (shape : Shape). Stands shape image) (map shape_any parts) (shape_any part) all
+    here)
 
-pub map-more : (layouts : List Keyed) (part : Keyed)
-    → map KeyedShape (layouts ++ part ∷ []) ≡ map KeyedShape layouts ++ KeyedShape part ∷ []
-map-more [] part = refl
-map-more (first ∷ layouts) part = ap (λ (s : List Shape). KeyedShape first ∷ s) (map-more layouts part)
+pub known-more : (parts : List AnyPart) (part : AnyPart) (image : Image) → AreKnown parts image
+    → known_any part ≡ attached_known (shape_any part) image
+    → AreKnown (parts ++ part ∷ []) image
+known-more parts part image all here = All-push
+    (λ (one : AnyPart). known_any one ≡ attached_known (shape_any one) image) parts part all here
 
 -- an entry that lays no part adds none
 pub none-laid : (shapes : List Shape) (found : Option Shape) → found ≡ None
@@ -79,37 +107,58 @@ none-laid shapes found is =
     append-none [] = refl
     append-none (x ∷ xs) = ap (λ (ys : List Shape). x ∷ ys) (append-none xs)
 
--- and one that lays one adds it
-pub one-laid : (layouts new : List Keyed) (part : Keyed) (found : Option Shape)
-    → new ≡ layouts ++ part ∷ [] → found ≡ Some (KeyedShape part)
-    → map KeyedShape new ≡ map KeyedShape layouts ++ cons_option found []
-one-laid layouts new part found added is =
-    ap (map KeyedShape) added ∙ map-more layouts part
-    ∙ ap (λ (o : Option Shape). map KeyedShape layouts ++ cons_option o []) (sym is)
+-- ---- an entry that lays one
+
+-- The shape of an entry's part, which begins with this area.
+pub record IsLaidShape (geometry : Geometry) (entry : CatEntry) (area : ℕ) : Type 0 where
+  pub shape : Shape
+  pub laid : shape_of geometry entry ≡ Some shape
+  pub begins : BeginsWith (head_block geometry area) shape
+  pub same : (part : Numbered) → shape ≡ RelativeShape part → part.geometry ≡ geometry
 
 module _ (geometry : Geometry) (entry : CatEntry) (area : ℕ) (definition : Definition)
-    (lays : LaysIn entry area definition) (below : IsBelow (area_count geometry) entry) where
-  pub area-below : area < area_count geometry
-  area-below = subst (λ (o : Option ℕ). IfSome o (λ a. a < area_count geometry)) lays.area_is below
+    (lays : LaysIn entry area definition) where
+  pub area-below : IsBelow (area_count geometry) entry → area < area_count geometry
+  area-below below =
+      subst (λ (o : Option ℕ). IfSome o (λ a. a < area_count geometry)) lays.area_is below
 
-  pub entry-on : (layout : Keyed) (now : Seen) → IsOf geometry now
-      → layout ≡ keyed_part geometry entry.part.0 area definition → IsOn (KeyedShape layout) now
-  entry-on layout now of is = subst (λ (p : Keyed). IsOn (KeyedShape p) now) (sym is)
-      (omega (arith, area-on geometry area area-below, of.count), of.size)
+  -- its part is laid there
+  pub entry-shape : IsLaidShape geometry entry area
+  entry-shape = by definition.kind lays.kind (lays.shape geometry)
+    where
+      by : (kind : Kind) → IsServedKind kind
+          → shape_of geometry entry ≡ shape_by_kind geometry entry.part.0 area definition kind
+          → IsLaidShape geometry entry area
+      by kinds.Keyed served is = record {
+        shape = keyed_shape geometry entry.part.0 area definition;
+        laid = is;
+        begins = refl;
+        same = λ part equal. absurd (no-keyed _ part equal);
+      }
+        where
+          no-keyed : (x : Keyed) (y : Numbered) → KeyedShape x ≡ RelativeShape y → ⊥
+          no-keyed x y equal = cc
+      by kinds.Entry served is = absurd served
+      by kinds.Relative served is = record {
+        shape = RelativeShape (numbered_part geometry entry.part.0 area definition);
+        laid = is;
+        begins = refl;
+        same = λ part equal. ap (λ (n : Numbered). n.geometry) (sym (numbered-is _ part equal));
+      }
+        where
+          numbered-is : (x y : Numbered) → RelativeShape x ≡ RelativeShape y → x ≡ y
+          numbered-is x y equal = cc
 
-  pub entry-shown : (layout : Keyed) (now : Seen) (areas : ℕ) (answer : OpenNo)
-      → layout ≡ keyed_part geometry entry.part.0 area definition → areas ≡ area_count geometry
-      → ShowsOnly (IsRuleShown layout area areas now.cur) answer
-      → ShowsOnly (IsEntryShown geometry entry now) answer
-  entry-shown layout now areas answer is count = shows-more (IsRuleShown layout area areas now.cur)
-      (IsEntryShown geometry entry now)
-      (λ block rule shown. record {
-        part = layout;
-        area = area;
-        laid = lays.shape geometry ∙ ap (λ (p : Keyed). Some (KeyedShape p)) (sym is);
-        begins = ap (λ (p : Keyed). p.head) is;
-        shown = subst (λ (n : ℕ). IsRuleShown layout area n now.cur block rule) count shown;
-      }) answer
+  -- a record of the longest length has room in an interval of its own, and has a byte
+  pub longest-fits : IsPlain geometry entry → definition.maximum + 7 ≤ geometry.size
+  longest-fits plain = subst
+      (λ (o : Option Definition). IfSome o (λ (d : Definition). d.maximum + 7 ≤ geometry.size))
+      lays.definition_is plain
+
+  pub longest-some : HasLength entry → 0 < definition.maximum
+  longest-some length = subst
+      (λ (o : Option Definition). IfSome o (λ (d : Definition). 0 < d.maximum))
+      lays.definition_is length
 
 -- ---- one entry more
 
@@ -130,25 +179,38 @@ entries-more geometry entries i entry shapes before after below here so_far adde
     (ap (λ (e : CatEntry). take i entries ++ e ∷ []) (sym here)
     ∙ sym (take_more entries i entry below))
 
-pub one-shown : (geometry : Geometry) (entries : List CatEntry) (i : ℕ) (entry : CatEntry)
-    (now old : Seen) (answer : OpenNo) → slice_get entries i ≡ Some entry → now.cur ≡ old.cur
-    → ShowsOnly (IsEntryShown geometry entry now) answer
-    → ShowsOnly (IsOneShown geometry entries old) answer
-one-shown geometry entries i entry now old answer there same =
-    shows-more (IsEntryShown geometry entry now) (IsOneShown geometry entries old)
-    (λ block rule shown. record {
-      at = i;
-      entry = entry;
-      there = there;
-      shown = record {
-        part = shown.part;
-        area = shown.area;
-        laid = shown.laid;
-        begins = shown.begins;
-        shown = subst (λ (image : Image). IsRuleShown shown.part shown.area (area_count geometry)
-            image block rule) same shown.shown;
-      };
-    }) answer
+-- what is shown of an entry's part is shown of it before a call that puts nothing
+pub entry-then : (geometry : Geometry) (entries : List CatEntry) (now old : Seen)
+    (block rule : ℕ) → now.cur ≡ old.cur → IsEntryShown geometry entries now block rule
+    → IsEntryShown geometry entries old block rule
+entry-then geometry entries now old block rule same shown = record {
+  at = shown.at;
+  entry = shown.entry;
+  there = shown.there;
+  shape = shown.shape;
+  laid = shown.laid;
+  shown = subst (λ (image : Image). IsAnyShown geometry shown.shape
+      (IsTaken geometry entries shown.at image shown.entry.part.0) image block rule) same
+      shown.shown;
+}
+
+pub shown-then : (geometry : Geometry) (entries : List CatEntry) (now old : Seen) (answer : OpenNo)
+    → now.cur ≡ old.cur → ShowsOnly (IsEntryShown geometry entries now) answer
+    → ShowsOnly (IsEntryShown geometry entries old) answer
+shown-then geometry entries now old answer same =
+    shows-more (IsEntryShown geometry entries now) (IsEntryShown geometry entries old)
+    (λ block rule shown. entry-then geometry entries now old block rule same shown) answer
+
+-- so is what is shown of its records
+pub catalog-then : (geometry : Geometry) (now old : Seen) (block rule : ℕ) → now.cur ≡ old.cur
+    → IsCatalogShown geometry now block rule → IsCatalogShown geometry old block rule
+catalog-then geometry now old block rule same shown = record {
+  block_is = shown.block_is;
+  rule_is = shown.rule_is;
+  damaged = λ content stands. shown.damaged content
+      (subst (λ (image : Image). StandsFor (catalog_shape geometry) image content) (sym same)
+      stands);
+}
 
 pub of-still : (tells : Bool) (geometry : Geometry) (a b : Seen)
     → Rattle.vr_types.specs.Blocks.Keeps tells a b → IsOf geometry a → IsOf geometry b
@@ -156,14 +218,6 @@ of-still tells geometry a b call of = record {
   count = call.count_same ∙ of.count;
   size = call.size_same ∙ of.size;
 }
-
--- a record of the longest length has room in an interval of its own
-pub longest-fits : (geometry : Geometry) (entry : CatEntry) (area : ℕ) (definition : Definition)
-    → LaysIn entry area definition → IsPlain geometry entry
-    → definition.maximum + 7 ≤ geometry.size
-longest-fits geometry entry area definition lays plain =
-    subst (λ (o : Option Definition). IfSome o (λ (d : Definition). d.maximum + 7 ≤ geometry.size))
-    lays.definition_is plain
 
 -- ---- tests
 
@@ -175,24 +229,17 @@ not-if b P both is holds = true≢false (sym (both.1 holds) ∙ is)
 
 -- ---- the whole
 
-pub none-stand : (layouts : List Keyed) (image : Image) → layouts ≡ [] → AllStand layouts image
-none-stand layouts image none = subst (λ (ls : List Keyed). AllStand ls image) (sym none)
-    (All-nil (λ (part : Keyed). Stands (KeyedShape part) image))
-
-module _ (geometry : Geometry) (old now : Seen) (entries : List CatEntry)
-    (same : now.cur ≡ old.cur) (are : AreEntriesOf geometry now.cur entries)
+module _ (geometry : Geometry) (old : Seen) (entries : List CatEntry)
+    (are : AreEntriesOf geometry old.cur entries)
     (distinct : IsDistinct nat_eq (0 ∷ parts_in entries))
     (stands : Stands (catalog_shape geometry) old.cur) where
   entries-then : AreEntries geometry old entries
-  entries-then = record {
-    entries_are = subst (λ (image : Image). AreEntriesOf geometry image entries) same are;
-    distinct = distinct;
-  }
+  entries-then = record { entries_are = are; distinct = distinct }
 
   unserved-then : (block : ℕ) (cause : Unserved) → IsEntryNo geometry entries block cause
       → IsCatalogUnserved geometry old block cause
   unserved-then block cause shown =
-      let of = entries-then.entries_are stands.0 stands.1 in
+      let of = are stands.0 stands.1 in
       record {
         content = stands.0;
         stands = stands.1;
@@ -212,58 +259,34 @@ module _ (geometry : Geometry) (old now : Seen) (entries : List CatEntry)
         shown = shown;
       })) unserved-then answer
 
-  parts-then : (later : Seen) (answer : OpenNo) → later.cur ≡ now.cur
-      → ShowsOnly (IsOneShown geometry entries later) answer
+  parts-then : (later : Seen) (answer : OpenNo) → later.cur ≡ old.cur
+      → ShowsOnly (IsEntryShown geometry entries later) answer
       → ShowsBoth (IsMountShown geometry old) (IsCatalogUnserved geometry old) answer
-  parts-then later answer still = shows-also (IsOneShown geometry entries later)
+  parts-then later answer same shown = shows-also (IsEntryShown geometry entries old)
       (IsMountShown geometry old) (IsCatalogUnserved geometry old)
-      (λ block rule shown. AtPart (record {
+      (λ block rule of. AtPart (record {
         entries = entries;
         are = entries-then;
         stands = stands;
-        shown = record {
-          at = shown.at;
-          entry = shown.entry;
-          there = shown.there;
-          shown = record {
-            part = shown.shown.part;
-            area = shown.shown.area;
-            laid = shown.shown.laid;
-            begins = shown.shown.begins;
-            shown = subst (λ (image : Image). IsRuleShown shown.shown.part shown.shown.area
-                (area_count geometry) image block rule) (still ∙ same) shown.shown.shown;
-          };
-        };
-      })) answer
+        shown = of;
+      })) answer (shown-then geometry entries later old answer same shown)
 
-pub areas-shown : (geometry : Geometry) (old now : Seen) (entries asked : List CatEntry)
-    (answer : OpenNo) → asked ≡ entries → now.cur ≡ old.cur
-    → AreEntriesOf geometry now.cur entries → IsDistinct nat_eq (0 ∷ parts_in entries)
-    → Stands (catalog_shape geometry) old.cur
+pub areas-shown : (geometry : Geometry) (old : Seen) (entries asked : List CatEntry)
+    (answer : OpenNo) → asked ≡ entries → AreEntriesOf geometry old.cur entries
+    → IsDistinct nat_eq (0 ∷ parts_in entries) → Stands (catalog_shape geometry) old.cur
     → ShowsBoth (IsAreaNo geometry asked) (IsEntryNo geometry asked) answer
     → ShowsBoth (IsMountShown geometry old) (IsCatalogUnserved geometry old) answer
-areas-shown geometry old now entries asked answer is same are distinct stands shown =
-    areas-then geometry old now entries same are distinct stands answer
+areas-shown geometry old entries asked answer is are distinct stands shown =
+    areas-then geometry old entries are distinct stands answer
     (subst (λ (es : List CatEntry). ShowsBoth (IsAreaNo geometry es) (IsEntryNo geometry es) answer)
     is shown)
 
-pub parts-shown : (geometry : Geometry) (old now later : Seen) (entries asked : List CatEntry)
-    (answer : OpenNo) → asked ≡ entries → now.cur ≡ old.cur → later.cur ≡ now.cur
-    → AreEntriesOf geometry now.cur entries → IsDistinct nat_eq (0 ∷ parts_in entries)
+pub parts-shown : (geometry : Geometry) (old later : Seen) (entries asked : List CatEntry)
+    (answer : OpenNo) → asked ≡ entries → later.cur ≡ old.cur
+    → AreEntriesOf geometry old.cur entries → IsDistinct nat_eq (0 ∷ parts_in entries)
     → Stands (catalog_shape geometry) old.cur
-    → ShowsOnly (IsOneShown geometry asked later) answer
+    → ShowsOnly (IsEntryShown geometry asked later) answer
     → ShowsBoth (IsMountShown geometry old) (IsCatalogUnserved geometry old) answer
-parts-shown geometry old now later entries asked answer is same still are distinct stands shown =
-    parts-then geometry old now entries same are distinct stands later answer still
-    (subst (λ (es : List CatEntry). ShowsOnly (IsOneShown geometry es later) answer) is shown)
-
--- the first part that was added is the catalog's
-pub first-stands : (geometry : Geometry) (before after : List Keyed) (layout : Keyed) (image : Image)
-    → before ≡ [] → after ≡ before ++ layout ∷ []
-    → layout ≡ keyed_part geometry 0 0 catalog_definition → AllStand after image
-    → Stands (catalog_shape geometry) image
-first-stands geometry before after layout image none added is all =
-    let one : AllStand (layout ∷ []) image =
-    subst (λ (ls : List Keyed). AllStand ls image)
-    (added ∙ ap (λ (ls : List Keyed). ls ++ layout ∷ []) none) all in
-    subst (λ (p : Keyed). Stands (KeyedShape p) image) is (one 0 layout (omega arith))
+parts-shown geometry old later entries asked answer is same are distinct stands shown =
+    parts-then geometry old entries are distinct stands later answer same
+    (subst (λ (es : List CatEntry). ShowsOnly (IsEntryShown geometry es later) answer) is shown)

@@ -1,12 +1,11 @@
 -- A volume that was found recovers to the same while what an earlier log left is cleared, and may
 -- then be undone.
-use Rattle.std.proofs.Common.{◌≡◌, ℕ, ◌<◌, ◌≤◌, List, [], ◌∷◌, Option, Some, None, length}
+use Rattle.std.proofs.Common.{◌≡◌, ℕ, ◌<◌, ◌≤◌, List, [], Option, Some, None, length}
 use Rattle.std.proofs.Common.{refl, sym, ap, subst, ◌∙◌, arith, map, get_or}
 use Rattle.std.specs.Prelude.{All}
-use Rattle.std.proofs.lemmas.List.Elements.{All-map}
 use Rattle.vr_types.specs.Blocks.{AllForced}
 use Rattle.vr_types.specs.Content.{Content}
-use Rattle.vr_types.specs.Geometry.{IsAllowed}
+use Rattle.vr_types.specs.Geometry.{IsAllowed, area_count}
 use Rattle.vr_types.specs.Image.{Image, block_at}
 use Rattle.vr_types.specs.Moments.{Guards}
 use Rattle.vr_types.specs.Regions.{IsImageOn, Outside, Touches}
@@ -16,35 +15,68 @@ use Rattle.vr_types.specs.declared.unit.PartNo.{PartNo}
 use Rattle.vr_types.proofs.CallerLemmas.{during-weaken, guards-then}
 use Rattle.vr_catalog.specs.declared.entry.CatEntry.{CatEntry}
 use Rattle.vr_catalog.specs.Definition.{catalog_definition}
-use Rattle.vr_attach.specs.Laid.{keyed_part, shape_in}
+use Rattle.vr_attach.specs.Laid.{IsInside, keyed_part, shape_in}
+use Rattle.vr_attach.specs.Owning.{owner_of}
 use Rattle.vr_history.specs.State.{BeforeImage}
-use Rattle.vr_keyed.specs.Owned.{Owned}
 use Rattle.vr_log.specs.Content.{Content as LogContent}
 use Rattle.vr_log.specs.LogNow.{IsOf, LogNow, made}
 use Rattle.vr_log.specs.Spells.{Spells}
 use Rattle.vr_log.specs.Standing.{InLog, LogStands}
 use Rattle.vr_log.proofs.CallerLemmas.{one_log}
 use Rattle.vr_mount.proofs.Laying.{IsAt, shape_at}
-use Rattle.vr_space.specs.Keyed.{Keyed}
+use Rattle.vr_part.specs.Any.{known_any, shape_any}
+use Rattle.vr_part.specs.Attached.{attached_known}
+use Rattle.vr_part.specs.declared.any.AnyPart.{AnyPart}
+use Rattle.vr_space.specs.Known.{Known}
 use Rattle.vr_space.specs.Owners.{Owners}
-use Rattle.vr_space.specs.Met.{Met}
-use Rattle.vr_space.specs.Split.{SplitNow}
-use Rattle.vr_space.specs.Part.{IsOn, KeyedShape, Shape, StaysIn, part_no}
+use Rattle.vr_space.specs.Part.{IsOn, KeyedShape, RelativeShape, Shape, StaysIn, part_no}
+use Rattle.vr_space.specs.Rosters.{IsOf as IsOfImage, IsOwnArea, chain_of, roster_block}
+use Rattle.vr_space.specs.Rosters.{used_of}
+use Rattle.vr_space.specs.Slots.{IsSlots}
+use Rattle.vr_space.proofs.CallerLemmas.{area-below, areas-same, roster-inside, used-same}
 use Rattle.vr_volume.specs.PutBack.{images_of, lengths_kept}
 use Rattle.vr_volume.specs.Volume.{Recovers, shapes_by}
-use Rattle.vr_mount.proofs.CallerLemmas.{OwnParts, area-on, first_at, keyed-same, two-areas}
-use Rattle.vr_recover.specs.Found.{AreAttached, AreEntriesOf, IsFound, IsPartReady, IsPlanned}
-use Rattle.vr_recover.specs.Found.{IsUndoable}
-use Rattle.vr_recover.specs.Opening.{shape_owned, shapes_laid}
-use Rattle.vr_recover.specs.Undone.{FitsPart, HaveOwnNumbers, IsCovered, IsLaidPastLog, IsReady}
+use Rattle.vr_mount.proofs.CallerLemmas.{AreSame, OwnParts, area-on, first_at, keyed-same, stays-same}
+use Rattle.vr_mount.proofs.CallerLemmas.{two-areas}
+use Rattle.vr_mount.proofs.Telling.{mapped_all}
+use Rattle.vr_recover.specs.Found.{AreEntriesOf, AreKnown, IsFound, IsPartReady, IsPlanned}
+use Rattle.vr_recover.specs.Found.{IsUndoable, MayAdd}
+use Rattle.vr_recover.specs.Opening.{HasNoSplit}
+use Rattle.vr_recover.specs.Undone.{HaveOwnNumbers, IsCovered, IsLaidPastLog, IsReady}
 use Rattle.vr_recover.specs.Undone.{IsSettled}
-use Rattle.vr_recover.specs.Undone.{attached_known}
 use Rattle.vr_recover.proofs.Agreeing.{log-same, shapes-same}
 use Rattle.vr_recover.proofs.Keeping.{all-more}
+use Rattle.vr_recover.proofs.Numbering.{inside-of, on-of}
 use Rattle.vr_recover.proofs.Settled.{part-opened, settled-undone}
-use Rattle.vr_recover.proofs.Recovery.{AreOffLog, found-recovers, moved-recovers, recovered}
-use Rattle.vr_recover.proofs.Refusals.{layouts-on}
+use Rattle.vr_recover.proofs.Recovery.{AreOffLog, found-own, found-recovers, moved-recovers}
+use Rattle.vr_recover.proofs.Recovery.{recovered}
 use Rattle.vr_recover.proofs.Shapes.{each-laid, shapes-differ}
+
+-- ---- what a part knows
+
+-- A part whose blocks are as they were has the chain that it had.
+known-same : (geometry : Geometry) (shape : Shape) (owners : Owners) (old new : Image)
+    → IsInside geometry shape → StaysIn shape owners old → AreSame geometry shape owners old new
+    → attached_known shape new ≡ attached_known shape old
+known-same geometry (KeyedShape part) owners old new inside stays same = refl
+known-same geometry (RelativeShape part) owners old new inside stays same =
+    ap (λ (areas : List ℕ). known areas (used_of part new))
+    (areas-same part (IsOwnArea part owners) (IsSlots part) (IsOfImage old) old new
+    (λ area own. refl) rosters (area_count part.geometry) part.first stays)
+    ∙ ap (λ (used : ℕ). known (chain_of part old) used)
+    (used-same part (IsOwnArea part owners) (IsSlots part) (IsOfImage old) old new
+    (λ area own. refl) rosters (area_count part.geometry) part.first stays)
+  where
+    known : List ℕ → ℕ → Known
+    known areas used = record { split = None; met = []; areas = areas; used = used }
+
+    rosters : (area : ℕ) → IsOwnArea part owners area
+        → block_at new (roster_block part area) ≡ block_at old (roster_block part area)
+    rosters area own =
+        let n = roster_block part area in
+        same n (subst (λ (g : Geometry). n < g.blocks) inside.1
+        (area-below part area n own.there (roster-inside part area)))
+        (own.owned n (roster-inside part area))
 
 -- ---- while it is cleared
 
@@ -71,6 +103,27 @@ module _ (geometry : Geometry) (content : LogContent) (a b : Seen) (allowed : Is
       (λ logged. omega (arith, here.0, logged.1))
       (omega (arith, here.1, area-on geometry 0 (omega (arith, two-areas geometry allowed))))))
       one stands)
+
+  -- the parts stay in the areas that are theirs, and know as much
+  module _ (entries : List CatEntry) (may : MayAdd geometry entries) (owners : Owners)
+      (own : OwnParts geometry entries owners a.cur) where
+    same-blocks : (shape : Shape) → AreSame geometry shape owners a.cur b.cur
+    same-blocks shape n below mine = off-now n
+        (λ logged. omega (arith, own.past n (part_no shape).0 mine, logged.1)) below
+
+    pub own-still : OwnParts geometry entries owners b.cur
+    own-still = record {
+      past = own.past;
+      within = λ part shape laid. stays-same geometry shape owners a.cur b.cur
+          (inside-of geometry entries allowed may part shape laid) (own.within part shape laid)
+          (same-blocks shape);
+    }
+
+    pub known-still : (shape : Shape) → shape_in geometry entries (part_no shape).0 ≡ Some shape
+        → attached_known shape b.cur ≡ attached_known shape a.cur
+    known-still shape laid = known-same geometry shape owners a.cur b.cur
+        (inside-of geometry entries allowed may (part_no shape).0 shape laid)
+        (own.within (part_no shape).0 shape laid) (same-blocks shape)
 
   module _ (number : ℕ) (recovered : ℕ → Content)
       (is : Recovers geometry number a.cur recovered) where
@@ -103,77 +156,64 @@ module _ (geometry : Geometry) (content : LogContent) (a b : Seen) (allowed : Is
 
 -- ---- and then
 
-owned-shapes : (parts : List Owned)
-    → map shape_owned parts ≡ map KeyedShape (map (λ (keyed : Owned). keyed.part) parts)
-owned-shapes [] = refl
-owned-shapes (keyed ∷ parts) =
-    ap (λ (s : List Shape). KeyedShape keyed.part ∷ s) (owned-shapes parts)
-
 past-at : (geometry : Geometry) (a : ℕ) (shape : Shape) → IsAt geometry a shape
     → IsLaidPastLog geometry shape
 past-at geometry a shape at n here = omega (arith, (first_at geometry a n shape at here).0)
 
 module _ (geometry : Geometry) (content : LogContent) (entries : List CatEntry)
-    (layouts : List Keyed) (planned : IsPlanned geometry content entries layouts)
-    (parts : List Owned) (numbers : List PartNo) (row : AreAttached parts layouts numbers) where
+    (parts : List AnyPart) (planned : IsPlanned geometry content entries (map shape_any parts))
+    (allowed : IsAllowed geometry) where
   abbrev images : List BeforeImage
   images = images_of content.records
 
-  listed : map shape_owned parts ≡ map KeyedShape layouts
-  listed = owned-shapes parts ∙ ap (map KeyedShape) row.layouts_are
-
-  pub shapes-are : map shape_owned parts ≡ shapes_laid geometry entries
-  shapes-are = listed ∙ planned.shapes
-
-  pub parts-on : (now : Seen) → IsOf geometry now
-      → All (λ (shape : Shape). IsOn shape now) (map shape_owned parts)
-  parts-on now of = subst (All (λ (shape : Shape). IsOn shape now)) (sym listed)
-      (All-map (λ (shape : Shape). IsOn shape now) KeyedShape layouts
-      (layouts-on geometry entries layouts now of planned.shapes planned.distinct planned.on))
-
   pub laid-all : All (λ (shape : Shape). shape_in geometry entries (part_no shape).0 ≡ Some shape)
-      (map shape_owned parts)
+      (map shape_any parts)
   laid-all = subst
       (All (λ (shape : Shape). shape_in geometry entries (part_no shape).0 ≡ Some shape))
-      (sym shapes-are) (each-laid geometry entries planned.distinct)
+      (sym planned.shapes_are) (each-laid geometry entries planned.may.distinct)
 
-  pub parts-past : All (IsLaidPastLog geometry) (map shape_owned parts)
+  pub parts-on : (now : Seen) → IsOf geometry now
+      → All (λ (shape : Shape). IsOn shape now) (map shape_any parts)
+  parts-on now of = all-more
+      (λ (shape : Shape). shape_in geometry entries (part_no shape).0 ≡ Some shape)
+      (λ (shape : Shape). IsOn shape now)
+      (λ shape laid. on-of geometry entries allowed planned.may now of (part_no shape).0 shape laid)
+      (map shape_any parts) laid-all
+
+  pub parts-past : All (IsLaidPastLog geometry) (map shape_any parts)
   parts-past = all-more
       (λ (shape : Shape). shape_in geometry entries (part_no shape).0 ≡ Some shape)
       (IsLaidPastLog geometry)
       (λ shape laid. let at = shape_at geometry entries (part_no shape).0 shape laid in
-      past-at geometry at.0 shape at.2) (map shape_owned parts) laid-all
+      past-at geometry at.0 shape at.2) (map shape_any parts) laid-all
 
   -- whatever the blocks have
-  pub undoable : (log : LogNow) (kept : List BeforeImage) (now : Seen) → IsOf geometry now
-      → log ≡ made geometry content → kept ≡ images
-      → IsUndoable log content.records parts numbers kept now
-  undoable log kept now of is same =
-      subst (λ (l : LogNow). IsUndoable l content.records parts numbers kept now) (sym is)
+  pub undoable : (log : LogNow) (kept : List BeforeImage) (now : Seen) → All HasNoSplit parts
+      → IsOf geometry now → log ≡ made geometry content → kept ≡ images
+      → IsUndoable log content.records parts kept now
+  undoable log kept now split of is same =
+      subst (λ (l : LogNow). IsUndoable l content.records parts kept now) (sym is)
       (subst (λ (k : List BeforeImage). IsUndoable (made geometry content) content.records parts
-      numbers k now) (sym same) (record {
-        numbers_are = ap (map part_no) listed ∙ row.numbers_are;
+      k now) (sym same) (record {
         on = parts-on now of;
-        apart = subst HaveOwnNumbers (sym shapes-are)
-            (shapes-differ geometry entries planned.distinct);
-        split = row.split;
+        apart = subst HaveOwnNumbers (sym planned.shapes_are)
+            (shapes-differ geometry entries planned.may.distinct);
+        split = split;
         sound = refl;
         shape = of;
         records_are = refl;
         forced = refl;
-        fits = subst (All (λ (shape : Shape). All (FitsPart shape) images)) (sym listed)
-            (All-map (λ (shape : Shape). All (FitsPart shape) images) KeyedShape layouts
-            planned.back.fits);
+        fits = planned.back.fits;
         images_are = refl;
       }))
 
-  module _ (now : Seen) (allowed : IsAllowed geometry) (of : IsOf geometry now)
+  module _ (now : Seen) (of : IsOf geometry now)
       (forced : AllForced now.count now.cur now.may) (long : 8 ≤ length (block_at now.cur 1))
       (spelled : Spells geometry now.cur content)
       (are : AreEntriesOf geometry now.cur entries)
       (number : ℕ) (recovered : ℕ → Content)
       (is : Recovers geometry number now.cur recovered) (owners : Owners)
-      (own : OwnParts geometry entries owners) where
+      (own : OwnParts geometry entries owners now.cur) where
     logs : is.log ≡ content
     logs = log-same geometry number now.cur recovered is content long spelled planned.off
 
@@ -184,48 +224,43 @@ module _ (geometry : Geometry) (content : LogContent) (entries : List CatEntry)
 
     stays-by : (part : ℕ) (shape : Shape)
         → shapes_by geometry is.log is.contents part ≡ Some shape → StaysIn shape owners now.cur
-    stays-by part shape laid = own.within part shape (sym (same-shapes part) ∙ laid) now.cur
+    stays-by part shape laid = own.within part shape (sym (same-shapes part) ∙ laid)
 
     laid-by : All (λ (shape : Shape). shapes_by geometry is.log is.contents (part_no shape).0
-        ≡ Some shape) (map shape_owned parts)
+        ≡ Some shape) (map shape_any parts)
     laid-by = all-more
         (λ (shape : Shape). shape_in geometry entries (part_no shape).0 ≡ Some shape)
         (λ (shape : Shape). shapes_by geometry is.log is.contents (part_no shape).0 ≡ Some shape)
-        (λ shape laid. same-shapes (part_no shape).0 ∙ laid) (map shape_owned parts) laid-all
+        (λ shape laid. same-shapes (part_no shape).0 ∙ laid) (map shape_any parts) laid-all
 
-    covered-by : All (IsCovered (map shape_owned parts)) (images_of is.log.records)
-    covered-by = subst (λ (l : LogContent). All (IsCovered (map shape_owned parts))
-        (images_of l.records)) (sym logs)
-        (subst (λ (s : List Shape). All (IsCovered s) images) (sym listed) planned.back.covered)
+    covered-by : All (IsCovered (map shape_any parts)) (images_of is.log.records)
+    covered-by = subst (λ (l : LogContent). All (IsCovered (map shape_any parts))
+        (images_of l.records)) (sym logs) planned.back.covered
 
     pub settled-now : LogStands (made geometry content) now
-        → IsSettled number owners (made geometry content) recovered (map shape_owned parts) now
+        → IsSettled number owners (made geometry content) recovered (map shape_any parts) now
     settled-now stands = subst (λ (l : LogContent). IsSettled number owners (made geometry l)
-        recovered (map shape_owned parts) now) logs
+        recovered (map shape_any parts) now) logs
         (settled-undone geometry number now recovered is of forced owners own.past stays-by allowed
         (subst (λ (l : LogContent). LogStands (made geometry l) now) (sym logs) stands)
-        (map shape_owned parts) laid-by covered-by)
+        (map shape_any parts) laid-by covered-by)
 
-    ready-at : (keyed : Owned) → keyed.split ≡ None → keyed.met ≡ []
-        → shapes_by geometry is.log is.contents keyed.part.part ≡ Some (KeyedShape keyed.part)
-        → IsPartReady owners images now keyed
-    ready-at keyed no-split none laid =
+    ready-at : (part : AnyPart)
+        → known_any part ≡ attached_known (shape_any part) now.cur
+        → shapes_by geometry is.log is.contents (part_no (shape_any part)).0
+        ≡ Some (shape_any part) → IsPartReady owners images now part
+    ready-at part known laid =
+        let shape = shape_any part in
         let opened = part-opened geometry number now recovered is of forced owners own.past
-        stays-by (KeyedShape keyed.part) laid in
-        subst (λ (split : Option SplitNow). IsReady (KeyedShape keyed.part) owners
-        (record { split = split; met = keyed.met; areas = []; used = 0 })
-        (lengths_kept images keyed.part.part) now)
-        (sym no-split)
-        (subst (λ (met : List Met). IsReady (KeyedShape keyed.part) owners
-        (record { split = None; met = met; areas = []; used = 0 })
-        (lengths_kept images keyed.part.part) now) (sym none)
-        (subst (λ (l : LogContent). IsReady (KeyedShape keyed.part) owners
-        (attached_known (KeyedShape keyed.part) now.cur)
-        (lengths_kept (images_of l.records) keyed.part.part) now) logs opened.ready))
+        stays-by shape laid in
+        subst (λ (k : Known). IsReady shape owners k (lengths_kept images (part_no shape).0) now)
+        (sym known)
+        (subst (λ (l : LogContent). IsReady shape owners (attached_known shape now.cur)
+        (lengths_kept (images_of l.records) (part_no shape).0) now) logs opened.ready)
 
-    pub ready-now : All (IsPartReady owners images now) parts
-    ready-now k d below = ready-at (get_or parts k d) (row.split k d below) (row.met k d below)
-        (Rattle.vr_mount.proofs.Telling.mapped_all shape_owned
+    pub ready-now : AreKnown parts now.cur → All (IsPartReady owners images now) parts
+    ready-now known k d below = ready-at (get_or parts k d) (known k d below)
+        (mapped_all shape_any
         (λ (shape : Shape). shapes_by geometry is.log is.contents (part_no shape).0 ≡ Some shape)
         parts laid-by k d below)
 
@@ -233,7 +268,7 @@ module _ (geometry : Geometry) (content : LogContent) (entries : List CatEntry)
 
 -- What was found, with what clearing the log left of it.
 pub record IsCleared (geometry : Geometry) (content : LogContent) (entries : List CatEntry)
-    (layouts : List Keyed) (a b : Seen) : Type 0 where
+    (parts : List AnyPart) (owners : List (Option PartNo)) (a b : Seen) : Type 0 where
   pub allowed : IsAllowed geometry
   pub of : IsOf geometry a
   pub of_then : IsOf geometry b
@@ -242,16 +277,38 @@ pub record IsCleared (geometry : Geometry) (content : LogContent) (entries : Lis
   pub long : 8 ≤ length (block_at a.cur 1)
   pub long_then : 8 ≤ length (block_at b.cur 1)
   pub number : ℕ
-  pub found : IsFound geometry number content entries layouts a.cur
+  pub found : IsFound geometry number content entries (map shape_any parts) owners a.cur
+  pub known : AreKnown parts a.cur
   pub spelled_then : Spells geometry b.cur content
   pub call : Touches (InLog geometry) (λ image. Spells geometry image content) a b
   pub stands : LogStands (made geometry content) b
 
 module _ (geometry : Geometry) (content : LogContent) (entries : List CatEntry)
-    (layouts : List Keyed) (planned : IsPlanned geometry content entries layouts)
-    (parts : List Owned) (numbers : List PartNo) (row : AreAttached parts layouts numbers)
-    (a b : Seen) (cleared : IsCleared geometry content entries layouts a b) (owners : Owners)
-    (own : OwnParts geometry entries owners) where
+    (parts : List AnyPart) (planned : IsPlanned geometry content entries (map shape_any parts))
+    (areas : List (Option PartNo)) (a b : Seen)
+    (cleared : IsCleared geometry content entries parts areas a b) where
+  abbrev pub owners : Owners
+  owners = owner_of geometry areas
+
+  -- the parts are in the areas that are theirs
+  pub then-own : OwnParts geometry entries owners b.cur
+  then-own = own-still geometry content a b cleared.allowed cleared.of cleared.forced cleared.long
+      cleared.found.spelled cleared.call entries planned.may owners
+      (found-own geometry content entries (map shape_any parts) planned cleared.number areas a.cur
+      cleared.found)
+
+  then-known : AreKnown parts b.cur
+  then-known k d below =
+      let part = get_or parts k d in
+      cleared.known k d below
+      ∙ sym (known-still geometry content a b cleared.allowed cleared.of cleared.forced
+      cleared.long cleared.found.spelled cleared.call entries planned.may owners
+      (found-own geometry content entries (map shape_any parts) planned cleared.number areas a.cur
+      cleared.found) (shape_any part)
+      (mapped_all shape_any
+      (λ (shape : Shape). shape_in geometry entries (part_no shape).0 ≡ Some shape) parts
+      (laid-all geometry content entries parts planned cleared.allowed) k d below))
+
   then-recovers : (number : ℕ) (contents : ℕ → Content)
       → Recovers geometry number a.cur contents → Recovers geometry number b.cur contents
   then-recovers number contents is = cleared-recovers geometry content a b cleared.allowed
@@ -270,28 +327,28 @@ module _ (geometry : Geometry) (content : LogContent) (entries : List CatEntry)
 
   pub then-settled : (number : ℕ) (contents : ℕ → Content) (log : LogNow)
       → log ≡ made geometry content → Recovers geometry number a.cur contents
-      → IsSettled number owners log contents (map shape_owned parts) b
+      → IsSettled number owners log contents (map shape_any parts) b
   then-settled number contents log same is = subst
-      (λ (l : LogNow). IsSettled number owners l contents (map shape_owned parts) b) (sym same)
-      (settled-now geometry content entries layouts planned parts numbers row b cleared.allowed
+      (λ (l : LogNow). IsSettled number owners l contents (map shape_any parts) b) (sym same)
+      (settled-now geometry content entries parts planned cleared.allowed b
       cleared.of_then cleared.forced_then cleared.long_then cleared.spelled_then then-entries number
-      contents (then-recovers number contents is) owners own cleared.stands)
+      contents (then-recovers number contents is) owners then-own cleared.stands)
 
   pub then-ready : (kept : List BeforeImage) → kept ≡ images_of content.records
       → All (IsPartReady owners kept b) parts
   then-ready kept same =
-      let contents = recovered geometry content entries layouts planned cleared.number a.cur
-      cleared.found in
+      let contents = recovered geometry content entries (map shape_any parts) planned
+      cleared.number areas a.cur cleared.found in
       subst (λ (k : List BeforeImage). All (IsPartReady owners k b) parts) (sym same)
-      (ready-now geometry content entries layouts planned parts numbers row b cleared.allowed
+      (ready-now geometry content entries parts planned cleared.allowed b
       cleared.of_then cleared.forced_then cleared.long_then cleared.spelled_then then-entries
       cleared.number contents (then-recovers cleared.number contents
-      (found-recovers geometry content entries layouts planned cleared.number a.cur
-      cleared.found)) owners own)
+      (found-recovers geometry content entries (map shape_any parts) planned cleared.number areas
+      a.cur cleared.found cleared.allowed)) owners then-own then-known)
 
   pub then-moments : (number : ℕ) (contents : ℕ → Content) (log : LogNow) (d : Seen)
       → log ≡ made geometry content → Recovers geometry number a.cur contents
-      → (IsSettled number owners log contents (map shape_owned parts) b
+      → (IsSettled number owners log contents (map shape_any parts) b
       → Guards b d (λ image. Recovers log.geometry number image contents))
       → Guards a d (λ image. Recovers geometry number image contents)
   then-moments number contents log d same is further =

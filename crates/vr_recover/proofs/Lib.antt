@@ -8,6 +8,11 @@ pub mod Opening
 pub mod Attaching
 pub mod Keeping
 pub mod Shapes
+pub mod Adding
+pub mod Taking
+pub mod Numbering
+pub mod Owning
+pub mod Shown
 pub mod Agreeing
 pub mod Recovery
 pub mod Refusals

@@ -1,11 +1,14 @@
 -- What opening a volume comes to, step by step.
-use Rattle.std.proofs.Common.{◌≡◌, ◌≢◌, ◌⊎◌, ⊎_elim, inl, inr, ℕ, ◌+◌, ◌<◌, ◌≤◌, ◌^◌, Bool, List, []}
-use Rattle.std.proofs.Common.{Option, Some, ◌∷◌, refl, sym, ap, subst, ◌∙◌, arith, map, get_or}
-use Rattle.std.proofs.Common.{IsTrue, false}
-use Rattle.std.specs.Prelude.{All}
+use Rattle.std.proofs.Common.{◌≡◌, ◌⊎◌, ⊎_elim, inl, inr, ℕ, ◌+◌, ◌<◌, ◌^◌, Bool, List, []}
+use Rattle.std.proofs.Common.{Option, Some, None, length, refl, sym, ap, subst, ◌∙◌, arith, map}
+use Rattle.std.proofs.Common.{get_or, IsTrue, false}
+use Rattle.std.specs.Prelude.{All, Contains, slice_get}
+use Rattle.std.specs.Option.{option_map}
+use Rattle.std.proofs.lemmas.Option.{get_or_from_slice_get, slice_get-get_or, slice_get-map}
+use Rattle.std.proofs.lemmas.Option.{slice_get_within}
 use Rattle.vr_types.specs.Blocks.{AllForced, Keeps}
 use Rattle.vr_types.specs.Content.{Content}
-use Rattle.vr_types.specs.Geometry.{IsAllowed}
+use Rattle.vr_types.specs.Geometry.{IsAllowed, area_count}
 use Rattle.vr_types.specs.Image.{Image, block_at}
 use Rattle.vr_types.specs.Moments.{Guards}
 use Rattle.vr_types.specs.Seen.{Left, Seen}
@@ -13,30 +16,32 @@ use Rattle.vr_types.specs.declared.geometry.Geometry.{Geometry}
 use Rattle.vr_types.specs.declared.unit.PartNo.{PartNo}
 use Rattle.vr_types.proofs.CallerLemmas.{guards-keeps, guards-start, guards-then, guards-weaken}
 use Rattle.vr_catalog.specs.Catalog.{entries_in}
+use Rattle.vr_catalog.specs.Definition.{catalog_definition}
 use Rattle.vr_catalog.specs.declared.entry.CatEntry.{CatEntry}
 use Rattle.vr_attach.specs.Header.{header_block}
-use Rattle.vr_attach.specs.Laid.{AreApart, catalog_shape, shape_in}
+use Rattle.vr_attach.specs.Laid.{AreApart, HasArea, catalog_shape, keyed_part, shape_in}
 use Rattle.vr_attach.specs.Owning.{owner_of}
 use Rattle.vr_history.specs.State.{BeforeImage}
-use Rattle.vr_keyed.specs.Owned.{Owned, known_of}
+use Rattle.vr_keyed.specs.Attached.{IsRuleShown}
 use Rattle.vr_log.specs.Content.{Content as LogContent}
 use Rattle.vr_log.specs.LogNow.{IsForced, IsOf, LogNow}
 use Rattle.vr_log.specs.Spells.{Spells}
 use Rattle.vr_log.specs.Standing.{LogStands}
-use Rattle.vr_mount.specs.Areas.{AreOwners}
 use Rattle.vr_mount.specs.Header.{IsHeaderOf, version_in}
-use Rattle.vr_mount.proofs.CallerLemmas.{image-same, owners_stay}
-use Rattle.vr_space.specs.Keyed.{Keyed}
-use Rattle.vr_space.specs.Owners.{Owners}
-use Rattle.vr_space.specs.Part.{IsOn, KeyedShape, Shape, StandsFor, part_no}
-use Rattle.vr_space.proofs.CallerLemmas.{fewer-room}
+use Rattle.vr_mount.proofs.CallerLemmas.{image-same}
+use Rattle.vr_part.specs.Any.{known_any, shape_any}
+use Rattle.vr_part.specs.declared.any.AnyPart.{AnyPart}
+use Rattle.vr_space.specs.Known.{Known}
+use Rattle.vr_space.specs.Part.{IsOn, KeyedShape, Knows, OwnsChain, RelativeShape, Shape, StandsFor}
+use Rattle.vr_space.specs.Part.{part_no}
+use Rattle.vr_space.proofs.CallerLemmas.{fewer-room, rest-sound}
 use Rattle.vr_volume.specs.PutBack.{images_of, lengths_kept}
 use Rattle.vr_volume.specs.Volume.{Recovers}
-use Rattle.vr_recover.specs.Found.{AreAttached, IsFound, IsPartReady, IsPlanned}
-use Rattle.vr_recover.specs.Opening.{InArea, InCatalog, InImages, InLog, InPart, IsDamaged, IsHandedOut}
-use Rattle.vr_recover.specs.Opening.{IsNoVolume, IsOpened, IsRefused}
-use Rattle.vr_recover.specs.Opening.{IsPartOf, IsShownOf, IsVolume, Laid, Own, StaysBy, Twice}
-use Rattle.vr_recover.specs.Opening.{shape_owned}
+use Rattle.vr_recover.specs.Found.{IsFound, IsPartReady, IsPlanned, areas_kept}
+use Rattle.vr_recover.specs.Opening.{AreOwnersBy, HasNoSplit, InArea, InCatalog, InImages, InLog}
+use Rattle.vr_recover.specs.Opening.{InPart, IsDamaged, IsHandedOut, OwnsAreas, shapes_laid}
+use Rattle.vr_recover.specs.Opening.{IsNoVolume, IsOpened, IsPartShown, IsRefused, OfCatalog, OfEntry}
+use Rattle.vr_recover.specs.Opening.{IsShownOf, IsVolume, Twice}
 use Rattle.vr_recover.specs.Undone.{IsLaidPastLog, IsReady, IsUndone}
 use Rattle.vr_recover.specs.declared.open_no.OpenNo.{OpenNo}
 use Rattle.vr_recover.specs.declared.open_no.OpenNo.TheVariants as nos
@@ -44,9 +49,12 @@ use Rattle.vr_recover.specs.declared.open_no.OpenNo.TheVariants.{Damaged, Versio
 use Rattle.vr_recover.specs.declared.open_no.Unserved.{Unserved}
 use Rattle.vr_recover.specs.Images.{CannotGoBack}
 use Rattle.vr_recover.specs.Unserved.{ByCatalog, ByImage, ByLog, IsUnservedOf}
+use Rattle.vr_recover.proofs.Adding.{part-at}
 use Rattle.vr_recover.proofs.Agreeing.{volume-here}
-use Rattle.vr_recover.proofs.Clearing.{laid-all, parts-on, parts-past, shapes-are}
+use Rattle.vr_recover.proofs.Attaching.{entry-then}
+use Rattle.vr_recover.proofs.Clearing.{parts-on, parts-past}
 use Rattle.vr_recover.proofs.Keeping.{all-more}
+use Rattle.vr_recover.proofs.Owning.{owners-reached}
 use Rattle.vr_recover.proofs.Recovery.{found-entries, found-recovers, recovered}
 use Rattle.vr_recover.proofs.Settled.{committed-by}
 use Rattle.vr_recover.proofs.Shapes.{are-laid}
@@ -79,11 +87,13 @@ module _ (a b : Seen) (count : b.count ≡ a.count) (size : b.size ≡ a.size) (
   none-then number none geometry contents is =
       none geometry contents (volume-before number geometry contents is)
 
-  part-of-before : (geometry : Geometry) (part : Keyed) → IsPartOf geometry b part
-      → IsPartOf geometry a part
-  part-of-before geometry part (Own is) = Own is
-  part-of-before geometry part (Laid content stands number laid) = Laid content
-      (subst (λ (i : Image). StandsFor (catalog_shape geometry) i content) cur stands) number laid
+  part-before : (geometry : Geometry) (block rule : ℕ) → IsPartShown geometry b block rule
+      → IsPartShown geometry a block rule
+  part-before geometry block rule (OfCatalog shown) = OfCatalog (subst (λ (i : Image). IsRuleShown
+      (keyed_part geometry 0 0 catalog_definition) 0 (area_count geometry) i block rule) cur shown)
+  part-before geometry block rule (OfEntry content stands shown) = OfEntry content
+      (subst (λ (i : Image). StandsFor (catalog_shape geometry) i content) cur stands)
+      (entry-then geometry (entries_in content) b a block rule cur shown)
 
   shown-before : (geometry : Geometry) (block rule : ℕ) → IsShownOf geometry b block rule
       → IsShownOf geometry a block rule
@@ -92,14 +102,7 @@ module _ (a b : Seen) (count : b.count ≡ a.count) (size : b.size ≡ a.size) (
     damaged = subst (λ (i : Image). Rattle.vr_log.specs.Damage.IsDamagedAt geometry i block) cur
         shown.damaged;
   })
-  shown-before geometry block rule (InPart shown) = InPart (record {
-    part = shown.part;
-    part_of = part-of-before geometry shown.part shown.part_of;
-    area = shown.area;
-    begins = shown.begins;
-    shown = subst (λ (i : Image). Rattle.vr_keyed.specs.Attached.IsRuleShown shown.part shown.area
-        (Rattle.vr_types.specs.Geometry.area_count geometry) i block rule) cur shown.shown;
-  })
+  shown-before geometry block rule (InPart shown) = InPart (part-before geometry block rule shown)
   shown-before geometry block rule (InCatalog shown) = InCatalog (record {
     block_is = shown.block_is;
     rule_is = shown.rule_is;
@@ -129,10 +132,8 @@ module _ (a b : Seen) (count : b.count ≡ a.count) (size : b.size ≡ a.size) (
     catalog = shown.catalog;
     stands = subst (λ (i : Image). StandsFor (catalog_shape geometry) i shown.catalog) cur
         shown.stands;
-    parts = shown.parts;
-    shapes = shown.shapes;
-    damaged = subst (λ (i : Image). CannotGoBack (images_of shown.log.records) shown.parts i) cur
-        shown.damaged;
+    damaged = subst (λ (i : Image). CannotGoBack (images_of shown.log.records)
+        (shapes_laid geometry (entries_in shown.catalog)) i) cur shown.damaged;
   })
 
   has-before : (geometry : Geometry) (block : ℕ) (cause : Unserved)
@@ -222,7 +223,7 @@ module _ (a b : Seen) (count : b.count ≡ a.count) (size : b.size ≡ a.size) (
   refused-before number Memory is = tt
 
   pub opened-before : (number : ℕ) (geometry : Geometry) (entries : List CatEntry)
-      (parts : List Owned) (log : LogNow) (owners : List (Option PartNo)) (now : Seen)
+      (parts : List AnyPart) (log : LogNow) (owners : List (Option PartNo)) (now : Seen)
       → IsOpened number geometry entries parts log owners b now
       → IsOpened number geometry entries parts log owners a now
   opened-before number geometry entries parts log owners now is = (
@@ -232,6 +233,7 @@ module _ (a b : Seen) (count : b.count ≡ a.count) (size : b.size ≡ a.size) (
       undone = is.1.undone;
       stands = is.1.stands;
       ready = is.1.ready;
+      owners_are = is.1.owners_are;
       catalog = is.1.catalog;
       rules = is.1.rules;
       apart = is.1.apart;
@@ -296,18 +298,111 @@ all-guards geometry number contents a d all call = guards-weaken a d
 
 -- ---- what is handed out
 
+-- what parts have by the areas that they keep is the same where these are
+owned-still : (geometry : Geometry) (before parts : List AnyPart) (owners : List (Option PartNo))
+    → map shape_any parts ≡ map shape_any before → areas_kept parts ≡ areas_kept before
+    → AreOwnersBy geometry before owners → AreOwnersBy geometry parts owners
+owned-still geometry before parts owners shapes areas own = record {
+  count = own.count;
+  owned = λ k d below area has.
+      let there = slice_get-get_or parts k d below in
+      let was = part-was k (get_or parts k d) there in
+      subst (λ (s : Shape). get_or owners area None ≡ Some (part_no s)) was.2
+      (owned-at k was.0 was.1 area (has-was (shape_any was.0) (shape_any (get_or parts k d))
+      (known_any was.0) (known_any (get_or parts k d)) area was.2 was.3 has));
+  only = λ part area is.
+      let held = own.only part area is in
+      let now = part-now held.at held.one held.there in
+      record {
+        at = held.at;
+        one = now.0;
+        there = now.1;
+        number = ap part_no now.2 ∙ held.number;
+        has = has-was (shape_any now.0) (shape_any held.one) (known_any now.0)
+            (known_any held.one) area now.2 now.3 held.has;
+      };
+  owns = λ k d below.
+      let there = slice_get-get_or parts k d below in
+      let was = part-was k (get_or parts k d) there in
+      owns-was (shape_any was.0) (shape_any (get_or parts k d)) (known_any was.0)
+      (known_any (get_or parts k d)) was.2 was.3 (owns-at k was.0 was.1);
+}
+  where
+    -- the part at the same place, with its shape and its areas
+    same-at : (xs ys : List AnyPart) → map shape_any xs ≡ map shape_any ys
+        → areas_kept xs ≡ areas_kept ys → (k : ℕ) (one : AnyPart) → slice_get xs k ≡ Some one
+        → (other : AnyPart) × (slice_get ys k ≡ Some other)
+        × (shape_any other ≡ shape_any one) × ((known_any other).areas ≡ (known_any one).areas)
+    same-at xs ys same kept k one there =
+        let other = part-at ys k (shape_any one)
+        (ap (λ (s : List Shape). slice_get s k) (sym same) ∙ slice_get-map shape_any xs k
+        ∙ ap (option_map shape_any) there) in (
+          other.0,
+          other.1,
+          other.2,
+          some-list (sym (slice_get-map (λ (part : AnyPart). (known_any part).areas) ys k
+              ∙ ap (option_map (λ (part : AnyPart). (known_any part).areas)) other.1)
+              ∙ ap (λ (s : List (List ℕ)). slice_get s k) (sym kept)
+              ∙ slice_get-map (λ (part : AnyPart). (known_any part).areas) xs k
+              ∙ ap (option_map (λ (part : AnyPart). (known_any part).areas)) there),
+        )
+      where
+        some-list : {x y : List ℕ} → Some x ≡ Some y → x ≡ y
+        some-list equal = cc
+
+    part-was : (k : ℕ) (one : AnyPart) → slice_get parts k ≡ Some one
+        → (other : AnyPart) × (slice_get before k ≡ Some other)
+        × (shape_any other ≡ shape_any one) × ((known_any other).areas ≡ (known_any one).areas)
+    part-was k one there = same-at parts before shapes areas k one there
+
+    part-now : (k : ℕ) (one : AnyPart) → slice_get before k ≡ Some one
+        → (other : AnyPart) × (slice_get parts k ≡ Some other)
+        × (shape_any other ≡ shape_any one) × ((known_any other).areas ≡ (known_any one).areas)
+    part-now k one there = same-at before parts (sym shapes) (sym areas) k one there
+
+    has-was : (one other : Shape) (here there : Known) (area : ℕ) → one ≡ other
+        → here.areas ≡ there.areas → HasArea geometry other there area
+        → HasArea geometry one here area
+    has-was one other here there area same kept has = subst
+        (λ (s : Shape). HasArea geometry s here area) (sym same) (by other has)
+      where
+        by : (s : Shape) → HasArea geometry s there area → HasArea geometry s here area
+        by (KeyedShape part) has = has
+        by (RelativeShape part) has =
+            subst (λ (list : List ℕ). Contains list area) (sym kept) has
+
+    owns-was : (one other : Shape) (here there : Known) → one ≡ other
+        → here.areas ≡ there.areas → OwnsChain one here owners → OwnsChain other there owners
+    owns-was one other here there same kept owns = by other
+        (subst (λ (s : Shape). OwnsChain s here owners) same owns)
+      where
+        by : (s : Shape) → OwnsChain s here owners → OwnsChain s there owners
+        by (KeyedShape part) owns = tt
+        by (RelativeShape part) owns = owns ∙ ap (λ (list : List ℕ). length list) kept
+
+    owned-at : (k : ℕ) (one : AnyPart) → slice_get before k ≡ Some one
+        → OwnsAreas geometry owners one
+    owned-at k one there = subst (OwnsAreas geometry owners)
+        (get_or_from_slice_get before k one one there)
+        (own.owned k one (slice_get_within before k one there))
+
+    owns-at : (k : ℕ) (one : AnyPart) → slice_get before k ≡ Some one
+        → OwnsChain (shape_any one) (known_any one) owners
+    owns-at k one there = subst
+        (λ (part : AnyPart). OwnsChain (shape_any part) (known_any part) owners)
+        (get_or_from_slice_get before k one one there)
+        (own.owns k one (slice_get_within before k one there))
+
 module _ (geometry : Geometry) (content : LogContent) (entries : List CatEntry)
-    (layouts : List Keyed) (planned : IsPlanned geometry content entries layouts)
-    (before parts : List Owned) (numbers : List PartNo)
-    (row : AreAttached before layouts numbers)
-    (same : map shape_owned parts ≡ map shape_owned before) where
-  pub handed-out : (log : LogNow) (owners : List (Option PartNo))
-      (now : Seen) → IsAllowed geometry → IsOf geometry now → log.geometry ≡ geometry
+    (before parts : List AnyPart) (allowed : IsAllowed geometry)
+    (planned : IsPlanned geometry content entries (map shape_any before))
+    (same : map shape_any parts ≡ map shape_any before)
+    (areas : areas_kept parts ≡ areas_kept before) (owners : List (Option PartNo))
+    (own : AreOwnersBy geometry before owners) where
+  pub handed-out : (log : LogNow) (now : Seen) → IsOf geometry now → log.geometry ≡ geometry
       → log.broken ≡ false → IsForced log → log.records ≡ [] → log.generation < 2 ^ 63 + 1
-      → All (λ (keyed : Owned). keyed.split ≡ Rattle.std.proofs.Common.None) parts
-      → AreOwners geometry entries owners
-      → IsHandedOut geometry entries parts log owners now
-  handed-out log owners now allowed of is sound forced records low split owned = record {
+      → All HasNoSplit parts → IsHandedOut geometry entries parts log owners now
+  handed-out log now of is sound forced records low split = record {
     allowed = allowed;
     shape = of;
     log_is = is;
@@ -315,62 +410,63 @@ module _ (geometry : Geometry) (content : LogContent) (entries : List CatEntry)
     forced = forced;
     records = records;
     generation = low;
-    distinct = planned.distinct;
+    distinct = planned.may.distinct;
     clusters = planned.clusters;
-    shapes = same ∙ shapes-are geometry content entries layouts planned before numbers row;
-    laid = are-laid geometry entries planned.distinct;
+    shapes = same ∙ planned.shapes_are;
+    laid = are-laid geometry entries planned.may.distinct;
     on = subst (All (λ (shape : Shape). IsOn shape now)) (sym same)
-        (parts-on geometry content entries layouts planned before numbers row now of);
+        (parts-on geometry content entries before planned allowed now of);
     past = subst (All (IsLaidPastLog geometry)) (sym same)
-        (parts-past geometry content entries layouts planned before numbers row);
-    within = subst (All (StaysBy geometry owners)) (sym same)
-        (all-more
-        (λ (shape : Shape). shape_in geometry entries (part_no shape).0 ≡ Some shape)
-        (StaysBy geometry owners)
-        (λ shape laid. owners_stay geometry entries owners owned (part_no shape).0 shape laid)
-        (map shape_owned before)
-        (laid-all geometry content entries layouts planned before numbers row));
+        (parts-past geometry content entries before planned allowed);
     split = split;
-    owners_are = owned;
+    owners_are = owned-still geometry before parts owners same areas own;
   }
 
-  ready-free : (owners : Owners) (kept : List BeforeImage) (now : Seen) (keyed : Owned)
-      → IsPartReady owners kept now keyed
-      → IsReady (shape_owned keyed) owners (known_of keyed) [] now
-  ready-free owners kept now keyed ready = record {
+  ready-free : (kept : List BeforeImage) (now : Seen) (part : AnyPart)
+      → IsPartReady (owner_of geometry owners) kept now part
+      → IsReady (shape_any part) (owner_of geometry owners) (known_any part) [] now
+  ready-free kept now part ready = record {
     rests = ready.rests;
-    room = fewer-room (shape_owned keyed) owners [] (lengths_kept kept keyed.part.part) now tt
-        (ready.rests.0.sound, ready.rests.1) ready.room;
+    room = fewer-room (shape_any part) (owner_of geometry owners) []
+        (lengths_kept kept (part_no (shape_any part)).0) now tt
+        (rest-sound (shape_any part) (owner_of geometry owners) now ready.rests) ready.room;
     knows = ready.knows;
     no_split = ready.no_split;
   }
 
-  pub opened-by : (number : ℕ) (log : LogNow) (owners : List (Option PartNo))
-      (kept : List BeforeImage) (a now : Seen)
-      → IsAllowed geometry → IsOf geometry a → AllForced a.count a.cur a.may
-      → IsFound geometry number content entries layouts a.cur
+  pub opened-by : (number : ℕ) (log : LogNow) (kept : List BeforeImage) (a now : Seen)
+      → IsOf geometry a → AllForced a.count a.cur a.may
+      → IsFound geometry number content entries (map shape_any before) owners a.cur
       → ((contents : ℕ → Content) → Recovers geometry number a.cur contents
       → IsUndone number (owner_of geometry owners) log contents now)
       → LogStands log now → All (IsPartReady (owner_of geometry owners) kept now) parts
       → IsOpened number geometry entries parts log owners a now
-  opened-by number log owners kept a now allowed of forced found undone stands ready =
-      let contents = recovered geometry content entries layouts planned number a.cur found in
-      let is = found-recovers geometry content entries layouts planned number a.cur found in
+  opened-by number log kept a now of forced found undone stands ready =
+      let shapes = map shape_any before in
+      let contents = recovered geometry content entries shapes planned number owners a.cur found in
+      let is = found-recovers geometry content entries shapes planned number owners a.cur found
+      allowed in
       let committed = committed-by geometry number a contents is of forced in
-      let same : entries ≡ entries_in (contents 0) =
-      found-entries geometry content entries layouts planned number a.cur found in (
+      let same-entries : entries ≡ entries_in (contents 0) =
+      found-entries geometry content entries shapes planned number owners a.cur found in (
         contents,
         record {
           volume = record { allowed = allowed; shape = of; recovers = is };
           undone = undone contents is;
           stands = stands;
           ready = all-more (IsPartReady (owner_of geometry owners) kept now)
-              (λ (keyed : Owned). IsReady (shape_owned keyed) (owner_of geometry owners)
-              (known_of keyed) [] now)
-              (λ keyed one. ready-free (owner_of geometry owners) kept now keyed one) parts ready;
-          catalog = same;
+              (λ (part : AnyPart). IsReady (shape_any part) (owner_of geometry owners)
+              (known_any part) [] now)
+              (λ part one. ready-free kept now part one) parts ready;
+          owners_are = owners-reached geometry entries parts owners planned.may.distinct
+              (same ∙ planned.shapes_are)
+              (owned-still geometry before parts owners same areas own) now
+              (all-more (IsPartReady (owner_of geometry owners) kept now)
+              (λ (part : AnyPart). Knows (shape_any part) (known_any part) now)
+              (λ part one. one.knows) parts ready);
+          catalog = same-entries;
           rules = committed.catalog;
-          apart = subst (λ (es : List CatEntry). AreApart (shape_in geometry es)) same
+          apart = subst (λ (es : List CatEntry). AreApart (shape_in geometry es)) same-entries
               planned.apart;
           ascends = committed.each;
           others = committed.others;

@@ -1,37 +1,33 @@
 -- What was found recovers, and does so still where only blocks of the log changed.
-use Rattle.std.proofs.Common.{◌≡◌, ℕ, ◌<◌, List, [], ◌∷◌, Option, Some, None}
-use Rattle.std.proofs.Common.{refl, sym, ap, subst, ◌∙◌, arith, map, get_or}
-use Rattle.std.specs.Prelude.{All, IfSome, slice_get}
-use Rattle.std.specs.Option.{option_and_then, option_map}
-use Rattle.std.proofs.lemmas.Option.{get_or_from_slice_get, slice_get-map}
+use Rattle.std.proofs.Common.{◌≡◌, ℕ, ◌<◌, List, [], Option, Some, None}
+use Rattle.std.proofs.Common.{refl, sym, ap, subst, ◌∙◌, arith, get_or}
+use Rattle.std.specs.Prelude.{All, slice_get}
+use Rattle.std.proofs.lemmas.Option.{get_or_from_slice_get}
 use Rattle.std.proofs.lemmas.Option.{slice_get_within}
-use Rattle.vr_types.specs.Content.{Content, record_of}
+use Rattle.vr_types.specs.Content.{Content}
 use Rattle.vr_types.specs.Geometry.{IsAllowed}
 use Rattle.vr_types.specs.Image.{Image, block_at}
 use Rattle.vr_types.specs.declared.geometry.Geometry.{Geometry}
+use Rattle.vr_types.specs.declared.unit.PartNo.{PartNo}
 use Rattle.vr_catalog.specs.Catalog.{entries_in}
 use Rattle.vr_catalog.specs.declared.entry.CatEntry.{CatEntry}
 use Rattle.vr_attach.specs.CatalogRules.{IsCatalog}
 use Rattle.vr_attach.specs.Laid.{catalog_shape, shape_by, shape_in}
+use Rattle.vr_attach.specs.Owning.{owner_of}
 use Rattle.vr_history.specs.State.{BeforeImage}
 use Rattle.vr_log.specs.Content.{Content as LogContent}
 use Rattle.vr_log.specs.Spells.{Spells}
 use Rattle.vr_log.specs.Standing.{InLog}
-use Rattle.vr_mount.specs.Areas.{EndsBefore}
-use Rattle.vr_mount.proofs.Laying.{IsAt, shape_at}
-use Rattle.vr_space.specs.Keyed.{Keyed}
-use Rattle.vr_space.specs.Owners.{Owners}
-use Rattle.vr_space.specs.Part.{HasRoom, IsPlaceOf, IsRecordOf, KeyedShape, Shape}
-use Rattle.vr_space.specs.Part.{Stands, StandsFor, part_no}
+use Rattle.vr_space.specs.Part.{HasRoom, Shape, Stands, StandsFor, part_no}
 use Rattle.vr_volume.specs.PutBack.{images_of, lengths_kept, put_back}
-use Rattle.vr_volume.specs.Volume.{CanPutBack, IsInside, Recovers, catalog_back, shapes_by}
-use Rattle.vr_mount.proofs.CallerLemmas.{AreSame, OwnParts, rooms-same, some-own, stands-same}
+use Rattle.vr_volume.specs.Volume.{CanPutBack, Recovers, catalog_back, shapes_by}
+use Rattle.vr_mount.proofs.CallerLemmas.{AreSame, OwnParts, areas-own, rooms-same, stands-same}
 use Rattle.vr_mount.proofs.CallerLemmas.{stays-same}
 use Rattle.vr_recover.specs.Found.{HasRoomOf, IsFound, IsPlanned}
-use Rattle.vr_recover.specs.Opening.{shapes_laid}
 use Rattle.vr_recover.specs.Undone.{FitsPart, HasPart}
 use Rattle.vr_recover.proofs.Agreeing.{off-back}
-use Rattle.vr_recover.proofs.Shapes.{each-laid, laid-number, laid-there}
+use Rattle.vr_recover.proofs.Numbering.{inside-of}
+use Rattle.vr_recover.proofs.Shapes.{laid-number, laid-there, shape-laid}
 
 some-shape : (x y : Shape) → Some x ≡ Some y → x ≡ y
 some-shape x y same = cc
@@ -40,65 +36,41 @@ no-shape : (x : Shape) → Some x ≡ None → ⊥
 no-shape x same = cc
 
 module _ (geometry : Geometry) (content : LogContent) (entries : List CatEntry)
-    (layouts : List Keyed) (planned : IsPlanned geometry content entries layouts) where
+    (shapes : List Shape) (planned : IsPlanned geometry content entries shapes) where
   abbrev pub images : List BeforeImage
   images = images_of content.records
 
   -- each part that is laid is one of these
-  pub record IsAmong (shape : Shape) : Type 0 where
-    pub at : ℕ
-    pub part : Keyed
-    pub there : slice_get layouts at ≡ Some part
-    pub shape_is : shape ≡ KeyedShape part
-
-  among-at : (at : ℕ) (shape : Shape) (o : Option Keyed) → slice_get layouts at ≡ o
-      → option_map KeyedShape o ≡ Some shape → IsAmong shape
-  among-at at shape None is same = absurd cc
-  among-at at shape (Some part) is same = record {
-    at = at;
-    part = part;
-    there = is;
-    shape_is = sym (some-shape (KeyedShape part) shape same);
-  }
-
-  among-map : (at : ℕ) (shape : Shape) → slice_get (map KeyedShape layouts) at ≡ Some shape
-      → IsAmong shape
-  among-map at shape there = among-at at shape (slice_get layouts at) refl
-      (sym (slice_get-map KeyedShape layouts at) ∙ there)
-
   pub among : (part : ℕ) (shape : Shape) → shape_in geometry entries part ≡ Some shape
-      → IsAmong shape
+      → (at : ℕ) × (slice_get shapes at ≡ Some shape)
   among part shape laid =
-      let there = laid-there geometry entries planned.distinct part shape laid in
-      among-map there.0 shape
-      (ap (λ (s : List Shape). slice_get s there.0) planned.shapes ∙ there.1)
+      let there = laid-there geometry entries planned.may.distinct part shape laid in
+      (there.0, ap (λ (s : List Shape). slice_get s there.0) planned.shapes_are ∙ there.1)
 
-  -- what all of them have, one that is laid has
-  pub at-among : (P : Keyed → Type 0) → All P layouts → (shape : Shape) (one : IsAmong shape)
-      → P one.part
-  at-among P all shape one = subst P
-      (get_or_from_slice_get layouts one.at one.part one.part one.there)
-      (all one.at one.part (slice_get_within layouts one.at one.part one.there))
+  -- what all of them have, one has
+  pub at-one : (P : Shape → Type 0) → All P shapes → (at : ℕ) (shape : Shape)
+      → slice_get shapes at ≡ Some shape → P shape
+  at-one P all at shape there = subst P
+      (get_or_from_slice_get shapes at shape shape there)
+      (all at shape (slice_get_within shapes at shape there))
 
   -- and each of these is laid
-  pub listed : (at : ℕ) (shape : Shape) → slice_get (map KeyedShape layouts) at ≡ Some shape
+  pub listed : (at : ℕ) (shape : Shape) → slice_get shapes at ≡ Some shape
       → shape_in geometry entries (part_no shape).0 ≡ Some shape
-  listed at shape there =
-      let here : slice_get (shapes_laid geometry entries) at ≡ Some shape =
-      ap (λ (s : List Shape). slice_get s at) (sym planned.shapes) ∙ there in
-      subst (λ (s : Shape). shape_in geometry entries (part_no s).0 ≡ Some s)
-      (get_or_from_slice_get (shapes_laid geometry entries) at shape shape here)
-      (each-laid geometry entries planned.distinct at shape
-      (slice_get_within (shapes_laid geometry entries) at shape here))
+  listed at shape there = shape-laid geometry entries planned.may.distinct at shape
+      (ap (λ (s : List Shape). slice_get s at) (sym planned.shapes_are) ∙ there)
 
-  module _ (number : ℕ) (image : Image)
-      (found : IsFound geometry number content entries layouts image) where
+  module _ (number : ℕ) (owners : List (Option PartNo)) (image : Image)
+      (found : IsFound geometry number content entries shapes owners image) where
     pub stand-of : (part : ℕ) (shape : Shape) → shape_in geometry entries part ≡ Some shape
         → Stands shape image
     stand-of part shape laid =
         let one = among part shape laid in
-        subst (λ (s : Shape). Stands s image) (sym one.shape_is)
-        (at-among (λ (p : Keyed). Stands (KeyedShape p) image) found.stand shape one)
+        at-one (λ (s : Shape). Stands s image) found.stand one.0 shape one.1
+
+    -- the parts stay in the areas that are theirs
+    pub found-own : OwnParts geometry entries (owner_of geometry owners) image
+    found-own = areas-own geometry entries owners image found.owned stand-of
 
     abbrev pub held : (part : ℕ) (o : Option Shape) → shape_in geometry entries part ≡ o → Content
     held part None is = []
@@ -133,62 +105,40 @@ module _ (geometry : Geometry) (content : LogContent) (entries : List CatEntry)
     laid-same part = ap (λ (c : Content). shape_by geometry c part) catalog-same
         ∙ ap (λ (es : List CatEntry). shape_in geometry es part) (sym entries-same)
 
-    inside-at : (a : ℕ) (part : Keyed) → IsAt geometry a (KeyedShape part)
-        → EndsBefore geometry.blocks (KeyedShape part) → IsInside geometry (KeyedShape part)
-    inside-at a part at ends = (ends, at.2)
-
-    inside-of : (part : ℕ) (shape : Shape) → shape_in geometry entries part ≡ Some shape
-        → IsInside geometry shape
-    inside-of part shape laid =
-        let one = among part shape laid in
-        let at = shape_at geometry entries part shape laid in
-        subst (IsInside geometry) (sym one.shape_is)
-        (inside-at at.0 one.part (subst (IsAt geometry at.0) one.shape_is at.2)
-        (subst (EndsBefore geometry.blocks) one.shape_is (planned.on part shape laid)))
-
-    can-at : (one : BeforeImage) (at : ℕ) (shape : Shape) (mine : IsAmong shape)
-        → slice_get (map KeyedShape layouts) at ≡ Some shape → one.part ≡ (part_no shape).0
-        → FitsPart (KeyedShape mine.part) one
+    can-at : (one : BeforeImage) (at : ℕ) (shape : Shape) → slice_get shapes at ≡ Some shape
+        → one.part ≡ (part_no shape).0 → FitsPart shape one
         → CanPutBack (shapes_by geometry content contents) one
-    can-at one at shape mine there number-is fit =
-        let fits = fit (number-is ∙ ap (λ (s : Shape). (part_no s).0) mine.shape_is) in
+    can-at one at shape there number-is fit =
+        let fits = fit number-is in
         record {
           shape = shape;
           laid = ap (shapes_by geometry content contents) number-is
               ∙ laid-same (part_no shape).0 ∙ listed at shape there;
-          place = subst (λ (s : Shape). IsPlaceOf s one.place) (sym mine.shape_is) fits.place;
-          old = subst (λ (s : Shape). IfSome (option_and_then record_of one.old)
-              (IsRecordOf s one.place)) (sym mine.shape_is) fits.old;
+          place = fits.place;
+          old = fits.old;
         }
 
     can-back : All (CanPutBack (shapes_by geometry content contents)) images
     can-back k d below =
         let one = get_or images k d in
-        let has : HasPart (map KeyedShape layouts) one.part = planned.back.covered k d below in
-        let mine = among-map has.0 has.1 has.2 in
-        can-at one has.0 has.1 mine has.2 has.3
-        (at-among (λ (p : Keyed). All (FitsPart (KeyedShape p)) images) planned.back.fits has.1
-        mine k d below)
+        let has : HasPart shapes one.part = planned.back.covered k d below in
+        can-at one has.0 has.1 has.2 has.3
+        (at-one (λ (s : Shape). All (FitsPart s) images) planned.back.fits has.0 has.1 has.2 k d
+        below)
 
     room-at : (part : ℕ) (shape : Shape) → shape_in geometry entries part ≡ Some shape
         → HasRoom shape (lengths_kept images part) image
     room-at part shape laid =
         let one = among part shape laid in
-        let number-is : one.part.part ≡ part =
-        ap (λ (s : Shape). (part_no s).0) (sym one.shape_is)
-        ∙ laid-number geometry entries planned.distinct part shape laid in
-        subst (λ (s : Shape). HasRoom s (lengths_kept images part) image) (sym one.shape_is)
-        (subst (λ (n : ℕ). HasRoom (KeyedShape one.part) (lengths_kept images n) image) number-is
-        (at-among (HasRoomOf images image) found.rooms shape one))
+        subst (λ (n : ℕ). HasRoom shape (lengths_kept images n) image)
+        (laid-number geometry entries planned.may.distinct part shape laid)
+        (at-one (HasRoomOf images image) found.rooms one.0 shape one.1)
 
     abbrev pub recovered : ℕ → Content
     recovered part = put_back part images (contents part)
 
-    owned : (owners : Owners) × OwnParts geometry entries owners
-    owned = some-own geometry entries planned.apart
-
-    pub found-recovers : Recovers geometry number image recovered
-    found-recovers = record {
+    pub found-recovers : IsAllowed geometry → Recovers geometry number image recovered
+    found-recovers allowed = record {
       log = content;
       contents = contents;
       stands = record {
@@ -196,15 +146,16 @@ module _ (geometry : Geometry) (content : LogContent) (entries : List CatEntry)
         log_is = found.spelled;
         catalog = subst (IsCatalog geometry) (sym catalog-same)
             (found.entries_are (contents 0) catalog-stands).1;
-        owners = owned.0;
-        past = owned.1.past;
+        owners = owner_of geometry owners;
+        past = found-own.past;
         laid = λ part shape is. held-stands part (shape_in geometry entries part) refl shape
             (sym (laid-same part) ∙ is);
-        within = λ part shape is. owned.1.within part shape (sym (laid-same part) ∙ is) image;
+        within = λ part shape is. found-own.within part shape (sym (laid-same part) ∙ is);
         others = λ part is. none-held part (shape_in geometry entries part) refl
             (sym (laid-same part) ∙ is);
       };
-      inside = λ part shape is. inside-of part shape (sym (laid-same part) ∙ is);
+      inside = λ part shape is. inside-of geometry entries allowed planned.may part shape
+          (sym (laid-same part) ∙ is);
       images = can-back;
       alone = planned.back.alone;
       room = λ part shape is. room-at part shape (sym (laid-same part) ∙ is);

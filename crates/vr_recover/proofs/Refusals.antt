@@ -1,8 +1,8 @@
 -- What is shown as a volume is opened refuses it.
-use Rattle.std.proofs.Common.{◌≡◌, ⊎_elim, inl, inr, ℕ, ◌<◌, ◌≤◌, Bool, true, false}
+use Rattle.std.proofs.Common.{◌≡◌, ⊎_elim, inr, ℕ, ◌<◌, ◌≤◌, Bool, true, false}
 use Rattle.std.proofs.Common.{List, [], ◌∷◌, Option, Some, None, length, refl, sym, ap, subst, ◌∙◌}
-use Rattle.std.proofs.Common.{arith, cond, map, get_or}
-use Rattle.std.specs.Prelude.{All, nat_eq}
+use Rattle.std.proofs.Common.{arith, cond, get_or}
+use Rattle.std.specs.Prelude.{All, nat_eq, slice_get}
 use Rattle.std.specs.List.{IsDistinct, cons_option, filter_map}
 use Rattle.std.specs.Option.{option_and_then}
 use Rattle.std.proofs.lemmas.Bool.{eqb-true}
@@ -15,13 +15,10 @@ use Rattle.vr_types.specs.Seen.{Left, Seen}
 use Rattle.vr_types.specs.declared.geometry.Geometry.{Geometry}
 use Rattle.vr_types.proofs.CallerLemmas.{block_size_least}
 use Rattle.vr_catalog.specs.Catalog.{entries_in, parts_in}
-use Rattle.vr_catalog.specs.Definition.{catalog_definition}
 use Rattle.vr_catalog.specs.declared.entry.CatEntry.{CatEntry}
 use Rattle.vr_attach.specs.Header.{header_block}
-use Rattle.vr_attach.specs.Laid.{AreApart, catalog_shape, keyed_part, shape_in, shape_of}
+use Rattle.vr_attach.specs.Laid.{AreApart, catalog_shape, shape_in, shape_of}
 use Rattle.vr_history.specs.State.{BeforeImage}
-use Rattle.vr_keyed.specs.Lent.{ArePlaces}
-use Rattle.vr_keyed.specs.Owned.{Owned}
 use Rattle.vr_log.specs.Content.{Content as LogContent}
 use Rattle.vr_log.specs.Live.{live_in}
 use Rattle.vr_log.specs.LogNow.{IsOf}
@@ -31,17 +28,15 @@ use Rattle.vr_log.specs.declared.record.LogRecord.TheVariants.{Before, End}
 use Rattle.vr_log.proofs.CallerLemmas.{damaged_none}
 use Rattle.vr_mount.specs.Areas.{AreOn}
 use Rattle.vr_mount.specs.Header.{IsHeaderOf}
-use Rattle.vr_mount.proofs.CallerLemmas.{on_blocks}
-use Rattle.vr_mount.proofs.Telling.{all_mapped, mapped_all}
-use Rattle.vr_space.specs.Keyed.{Keyed}
-use Rattle.vr_space.specs.Part.{IsOn, KeyedShape, Shape, Stands, StandsFor}
-use Rattle.vr_volume.specs.PutBack.{image_in, images_of, length_in, length_of, lengths_kept}
+use Rattle.vr_space.specs.Part.{IsOn, IsPlaceOf, Shape, Stands, StandsFor, part_no}
+use Rattle.vr_volume.specs.PutBack.{image_in, images_of, length_in, length_of}
 use Rattle.vr_volume.specs.Volume.{Recovers}
 use Rattle.vr_recover.specs.Found.{AreEntriesOf, AreOff, AtAreas, AtCatalog, AtPart}
-use Rattle.vr_recover.specs.Found.{AllStand, HasRoomOf, IsLaidShown, IsLogNo, ShowsBoth}
-use Rattle.vr_recover.specs.Found.{IsBackNo, IsMountShown, Misspelled, ShowsOnly}
+use Rattle.vr_recover.specs.Found.{AllStand, AreItsPlaces, IsBackNo, IsLogNo, MayAdd}
+use Rattle.vr_recover.specs.Found.{IsMountShown, Misspelled, ShowsBoth, ShowsOnly}
+use Rattle.vr_recover.specs.Images.{CannotGoBack}
 use Rattle.vr_recover.specs.Opening.{InArea, InCatalog, InImages, InLog, InPart, IsDamaged, IsLogShown}
-use Rattle.vr_recover.specs.Opening.{IsPartOf, IsRefused, IsShownOf, Laid, Own, Twice}
+use Rattle.vr_recover.specs.Opening.{IsEntryShown, IsRefused, IsShownOf, OfCatalog, OfEntry, Twice}
 use Rattle.vr_recover.specs.Opening.{shapes_laid}
 use Rattle.vr_recover.specs.Unserved.{ByCatalog, ByImage, ByLog, IsCatalogUnserved, IsLogUnserved}
 use Rattle.vr_recover.specs.Unserved.{IsUnserved, IsUnservedOf}
@@ -53,16 +48,9 @@ use Rattle.vr_recover.specs.declared.open_no.Unserved.{Unserved}
 use Rattle.vr_recover.specs.declared.open_no.Unserved.TheVariants.{CatalogImage}
 use Rattle.vr_recover.proofs.Attaching.{shows-both}
 use Rattle.vr_recover.proofs.Agreeing.{goes-back, has-rooms, mount-none, no-volume}
-use Rattle.vr_recover.proofs.Shapes.{entry-laid, layout-laid}
+use Rattle.vr_recover.proofs.Numbering.{on-of}
+use Rattle.vr_recover.proofs.Shapes.{shape-laid}
 use Rattle.vr_recover.proofs.Settled.{with-all}
-
--- ---- the parts
-
-pub all-parts : (P : Keyed → Type 0) (parts : List Owned) (layouts : List Keyed)
-    → map (λ (keyed : Owned). keyed.part) parts ≡ layouts → All P layouts
-    → All (λ (keyed : Owned). P keyed.part) parts
-all-parts P parts layouts row all = mapped_all (λ (keyed : Owned). keyed.part) P parts
-    (subst (All P) (sym row) all)
 
 -- ---- a log that isn't served
 
@@ -145,28 +133,9 @@ module _ (number : ℕ) (geometry : Geometry) (now : Seen) (allowed : IsAllowed 
         one → entries_in one ≡ entries
     entries-as entries are one stands = sym (are one stands).0
 
-    -- the part of an entry is one that the catalog's blocks lay
-    part-of : {block rule : ℕ} (shown : IsLaidShown geometry now block rule)
-        → IsPartOf geometry now shown.shown.shown.part
-    part-of shown =
-        let of = shown.shown in
-        let laid : shape_in geometry shown.entries of.entry.part.0 ≡ Some (KeyedShape of.shown.part) =
-        entry-laid geometry shown.entries shown.are.distinct of.at of.entry
-        (KeyedShape of.shown.part) of.there of.shown.laid in
-        Laid shown.stands.0 shown.stands.1 of.entry.part.0
-        (subst (λ (es : List CatEntry). shape_in geometry es of.entry.part.0
-        ≡ Some (KeyedShape of.shown.part))
-        (shown.are.entries_are shown.stands.0 shown.stands.1).0 laid)
-
     shown-as : (block rule : ℕ) → IsMountShown geometry now block rule
         → IsShownOf geometry now block rule
-    shown-as block rule (AtCatalog shown) = InPart (record {
-      part = keyed_part geometry 0 0 catalog_definition;
-      part_of = Own refl;
-      area = 0;
-      begins = refl;
-      shown = shown;
-    })
+    shown-as block rule (AtCatalog shown) = InPart (OfCatalog shown)
     shown-as block rule (Misspelled shown) = InCatalog shown
     shown-as block rule (AtAreas shown) = ⊎_elim
         (λ past. InArea (record {
@@ -183,13 +152,9 @@ module _ (number : ℕ) (geometry : Geometry) (now : Seen) (allowed : IsAllowed 
               (entries-as shown.entries shown.are.entries_are one stands) apart);
         }))
         shown.shown.1
-    shown-as block rule (AtPart shown) = InPart (record {
-      part = shown.shown.shown.part;
-      part_of = part-of shown;
-      area = shown.shown.shown.area;
-      begins = shown.shown.shown.begins;
-      shown = shown.shown.shown.shown;
-    })
+    shown-as block rule (AtPart shown) = InPart (OfEntry shown.stands.0 shown.stands.1
+        (subst (λ (es : List CatEntry). IsEntryShown geometry es now block rule)
+        (shown.are.entries_are shown.stands.0 shown.stands.1).0 shown.shown))
 
     pub mount-refused : (answer : OpenNo)
         → ShowsBoth (IsMountShown geometry now) (IsCatalogUnserved geometry now) answer
@@ -207,21 +172,20 @@ module _ (number : ℕ) (geometry : Geometry) (now : Seen) (allowed : IsAllowed 
 
     module _ (entries : List CatEntry) (are : AreEntriesOf geometry now.cur entries)
         (distinct : IsDistinct nat_eq (0 ∷ parts_in entries))
-        (stands : Stands (catalog_shape geometry) now.cur) (layouts : List Keyed)
-        (shapes : map KeyedShape layouts ≡ shapes_laid geometry entries) (parts : List Owned)
-        (row : map (λ (keyed : Owned). keyed.part) parts ≡ layouts) where
+        (stands : Stands (catalog_shape geometry) now.cur) (shapes : List Shape)
+        (laid : shapes ≡ shapes_laid geometry entries) where
       back-none : (block rule : ℕ)
-          → IsBackNo (images_of content.records) layouts parts now.cur block rule
+          → IsBackNo (images_of content.records) shapes now.cur block rule
           → (recovered : ℕ → Content) → Recovers geometry number now.cur recovered → ⊥
       back-none block rule shown recovered is = ⊎_elim
           (λ back. back (goes-back geometry number now.cur recovered is content long spelled off
-          entries are distinct layouts shapes))
+          entries are distinct shapes laid))
           (λ room. room (has-rooms geometry number now.cur recovered is content long spelled off
-          entries are distinct layouts shapes parts row))
+          entries are distinct shapes laid))
           shown.2
 
       pub back-refused : (answer : OpenNo)
-          → ShowsOnly (IsBackNo (images_of content.records) layouts parts now.cur) answer
+          → ShowsOnly (IsBackNo (images_of content.records) shapes now.cur) answer
           → IsRefused number now answer
       back-refused (Damaged block rule) shown =
           damaged-of block rule (back-none block rule shown)
@@ -232,11 +196,8 @@ module _ (number : ℕ) (geometry : Geometry) (now : Seen) (allowed : IsAllowed 
             spelled = spelled;
             catalog = stands.0;
             stands = stands.1;
-            parts = layouts;
-            shapes = shapes ∙ ap (shapes_laid geometry) (are stands.0 stands.1).0;
-            damaged = ⊎_elim (λ back. inl back)
-                (λ room. inr (λ all. room (all-parts (HasRoomOf (images_of content.records) now.cur)
-                parts layouts row all))) shown.2;
+            damaged = subst (λ (ss : List Shape). CannotGoBack (images_of content.records) ss now.cur)
+                (laid ∙ ap (shapes_laid geometry) (are stands.0 stands.1).0) shown.2;
           }))
       back-refused (Version found) shown = absurd shown
       back-refused (nos.Unserved block cause) shown = absurd shown
@@ -245,57 +206,54 @@ module _ (number : ℕ) (geometry : Geometry) (now : Seen) (allowed : IsAllowed 
       back-refused Memory shown = tt
 
 -- the first of the parts that are laid is the catalog's own
-pub layouts-stand : (geometry : Geometry) (entries : List CatEntry) (layouts : List Keyed)
-    (image : Image) → map KeyedShape layouts ≡ shapes_laid geometry entries
-    → AllStand layouts image → Stands (catalog_shape geometry) image
-layouts-stand geometry entries [] image shapes all = absurd cc
-layouts-stand geometry entries (first ∷ rest) image shapes all =
-    subst (λ (s : Shape). Stands s image) (first-is (KeyedShape first) (catalog_shape geometry)
-    (map KeyedShape rest) (filter_map (shape_of geometry) entries) shapes)
-    (All-head (λ (part : Keyed). Stands (KeyedShape part) image) first rest all)
-  where
-    first-is : (x y : Shape) (xs ys : List Shape) → x ∷ xs ≡ y ∷ ys → x ≡ y
-    first-is x y xs ys same = cc
+pub shapes-stand : (geometry : Geometry) (entries : List CatEntry) (shapes : List Shape)
+    (image : Image) → shapes ≡ shapes_laid geometry entries → AllStand shapes image
+    → Stands (catalog_shape geometry) image
+shapes-stand geometry entries shapes image laid all =
+    All-head (λ (shape : Shape). Stands shape image) (catalog_shape geometry)
+    (filter_map (shape_of geometry) entries)
+    (subst (λ (ss : List Shape). AllStand ss image) laid all)
 
-pub layouts-on : (geometry : Geometry) (entries : List CatEntry) (layouts : List Keyed) (now : Seen)
-    → IsOf geometry now → map KeyedShape layouts ≡ shapes_laid geometry entries
-    → IsDistinct nat_eq (0 ∷ parts_in entries) → AreOn geometry entries
-    → All (λ (part : Keyed). IsOn (KeyedShape part) now) layouts
-layouts-on geometry entries layouts now of shapes distinct on k d below =
-    let part = get_or layouts k d in
-    on_blocks geometry entries now of on part.part part
-    (layout-laid geometry entries distinct layouts shapes k part
-    (slice_get-get_or layouts k d below))
+-- ---- the parts are on blocks that there are
+
+pub shapes-on : (geometry : Geometry) (entries : List CatEntry) (shapes : List Shape) (now : Seen)
+    → IsAllowed geometry → IsOf geometry now → MayAdd geometry entries
+    → shapes ≡ shapes_laid geometry entries → All (λ (shape : Shape). IsOn shape now) shapes
+shapes-on geometry entries shapes now allowed of may laid k d below =
+    let shape = get_or shapes k d in
+    on-of geometry entries allowed may now of (part_no shape).0 shape
+    (shape-laid geometry entries may.distinct k shape
+    (ap (λ (ss : List Shape). slice_get ss k) (sym laid) ∙ slice_get-get_or shapes k d below))
 
 -- ---- what is kept
 
-module _ (part : Keyed) where
+module _ (shape : Shape) where
   abbrev IsPlace : List ℕ × ℕ → Type 0
-  IsPlace entry = length entry.0 ≡ part.key
+  IsPlace entry = IsPlaceOf shape entry.0
 
-  fit-places : (images : List BeforeImage) → All (FitsPart (KeyedShape part)) images
-      → All IsPlace (filter_map (length_in part.part) images)
+  fit-places : (images : List BeforeImage) → All (FitsPart shape) images
+      → All IsPlace (filter_map (length_in (part_no shape).0) images)
   fit-places [] all = All-nil IsPlace
-  fit-places (image ∷ images) all = by (nat_eq image.part part.part) refl
+  fit-places (image ∷ images) all = by (nat_eq image.part (part_no shape).0) refl
       (option_and_then record_of image.old)
-      (fit-places images (All-tail (FitsPart (KeyedShape part)) image images all))
+      (fit-places images (All-tail (FitsPart shape) image images all))
     where
-      by : (mine : Bool) → nat_eq image.part part.part ≡ mine → (old : Option (List ℕ))
-          → All IsPlace (filter_map (length_in part.part) images)
+      by : (mine : Bool) → nat_eq image.part (part_no shape).0 ≡ mine → (old : Option (List ℕ))
+          → All IsPlace (filter_map (length_in (part_no shape).0) images)
           → All IsPlace (cons_option (cond mine (length_of image.place old) None)
-          (filter_map (length_in part.part) images))
+          (filter_map (length_in (part_no shape).0) images))
       by false is old rest = rest
       by true is None rest = rest
       by true is (Some bytes) rest = All-cons IsPlace (image.place, length bytes)
-          (filter_map (length_in part.part) images)
-          (All-head (FitsPart (KeyedShape part)) image images all
-          (eqb-true image.part part.part is)).place rest
+          (filter_map (length_in (part_no shape).0) images)
+          (All-head (FitsPart shape) image images all
+          (eqb-true image.part (part_no shape).0 is)).place rest
 
   -- before-images that may be put back are at places of their part
-  pub kept-places : (images : List BeforeImage) → All (FitsPart (KeyedShape part)) images
-      → ArePlaces part.key (lengths_kept images part.part)
-  kept-places images all = with-all (λ (place : List ℕ). length place ≡ part.key) []
-      (filter_map (length_in part.part) images) (All-nil IsPlace) (fit-places images all)
+  pub kept-places : (images : List BeforeImage) → All (FitsPart shape) images
+      → AreItsPlaces images shape
+  kept-places images all = with-all (IsPlaceOf shape) []
+      (filter_map (length_in (part_no shape).0) images) (All-nil IsPlace) (fit-places images all)
 
 -- where no unit is live there are none
 no-image : (records : List LogRecord) → filter_map (image_in []) records ≡ []
@@ -332,9 +290,3 @@ pub off-live : (records all : List LogRecord) → records ≡ all → AreOff (im
     → AreOff (images_of records)
 off-live records all same off =
     subst (λ (rs : List LogRecord). AreOff (images_of rs)) (sym same) off
-
-pub all-layouts : (P : Keyed → Type 0) (parts : List Owned) (layouts : List Keyed)
-    → map (λ (keyed : Owned). keyed.part) parts ≡ layouts
-    → All (λ (keyed : Owned). P keyed.part) parts → All P layouts
-all-layouts P parts layouts row all = subst (All P) row
-    (all_mapped (λ (keyed : Owned). keyed.part) P parts all)

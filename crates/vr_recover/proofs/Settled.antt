@@ -50,7 +50,7 @@ use Rattle.vr_volume.specs.Volume.{CanPutBack, Recovers, shapes_by}
 use Rattle.vr_volume.proofs.PuttingBack.{back-ascends, back-item}
 use Rattle.vr_mount.proofs.CallerLemmas.{none-ascend}
 use Rattle.vr_recover.specs.Undone.{FitsPart, IsAllFirm, IsCovered, IsOpenedPart, IsSettled}
-use Rattle.vr_recover.specs.Undone.{attached_known}
+use Rattle.vr_part.specs.Attached.{attached_known}
 
 -- ---- a part
 
@@ -181,7 +181,7 @@ forced-room (RelativeShape part) owners now on forced content stands stays kept 
     slots-room part owners now on forced stays kept room
 
 -- and knows its blocks as it is attached.
-attached-knows : (shape : Shape) (now : Seen) → Knows shape (attached_known shape now.cur) now
+pub attached-knows : (shape : Shape) (now : Seen) → Knows shape (attached_known shape now.cur) now
 attached-knows (KeyedShape part) now = record { way = tt; blocks = All-nil (IsMet part now.cur) }
 attached-knows (RelativeShape part) now = record {
   way = tt;

@@ -4,11 +4,11 @@ use Rattle.std.proofs.Common.{Option, Some, None, length, refl, sym, ap, subst, 
 use Rattle.std.proofs.Common.{◌==◌, ◌⊎◌, ◌≢◌, ⊎_elim, inl, inr, map}
 use Rattle.std.specs.Prelude.{All, nat_eq, slice_get}
 use Rattle.std.specs.List.{AllByRecursion, IsDistinct, cons_option, filter_map}
-use Rattle.std.specs.Option.{option_and_then, option_map}
+use Rattle.std.specs.Option.{option_and_then}
 use Rattle.std.proofs.lemmas.Bool.{ne_eqb, true≢false}
 use Rattle.std.proofs.lemmas.Bool.Decides.{Decides-eqb}
 use Rattle.std.proofs.lemmas.List.Elements.{All-cons, All-nil}
-use Rattle.std.proofs.lemmas.Option.{get_or_from_slice_get, slice_get-get_or, slice_get-map}
+use Rattle.std.proofs.lemmas.Option.{get_or_from_slice_get, slice_get-get_or}
 use Rattle.std.proofs.lemmas.Option.{slice_get_within}
 use Rattle.vr_types.specs.declared.geometry.Geometry.{Geometry}
 use Rattle.vr_types.specs.declared.unit.AreaNo.{AreaNo}
@@ -21,8 +21,7 @@ use Rattle.vr_attach.specs.Laid.{catalog_shape, shape_by_kind, shape_from, shape
 use Rattle.vr_mount.proofs.Laying.{part_is}
 use Rattle.vr_mount.proofs.Telling.{found_at, found_place, map_some, none_has_new}
 use Rattle.vr_mount.proofs.Telling.{others_distinct, zero_is_new}
-use Rattle.vr_space.specs.Keyed.{Keyed}
-use Rattle.vr_space.specs.Part.{KeyedShape, Shape, part_no}
+use Rattle.vr_space.specs.Part.{Shape, part_no}
 use Rattle.vr_recover.specs.Opening.{AreLaid, shapes_laid}
 
 some-shape : (x y : Shape) → Some x ≡ Some y → x ≡ y
@@ -39,7 +38,8 @@ number-kind : (geometry : Geometry) (part area : ℕ) (definition : Definition) 
 number-kind geometry part area definition kinds.Keyed shape is =
     ap (λ (s : Shape). (part_no s).0) (sym (some-shape _ shape is))
 number-kind geometry part area definition kinds.Entry shape is = absurd cc
-number-kind geometry part area definition kinds.Relative shape is = absurd cc
+number-kind geometry part area definition kinds.Relative shape is =
+    ap (λ (s : Shape). (part_no s).0) (sym (some-shape _ shape is))
 
 number-from : (geometry : Geometry) (part : ℕ) (area : Option AreaNo) (definition : Definition)
     (shape : Shape) → shape_from geometry part area definition ≡ Some shape
@@ -275,18 +275,13 @@ shapes-differ geometry entries distinct (suc i) (suc j) here there one other off
     differ-rest geometry entries i j here there distinct.1 one other (λ equal. off (ap suc equal))
     same
 
--- each of the layouts is that of a part that is laid
-pub layout-laid : (geometry : Geometry) (entries : List CatEntry)
-    → IsDistinct nat_eq (0 ∷ parts_in entries) → (layouts : List Keyed)
-    → map KeyedShape layouts ≡ shapes_laid geometry entries → (k : ℕ) (part : Keyed)
-    → slice_get layouts k ≡ Some part
-    → shape_in geometry entries part.part ≡ Some (KeyedShape part)
-layout-laid geometry entries distinct layouts shapes k part there =
-    let here : slice_get (shapes_laid geometry entries) k ≡ Some (KeyedShape part) =
-    ap (λ (s : List Shape). slice_get s k) (sym shapes) ∙ slice_get-map KeyedShape layouts k
-    ∙ ap (option_map KeyedShape) there in
+-- each of them is that of a part that is laid
+pub shape-laid : (geometry : Geometry) (entries : List CatEntry)
+    → IsDistinct nat_eq (0 ∷ parts_in entries) → (k : ℕ) (shape : Shape)
+    → slice_get (shapes_laid geometry entries) k ≡ Some shape
+    → shape_in geometry entries (part_no shape).0 ≡ Some shape
+shape-laid geometry entries distinct k shape here =
     subst (λ (s : Shape). shape_in geometry entries (part_no s).0 ≡ Some s)
-    (get_or_from_slice_get (shapes_laid geometry entries) k (KeyedShape part) (KeyedShape part)
-    here)
-    (each-laid geometry entries distinct k (KeyedShape part)
-    (slice_get_within (shapes_laid geometry entries) k (KeyedShape part) here))
+    (get_or_from_slice_get (shapes_laid geometry entries) k shape shape here)
+    (each-laid geometry entries distinct k shape
+    (slice_get_within (shapes_laid geometry entries) k shape here))

@@ -1,7 +1,7 @@
 -- What the steps of opening find, for the private functions that take them. The rules are this
 -- project's own.
 use Rattle.std.specs.Prelude.{◌≡◌, ◌<◌, ◌≤◌, ◌^◌, ℕ, List, [], All, None, Option, Some, length}
-use Rattle.std.specs.Prelude.{◌⊎◌, ◌∷◌, nat_eq, map, slice_get, false, IfSome}
+use Rattle.std.specs.Prelude.{◌⊎◌, ◌∷◌, nat_eq, map, slice_index_or, take, false, IfSome}
 use Rattle.std.specs.List.{IsDistinct, filter_map}
 use Rattle.vr_types.specs.Content.{Content}
 use Rattle.vr_types.specs.Geometry.{area_count, head_block}
@@ -10,41 +10,44 @@ use Rattle.vr_types.specs.LogSpace.{log_size}
 use Rattle.vr_types.specs.Seen.{Seen}
 use Rattle.vr_types.specs.declared.geometry.Geometry.{Geometry}
 use Rattle.vr_types.specs.declared.unit.PartNo.{PartNo}
-use Rattle.vr_space.specs.Keyed.{Keyed}
 use Rattle.vr_space.specs.Owners.{Owners}
-use Rattle.vr_space.specs.Part.{HasRoom, IsOn, KeyedShape, Shape, Stands, StandsFor, part_no}
+use Rattle.vr_space.specs.Part.{IsOn, IsPlaceOf, OwnsChain, Shape, Stands, StandsFor, owned_count}
+use Rattle.vr_space.specs.Part.{part_no}
 use Rattle.vr_catalog.specs.Catalog.{cluster_definition, entries_in, parts_in}
 use Rattle.vr_catalog.specs.Definition.{catalog_definition}
 use Rattle.vr_catalog.specs.declared.definition.Definition.{Definition}
 use Rattle.vr_catalog.specs.declared.entry.CatEntry.{CatEntry}
 use Rattle.vr_attach.specs.CatalogRules.{IsCatalog}
 use Rattle.vr_attach.specs.Header.{header_block}
-use Rattle.vr_attach.specs.Laid.{AreApart, catalog_shape, keyed_part, keyed_shape, shape_in}
-use Rattle.vr_attach.specs.Laid.{shape_of}
+use Rattle.vr_attach.specs.Laid.{AreApart, HasArea, catalog_shape, keyed_part, shape_by_kind}
+use Rattle.vr_attach.specs.Laid.{shape_in, shape_of}
 use Rattle.vr_history.specs.State.{BeforeImage}
-use Rattle.vr_keyed.specs.Attached.{IsRuleShown}
-use Rattle.vr_keyed.specs.Lent.{ArePlaces}
-use Rattle.vr_keyed.specs.Owned.{Owned, known_of}
+use Rattle.vr_keyed.specs.Attached.{IsAttachedTo, IsRuleShown}
+use Rattle.vr_keyed.specs.Owned.{Owned}
 use Rattle.vr_log.specs.Content.{Content as LogContent}
 use Rattle.vr_log.specs.Live.{used_by}
 use Rattle.vr_log.specs.LogNow.{IsForced, IsOf, LogNow}
 use Rattle.vr_log.specs.Records.{HasFields, bytes_of as log_bytes}
 use Rattle.vr_log.specs.Spells.{Spells}
 use Rattle.vr_log.specs.declared.record.LogRecord.{LogRecord}
-use Rattle.vr_mount.specs.Areas.{AreOn}
+use Rattle.vr_mount.specs.Areas.{AreOn, AreOwners, BeginsWith, IsLaidIn}
 use Rattle.vr_mount.specs.Numbers.{laid_area}
 use Rattle.vr_mount.specs.Records.{bytes_of}
+use Rattle.vr_part.specs.Any.{known_any, shape_any}
+use Rattle.vr_part.specs.Attached.{attached_known}
+use Rattle.vr_part.specs.declared.any.AnyPart.{AnyPart}
+use Rattle.vr_part.specs.declared.any.AnyPart.TheVariants.{Keyed}
 use Rattle.vr_volume.specs.PutBack.{images_of, lengths_kept, oldest}
-pub use Rattle.vr_recover.specs.Images.{AreOff, HasRoomOf, MayGoBack}
-use Rattle.vr_recover.specs.Opening.{IsCatalogShown}
-use Rattle.vr_recover.specs.Opening.{shape_owned, shapes_laid}
-use Rattle.vr_recover.specs.Undone.{FitsPart, HaveOwnNumbers}
+pub use Rattle.vr_recover.specs.Images.{AreOff, CannotGoBack, HasRoomOf, MayGoBack}
+use Rattle.vr_recover.specs.Opening.{AreOwnersBy, HasNoSplit, IsCatalogShown, IsEntryShown}
+use Rattle.vr_recover.specs.Opening.{IsHeldBy, OwnsAreas, shapes_laid}
+use Rattle.vr_recover.specs.Undone.{FitsPart, HasPart, HaveOwnNumbers}
 use Rattle.vr_recover.specs.Undone.{IsReady}
 use Rattle.vr_recover.specs.declared.open_no.OpenNo.{OpenNo}
 use Rattle.vr_recover.specs.declared.open_no.OpenNo.TheVariants as nos
 use Rattle.vr_recover.specs.declared.open_no.OpenNo.TheVariants.{Damaged, Version, Read, Write, Memory}
 use Rattle.vr_recover.specs.declared.open_no.Unserved.{Unserved}
-use Rattle.vr_recover.specs.Unserved.{IsEntryCause, IsKeyedCluster, IsLogCause}
+use Rattle.vr_recover.specs.Unserved.{IsEntryCause, IsLogCause, IsPlain, IsServedCluster, IsServedKind}
 
 -- an answer that says of the blocks what P does where they are damaged, and Q where they aren't served
 abbrev pub ShowsBoth : (ℕ → ℕ → Type 0) → (ℕ → Unserved → Type 0) → OpenNo → Type 0
@@ -74,46 +77,71 @@ IsLogNo geometry content block cause = (block ≡ 1) × IsLogCause geometry cont
 
 -- ---- the parts
 
--- parts that were attached, with their layouts and numbers
-pub record AreAttached (parts : List Owned) (layouts : List Keyed) (numbers : List PartNo) : Type 0
-  where
-    pub layouts_are : map (λ (keyed : Owned). keyed.part) parts ≡ layouts
-    pub numbers_are : map part_no (map KeyedShape layouts) ≡ numbers
-    pub split : All (λ (keyed : Owned). keyed.split ≡ None) parts
-    pub met : All (λ (keyed : Owned). keyed.met ≡ []) parts
+-- parts as they were attached know of their blocks what these have
+abbrev pub AreKnown : List AnyPart → Image → Type 0
+AreKnown parts image =
+    All (λ (part : AnyPart). known_any part ≡ attached_known (shape_any part) image) parts
 
--- their blocks stand for contents
-abbrev pub AllStand : List Keyed → Image → Type 0
-AllStand layouts image = All (λ (part : Keyed). Stands (KeyedShape part) image) layouts
+-- the blocks of parts of these shapes stand for contents
+abbrev pub AllStand : List Shape → Image → Type 0
+AllStand shapes image = All (λ (shape : Shape). Stands shape image) shapes
 
--- An entry lays its part in this area, by this definition.
+-- An entry lays its part from this area on, by this definition.
 pub record LaysIn (entry : CatEntry) (area : ℕ) (definition : Definition) : Type 0 where
   pub area_is : laid_area entry ≡ Some area
   pub definition_is : cluster_definition entry.entry_kind entry ≡ Some definition
-  pub shape : (geometry : Geometry)
-      → shape_of geometry entry ≡ Some (keyed_shape geometry entry.part.0 area definition)
+  pub kind : IsServedKind definition.kind
+  pub shape : (geometry : Geometry) → shape_of geometry entry
+      ≡ shape_by_kind geometry entry.part.0 area definition definition.kind
 
 -- where an entry lays its part, if it does
 abbrev pub LaysAs : CatEntry → Option (ℕ × Definition) → Type 0
 LaysAs entry None = (geometry : Geometry) → shape_of geometry entry ≡ None
 LaysAs entry (Some found) = LaysIn entry found.0 found.1
 
--- the part of an entry is shown as damaged
-pub record IsEntryShown (geometry : Geometry) (entry : CatEntry) (now : Seen) (block rule : ℕ)
-    : Type 0 where
-  pub part : Keyed
-  pub area : ℕ
-  pub laid : shape_of geometry entry ≡ Some (KeyedShape part)
-  pub begins : part.head ≡ head_block geometry area
-  pub shown : IsRuleShown part area (area_count geometry) now.cur block rule
+-- a record of the longest length of a cluster has a byte
+abbrev pub HasLength : CatEntry → Type 0
+HasLength entry = IfSome (cluster_definition entry.entry_kind entry)
+    (λ (definition : Definition). 0 < definition.maximum)
 
--- that of one of these entries
-pub record IsOneShown (geometry : Geometry) (entries : List CatEntry) (now : Seen)
-    (block rule : ℕ) : Type 0 where
-  pub at : ℕ
-  pub entry : CatEntry
-  pub there : slice_get entries at ≡ Some entry
-  pub shown : IsEntryShown geometry entry now block rule
+-- ---- the walk over the entries
+
+-- a part has its first area
+abbrev pub HasFirst : Geometry → AnyPart → Type 0
+HasFirst geometry part = (area : ℕ) → BeginsWith (head_block geometry area) (shape_any part)
+    → HasArea geometry (shape_any part) (known_any part) area
+
+-- The catalog's own part alone, as it is attached.
+pub record IsFirstAlone (geometry : Geometry) (parts : List AnyPart) : Type 0 where
+  pub own : Owned
+  pub is : parts ≡ Keyed own ∷ []
+  pub attached : IsAttachedTo (keyed_part geometry 0 0 catalog_definition) own
+
+-- What the walk begins with, whatever the blocks have: entries whose parts are distinct, on areas of
+-- the volume, with records that have room.
+pub record MayAdd (geometry : Geometry) (entries : List CatEntry) : Type 0 where
+  pub distinct : IsDistinct nat_eq (0 ∷ parts_in entries)
+  pub on : AreOn geometry entries
+  pub plain : All (IsPlain geometry) entries
+  pub lengths : All HasLength entries
+
+-- The catalog's own part and those of the first entries, up to this index, are attached, and the
+-- areas that they have are marked as theirs, beside the first area of each part that isn't attached
+-- yet.
+pub record AreAdded (geometry : Geometry) (entries : List CatEntry) (at : ℕ)
+    (parts : List AnyPart) (owners : List (Option PartNo)) : Type 0 where
+  pub shapes : map shape_any parts ≡ shapes_laid geometry (take at entries)
+  pub split : All HasNoSplit parts
+  pub count : length owners ≡ area_count geometry
+  pub firsts : All (HasFirst geometry) parts
+  pub owned : All (OwnsAreas geometry owners) parts
+  pub laid : (part : PartNo) (area : ℕ) → IsLaidIn geometry entries part.0 area
+      → slice_index_or owners area None ≡ Some part
+  pub only : (part : PartNo) (area : ℕ) → slice_index_or owners area None ≡ Some part
+      → IsLaidIn geometry entries part.0 area ⊎ IsHeldBy geometry parts part area
+  pub owns : All (λ (part : AnyPart). OwnsChain (shape_any part) (known_any part) owners) parts
+  pub alone : (part : PartNo) (area : ℕ) → IsLaidIn geometry entries part.0 area
+      → (HasPart (map shape_any parts) part.0 → ⊥) → owned_count part owners ≡ 1
 
 -- the entries of whatever the catalog's blocks stand for, which is a catalog's content
 abbrev pub AreEntriesOf : Geometry → Image → List CatEntry → Type 0
@@ -144,14 +172,14 @@ IsEntryNo geometry entries block cause = (block ≡ head_block geometry 0)
     × IsEntryCause geometry entries cause
 
 -- The parts that a catalog lays, its own first, and that they may be laid so.
-pub record IsMounted (geometry : Geometry) (entries : List CatEntry) (parts : List Owned)
-    (layouts : List Keyed) (numbers : List PartNo) : Type 0 where
-  pub row : AreAttached parts layouts numbers
-  pub shapes : map KeyedShape layouts ≡ shapes_laid geometry entries
-  pub distinct : IsDistinct nat_eq (0 ∷ parts_in entries)
+pub record IsMounted (geometry : Geometry) (entries : List CatEntry) (parts : List AnyPart)
+    (owners : List (Option PartNo)) : Type 0 where
+  pub shapes : map shape_any parts ≡ shapes_laid geometry entries
+  pub split : All HasNoSplit parts
+  pub owned : AreOwnersBy geometry parts owners
+  pub may : MayAdd geometry entries
   pub apart : AreApart (shape_in geometry entries)
-  pub on : AreOn geometry entries
-  pub clusters : All IsKeyedCluster entries
+  pub clusters : All IsServedCluster entries
 
 -- These are the catalog's entries, and no part number comes twice in them.
 pub record AreEntries (geometry : Geometry) (now : Seen) (entries : List CatEntry) : Type 0 where
@@ -169,7 +197,7 @@ pub record IsLaidShown (geometry : Geometry) (now : Seen) (block rule : ℕ) : T
   pub entries : List CatEntry
   pub are : AreEntries geometry now entries
   pub stands : Stands (catalog_shape geometry) now.cur
-  pub shown : IsOneShown geometry entries now block rule
+  pub shown : IsEntryShown geometry entries now block rule
 
 -- what is shown while the parts are attached
 pub data IsMountShown (geometry : Geometry) (now : Seen) (block rule : ℕ) : Type 0 where
@@ -182,62 +210,63 @@ pub data IsMountShown (geometry : Geometry) (now : Seen) (block rule : ℕ) : Ty
 -- ---- the before-images
 
 -- the places of what is kept of a part are its own
-abbrev pub AreItsPlaces : List BeforeImage → Owned → Type 0
-AreItsPlaces images keyed = ArePlaces keyed.part.key (lengths_kept images keyed.part.part)
-
--- a part has room for those that are put back into it
-abbrev pub HasRoomFor : List BeforeImage → Image → Owned → Type 0
-HasRoomFor images image keyed =
-    HasRoom (KeyedShape keyed.part) (lengths_kept images keyed.part.part) image
+abbrev pub AreItsPlaces : List BeforeImage → Shape → Type 0
+AreItsPlaces images shape = All (λ (entry : List ℕ × ℕ). IsPlaceOf shape entry.0)
+    (lengths_kept images (part_no shape).0)
 
 -- before-images that can't be put back are shown at the first block of the log
-abbrev pub IsBackNo : List BeforeImage → List Keyed → List Owned → Image → ℕ → ℕ → Type 0
-IsBackNo images layouts parts image block rule = (block ≡ 1) × (rule ≡ 19)
-    × ((MayGoBack images layouts → ⊥) ⊎ (All (HasRoomFor images image) parts → ⊥))
+abbrev pub IsBackNo : List BeforeImage → List Shape → Image → ℕ → ℕ → Type 0
+IsBackNo images shapes image block rule = (block ≡ 1) × (rule ≡ 19)
+    × CannotGoBack images shapes image
 
 -- ---- all of it
 
--- What was found, whatever the blocks have: these parts are laid by these entries, and the
+-- What was found, whatever the blocks have: parts of these shapes are laid by these entries, and the
 -- before-images of the log, of which none is the catalog's, may be put back into them.
 pub record IsPlanned (geometry : Geometry) (content : LogContent) (entries : List CatEntry)
-    (layouts : List Keyed) : Type 0 where
-  pub shapes : map KeyedShape layouts ≡ shapes_laid geometry entries
-  pub distinct : IsDistinct nat_eq (0 ∷ parts_in entries)
+    (shapes : List Shape) : Type 0 where
+  pub shapes_are : shapes ≡ shapes_laid geometry entries
+  pub may : MayAdd geometry entries
   pub apart : AreApart (shape_in geometry entries)
-  pub on : AreOn geometry entries
-  pub clusters : All IsKeyedCluster entries
+  pub clusters : All IsServedCluster entries
   pub off : AreOff (images_of content.records)
-  pub back : MayGoBack (images_of content.records) layouts
+  pub back : MayGoBack (images_of content.records) shapes
 
--- And by what the blocks have: the header, the log, the catalog, and the parts with their room.
+-- And by what the blocks have: the header, the log, the catalog, the parts with their room, and whose
+-- each area is.
 pub record IsFound (geometry : Geometry) (number : ℕ) (content : LogContent)
-    (entries : List CatEntry) (layouts : List Keyed) (image : Image) : Type 0 where
+    (entries : List CatEntry) (shapes : List Shape) (owners : List (Option PartNo))
+    (image : Image) : Type 0 where
   pub header : block_at image 0 ≡ header_block geometry number
   pub spelled : Spells geometry image content
   pub entries_are : AreEntriesOf geometry image entries
-  pub stand : AllStand layouts image
-  pub rooms : All (HasRoomOf (images_of content.records) image) layouts
+  pub stand : AllStand shapes image
+  pub rooms : All (HasRoomOf (images_of content.records) image) shapes
+  pub owned : AreOwners geometry entries image owners
 
 -- ---- what is undone
 
 -- The before-images of this log may be put back into these parts, whatever the blocks have.
-pub record IsUndoable (log : LogNow) (records : List LogRecord) (parts : List Owned)
-    (numbers : List PartNo) (images : List BeforeImage) (now : Seen) : Type 0 where
-  pub numbers_are : map part_no (map shape_owned parts) ≡ numbers
-  pub on : All (λ (shape : Shape). IsOn shape now) (map shape_owned parts)
-  pub apart : HaveOwnNumbers (map shape_owned parts)
-  pub split : All (λ (keyed : Owned). keyed.split ≡ None) parts
+pub record IsUndoable (log : LogNow) (records : List LogRecord) (parts : List AnyPart)
+    (images : List BeforeImage) (now : Seen) : Type 0 where
+  pub on : All (λ (shape : Shape). IsOn shape now) (map shape_any parts)
+  pub apart : HaveOwnNumbers (map shape_any parts)
+  pub split : All HasNoSplit parts
   pub sound : log.broken ≡ false
   pub shape : IsOf log.geometry now
   pub records_are : records ≡ log.records
   pub forced : IsForced log
-  pub fits : All (λ (shape : Shape). All (FitsPart shape) images) (map shape_owned parts)
+  pub fits : All (λ (shape : Shape). All (FitsPart shape) images) (map shape_any parts)
   pub images_are : images ≡ images_of log.records
 
 -- a part is ready, with room for those of these that are its own
-abbrev pub IsPartReady : Owners → List BeforeImage → Seen → Owned → Type 0
-IsPartReady owners images now keyed =
-    IsReady (shape_owned keyed) owners (known_of keyed) (lengths_kept images keyed.part.part) now
+abbrev pub IsPartReady : Owners → List BeforeImage → Seen → AnyPart → Type 0
+IsPartReady owners images now part = IsReady (shape_any part) owners (known_any part)
+    (lengths_kept images (part_no (shape_any part)).0) now
+
+-- the areas that parts keep in memory
+abbrev pub areas_kept : List AnyPart → List (List ℕ)
+areas_kept parts = map (λ (part : AnyPart). (known_any part).areas) parts
 
 -- a record of the log, where it is a before-image by f, is the only one of its place among it and
 -- these

@@ -3,6 +3,8 @@ use Rattle.std.specs.Prelude.{◌≡◌, ◌<◌, ◌≤◌, Result, OnOk, IfErr
 use Rattle.vr_types.specs.Faults.{Faults}
 use Rattle.vr_types.specs.declared.fault.DeviceFault.{DeviceFault}
 use Rattle.vr_types.specs.declared.fault.DeviceFault.TheVariants as faults
+use Rattle.vr_attach.specs.declared.part_no.PartNo2.{PartNo2}
+use Rattle.vr_attach.specs.declared.part_no.PartNo2.TheVariants as parts
 use Rattle.vr_recover.specs.declared.open_no.OpenNo.{OpenNo}
 use Rattle.vr_recover.specs.declared.open_no.OpenNo.TheVariants.{Damaged, Version, Unserved, Read, Write}
 use Rattle.vr_recover.specs.declared.open_no.OpenNo.TheVariants.{Memory}
@@ -10,6 +12,12 @@ use Rattle.vr_recover.specs.declared.open_no.OpenNo.TheVariants.{Memory}
 abbrev pub fault_no : DeviceFault → OpenNo
 fault_no faults.Read = Read
 fault_no faults.Write = Write
+
+-- and why a part could not be attached
+abbrev pub part_answer : PartNo2 → OpenNo
+part_answer (parts.Damaged block rule) = Damaged block rule
+part_answer (parts.Fault fault) = fault_no fault
+part_answer parts.Memory = Memory
 
 -- an answer that no device is the cause of
 abbrev pub IsOwnNo : OpenNo → Type 0

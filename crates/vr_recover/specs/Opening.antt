@@ -1,7 +1,7 @@
 -- What is found on the blocks of a volume as it is opened, and why one is not opened. The rules are
 -- this project's own.
 use Rattle.std.specs.Prelude.{◌≡◌, ◌≢◌, ◌⊎◌, ◌<◌, ◌+◌, ◌^◌, ℕ, false, List, [], ◌∷◌, All, None, Some}
-use Rattle.std.specs.Prelude.{Option, map, nat_eq, slice_get}
+use Rattle.std.specs.Prelude.{Option, length, map, nat_eq, slice_get, slice_index_or, take}
 use Rattle.std.specs.List.{IsDistinct, filter_map}
 use Rattle.vr_types.specs.Content.{Ascends, Content}
 use Rattle.vr_types.specs.Geometry.{IsAllowed, area_count, head_block}
@@ -9,27 +9,30 @@ use Rattle.vr_types.specs.Image.{Image, block_at}
 use Rattle.vr_types.specs.Seen.{Seen}
 use Rattle.vr_types.specs.declared.geometry.Geometry.{Geometry}
 use Rattle.vr_types.specs.declared.unit.PartNo.{PartNo}
-use Rattle.vr_space.specs.Keyed.{Keyed}
-use Rattle.vr_space.specs.Part.{IsOn, KeyedShape, Shape, StandsFor, StaysIn, part_no}
+use Rattle.vr_space.specs.Part.{IsOn, OwnsChain, Shape, StandsFor, part_no}
 use Rattle.vr_catalog.specs.Catalog.{entries_in, parts_in}
+use Rattle.vr_catalog.specs.Definition.{catalog_definition}
 use Rattle.vr_catalog.specs.declared.entry.CatEntry.{CatEntry}
 use Rattle.vr_attach.specs.CatalogRules.{IsCatalog}
-use Rattle.vr_attach.specs.Laid.{AreApart, catalog_shape, shape_by, shape_in, shape_of}
+use Rattle.vr_attach.specs.Laid.{AreApart, HasArea, IsReachedElsewhere, catalog_shape, keyed_part}
+use Rattle.vr_attach.specs.Laid.{shape_by, shape_in, shape_of}
 use Rattle.vr_attach.specs.Owning.{owner_of}
 use Rattle.vr_keyed.specs.Attached.{IsRuleShown}
-use Rattle.vr_keyed.specs.Owned.{Owned, known_of}
 use Rattle.vr_log.specs.Content.{Content as LogContent}
 use Rattle.vr_log.specs.Damage.{IsDamagedAt}
 use Rattle.vr_log.specs.LogNow.{IsForced, IsOf, LogNow}
 use Rattle.vr_log.specs.Spells.{Spells}
 use Rattle.vr_log.specs.Standing.{LogStands}
-use Rattle.vr_mount.specs.Areas.{AreOn, AreOwners}
+use Rattle.vr_mount.specs.Areas.{AreOn, AreOwners, IsLaidIn}
 use Rattle.vr_mount.specs.Header.{IsDamagedHeader, IsHeaderOf, version_in}
+use Rattle.vr_part.specs.Any.{known_any, shape_any}
+use Rattle.vr_part.specs.Attached.{IsAnyShown}
+use Rattle.vr_part.specs.declared.any.AnyPart.{AnyPart}
 use Rattle.vr_volume.specs.PutBack.{images_of}
 use Rattle.vr_volume.specs.Volume.{Recovers}
 use Rattle.vr_recover.specs.Images.{CannotGoBack}
 use Rattle.vr_recover.specs.Undone.{IsLaidPastLog, IsReady, IsUndone}
-use Rattle.vr_recover.specs.Unserved.{IsKeyedCluster, IsUnserved}
+use Rattle.vr_recover.specs.Unserved.{IsServedCluster, IsUnserved}
 use Rattle.vr_recover.specs.declared.open_no.OpenNo.{OpenNo}
 use Rattle.vr_recover.specs.declared.open_no.OpenNo.TheVariants.{Damaged, Version, Unserved, Read, Write}
 use Rattle.vr_recover.specs.declared.open_no.OpenNo.TheVariants.{Memory}
@@ -61,19 +64,35 @@ pub record IsLogShown (geometry : Geometry) (now : Seen) (block rule : ℕ) : Ty
   pub rule_is : rule ≡ 2
   pub damaged : IsDamagedAt geometry now.cur block
 
--- a part is the catalog's own, or one that is laid by a content for which the catalog's blocks stand
-pub data IsPartOf (geometry : Geometry) (now : Seen) (part : Keyed) : Type 0 where
-  Own : KeyedShape part ≡ catalog_shape geometry → IsPartOf geometry now part
-  Laid : (content : Content) → StandsFor (catalog_shape geometry) now.cur content → (number : ℕ)
-      → shape_by geometry content number ≡ Some (KeyedShape part) → IsPartOf geometry now part
+-- As the part of the entry at this index is read, the area is that of another part: the first one of
+-- any, or one that the part of an entry before it reaches.
+pub data IsTaken (geometry : Geometry) (entries : List CatEntry) (at : ℕ) (image : Image)
+    (part area : ℕ) : Type 0 where
+  AsFirst : (other : ℕ) → other ≢ part → IsLaidIn geometry entries other area
+      → IsTaken geometry entries at image part area
+  AsReached : IsReachedElsewhere geometry (shape_in geometry (take at entries)) image part area
+      → IsTaken geometry entries at image part area
 
--- rules 3 to 11: the first block of a part that breaks a rule, and the least that it breaks
-pub record IsPartShown (geometry : Geometry) (now : Seen) (block rule : ℕ) : Type 0 where
-  pub part : Keyed
-  pub part_of : IsPartOf geometry now part
-  pub area : ℕ
-  pub begins : part.head ≡ head_block geometry area
-  pub shown : IsRuleShown part area (area_count geometry) now.cur block rule
+-- The part of one of these entries is damaged: its block is the first that breaks a rule, and this is
+-- the least that it breaks.
+pub record IsEntryShown (geometry : Geometry) (entries : List CatEntry) (now : Seen)
+    (block rule : ℕ) : Type 0 where
+  pub at : ℕ
+  pub entry : CatEntry
+  pub there : slice_get entries at ≡ Some entry
+  pub shape : Shape
+  pub laid : shape_of geometry entry ≡ Some shape
+  pub shown : IsAnyShown geometry shape (IsTaken geometry entries at now.cur entry.part.0)
+      now.cur block rule
+
+-- rules 3 to 14: the first block of a part that breaks a rule, and the least that it breaks: of the
+-- catalog's own part, or of one that is laid by a content for which the catalog's blocks stand
+pub data IsPartShown (geometry : Geometry) (now : Seen) (block rule : ℕ) : Type 0 where
+  OfCatalog : IsRuleShown (keyed_part geometry 0 0 catalog_definition) 0 (area_count geometry)
+      now.cur block rule → IsPartShown geometry now block rule
+  OfEntry : (content : Content) → StandsFor (catalog_shape geometry) now.cur content
+      → IsEntryShown geometry (entries_in content) now block rule
+      → IsPartShown geometry now block rule
 
 -- a content of the catalog breaks a rule that all contents keep
 abbrev pub IsNoneOf : Geometry → Seen → (Content → Type 0) → Type 0
@@ -111,9 +130,8 @@ pub record IsImageShown (geometry : Geometry) (now : Seen) (block rule : ℕ) : 
   pub spelled : Spells geometry now.cur log
   pub catalog : Content
   pub stands : StandsFor (catalog_shape geometry) now.cur catalog
-  pub parts : List Keyed
-  pub shapes : map KeyedShape parts ≡ shapes_laid geometry (entries_in catalog)
-  pub damaged : CannotGoBack (images_of log.records) parts now.cur
+  pub damaged : CannotGoBack (images_of log.records) (shapes_laid geometry (entries_in catalog))
+      now.cur
 
 -- what is shown of a volume whose header is in order
 pub data IsShownOf (geometry : Geometry) (now : Seen) (block rule : ℕ) : Type 0 where
@@ -153,12 +171,34 @@ IsRefused number now Memory = Unit {0}
 
 -- ---- what is handed out
 
-abbrev pub shape_owned : Owned → Shape
-shape_owned keyed = KeyedShape keyed.part
+-- the areas that a part has are its own by who owns the areas
+abbrev pub OwnsAreas : Geometry → List (Option PartNo) → AnyPart → Type 0
+OwnsAreas geometry owners part = (area : ℕ)
+    → HasArea geometry (shape_any part) (known_any part) area
+    → slice_index_or owners area None ≡ Some (part_no (shape_any part))
 
--- whatever the blocks have, the part stays in those of the areas that it owns
-abbrev pub StaysBy : Geometry → List (Option PartNo) → Shape → Type 0
-StaysBy geometry owners shape = (image : Image) → StaysIn shape (owner_of geometry owners) image
+-- One of these parts is of this number, and has the area.
+pub record IsHeldBy (geometry : Geometry) (parts : List AnyPart) (part : PartNo) (area : ℕ) : Type 0
+  where
+    pub at : ℕ
+    pub one : AnyPart
+    pub there : slice_get parts at ≡ Some one
+    pub number : part_no (shape_any one) ≡ part
+    pub has : HasArea geometry (shape_any one) (known_any one) area
+
+-- Each area that a part has is owned by it, each owned area is one that its part has, and a part of
+-- chained areas has as many as it owns.
+pub record AreOwnersBy (geometry : Geometry) (parts : List AnyPart)
+    (owners : List (Option PartNo)) : Type 0 where
+  pub count : length owners ≡ area_count geometry
+  pub owned : All (OwnsAreas geometry owners) parts
+  pub only : (part : PartNo) (area : ℕ) → slice_index_or owners area None ≡ Some part
+      → IsHeldBy geometry parts part area
+  pub owns : All (λ (part : AnyPart). OwnsChain (shape_any part) (known_any part) owners) parts
+
+-- a part has no split under way
+abbrev pub HasNoSplit : AnyPart → Type 0
+HasNoSplit part = (known_any part).split ≡ None
 
 -- Each of these shapes is laid by the entries as its part, and each part that they lay is one of
 -- them.
@@ -171,10 +211,10 @@ pub record AreLaid (geometry : Geometry) (entries : List CatEntry) (shapes : Lis
     pub there : (part : ℕ) (shape : Shape) → shape_in geometry entries part ≡ Some shape
         → (at : ℕ) × (slice_get shapes at ≡ Some shape)
 
--- What is handed out, whatever the blocks have: the catalog has key-sequenced clusters alone, the
--- parts are those that it lays, its own first, each on blocks of the volume past the log, which are
--- its own by who owns the areas, and the log has no record.
-pub record IsHandedOut (geometry : Geometry) (entries : List CatEntry) (parts : List Owned)
+-- What is handed out, whatever the blocks have: the catalog has key-sequenced and relative clusters
+-- alone, the parts are those that it lays, its own first, each on blocks of the volume past the log,
+-- in areas that are its own, and the log has no record.
+pub record IsHandedOut (geometry : Geometry) (entries : List CatEntry) (parts : List AnyPart)
     (log : LogNow) (owners : List (Option PartNo)) (now : Seen) : Type 0 where
   pub allowed : IsAllowed geometry
   pub shape : IsOf geometry now
@@ -184,26 +224,26 @@ pub record IsHandedOut (geometry : Geometry) (entries : List CatEntry) (parts : 
   pub records : log.records ≡ []
   pub generation : log.generation < 2 ^ 63 + 1
   pub distinct : IsDistinct nat_eq (0 ∷ parts_in entries)
-  pub clusters : All IsKeyedCluster entries
-  pub shapes : map shape_owned parts ≡ shapes_laid geometry entries
+  pub clusters : All IsServedCluster entries
+  pub shapes : map shape_any parts ≡ shapes_laid geometry entries
   pub laid : AreLaid geometry entries (shapes_laid geometry entries)
-  pub on : All (λ (shape : Shape). IsOn shape now) (map shape_owned parts)
-  pub past : All (IsLaidPastLog geometry) (map shape_owned parts)
-  pub within : All (StaysBy geometry owners) (map shape_owned parts)
-  pub split : All (λ (keyed : Owned). keyed.split ≡ None) parts
-  pub owners_are : AreOwners geometry entries owners
+  pub on : All (λ (shape : Shape). IsOn shape now) (map shape_any parts)
+  pub past : All (IsLaidPastLog geometry) (map shape_any parts)
+  pub split : All HasNoSplit parts
+  pub owners_are : AreOwnersBy geometry parts owners
 
 -- And by what the blocks had and have: they were a volume's, which recovered to these contents, and
 -- are now a safe one's, with these contents committed and without units of recovery. Each part is
--- ready. Both are so by who owns the areas.
+-- ready. Both are so by who owns the areas: each area is its whose blocks reach it.
 pub record IsOpenedBy (number : ℕ) (geometry : Geometry) (entries : List CatEntry)
-    (parts : List Owned) (log : LogNow) (owners : List (Option PartNo)) (contents : ℕ → Content)
-    (old new : Seen) : Type 0 where
+    (parts : List AnyPart) (log : LogNow) (owners : List (Option PartNo))
+    (contents : ℕ → Content) (old new : Seen) : Type 0 where
   pub volume : IsVolume number geometry contents old
   pub undone : IsUndone number (owner_of geometry owners) log contents new
   pub stands : LogStands log new
-  pub ready : All (λ (keyed : Owned). IsReady (shape_owned keyed) (owner_of geometry owners)
-      (known_of keyed) [] new) parts
+  pub ready : All (λ (part : AnyPart). IsReady (shape_any part) (owner_of geometry owners)
+      (known_any part) [] new) parts
+  pub owners_are : AreOwners geometry entries new.cur owners
   pub catalog : entries ≡ entries_in (contents 0)
   pub rules : IsCatalog geometry (contents 0)
   pub apart : AreApart (shape_by geometry (contents 0))
@@ -211,7 +251,7 @@ pub record IsOpenedBy (number : ℕ) (geometry : Geometry) (entries : List CatEn
   pub others : (part : ℕ) → shape_by geometry (contents 0) part ≡ None → contents part ≡ []
 
 -- some contents
-abbrev pub IsOpened : ℕ → Geometry → List CatEntry → List Owned → LogNow → List (Option PartNo)
+abbrev pub IsOpened : ℕ → Geometry → List CatEntry → List AnyPart → LogNow → List (Option PartNo)
     → Seen → Seen → Type 0
 IsOpened number geometry entries parts log owners old new = (contents : ℕ → Content)
     × IsOpenedBy number geometry entries parts log owners contents old new

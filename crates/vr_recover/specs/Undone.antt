@@ -1,6 +1,6 @@
 -- What is put back into a part as a volume is opened, and what the part reads then. The rules are
 -- this project's own.
-use Rattle.std.specs.Prelude.{◌≡◌, ◌<◌, ◌≤◌, ℕ, true, false, List, [], All, IfSome, Option, Some, None}
+use Rattle.std.specs.Prelude.{◌≡◌, ◌<◌, ◌≤◌, ℕ, true, false, List, All, IfSome, Option, Some, None}
 use Rattle.std.specs.Prelude.{◌≢◌, length, slice_get}
 use Rattle.std.specs.Option.{option_and_then}
 use Rattle.vr_types.specs.Content.{Content, Item, item_at, record_of}
@@ -12,16 +12,16 @@ use Rattle.vr_types.specs.declared.unit.Unit.{Unit as UnitOfRecovery}
 use Rattle.vr_space.specs.Known.{Known}
 use Rattle.vr_space.specs.Owners.{Owners}
 use Rattle.vr_space.specs.Part.{HasKeptRoom, InFirstArea, IsAtRest, IsFirm, IsOn, IsPlaceOf}
-use Rattle.vr_space.specs.Part.{IsRecordOf, KeyedShape, Knows, MayHold, RelativeShape, Shape}
+use Rattle.vr_space.specs.Part.{IsRecordOf, Knows, MayHold, Shape}
 use Rattle.vr_space.specs.Part.{item_of, part_no}
 use Rattle.vr_space.specs.Room.{Lengths, length_at}
-use Rattle.vr_space.specs.Rosters.{chain_of, used_of}
 use Rattle.vr_history.specs.State.{BeforeImage}
 use Rattle.vr_log.specs.Content.{Content as LogContent}
 use Rattle.vr_log.specs.Live.{is_in, live_in}
 use Rattle.vr_log.specs.LogNow.{IsLogOf, LogNow}
 use Rattle.vr_log.specs.declared.record.LogRecord.{LogRecord}
 use Rattle.vr_log.specs.declared.record.LogRecord.TheVariants.{Before, End}
+use Rattle.vr_part.specs.Attached.{attached_known}
 use Rattle.vr_volume.specs.Laid.{shape_by}
 use Rattle.vr_volume.specs.PutBack.{images_of, lengths_kept}
 use Rattle.vr_volume.specs.Safe.{IsSafe}
@@ -34,14 +34,6 @@ pub record IsReady (shape : Shape) (owners : Owners) (known : Known) (kept : Len
   pub room : HasKeptRoom shape kept now
   pub knows : Knows shape known now
   pub no_split : known.split ≡ None
-
--- what a part knows of its blocks as it is attached: no split is under way, nothing was met yet,
--- and where it has a chain of areas, these are they
-abbrev pub attached_known : Shape → Image → Known
-attached_known (KeyedShape part) image =
-    record { split = None; met = []; areas = []; used = 0 }
-attached_known (RelativeShape part) image =
-    record { split = None; met = []; areas = chain_of part image; used = used_of part image }
 
 -- room is kept for the record at the place, or there is none
 abbrev pub IsKeptAt : Lengths → List ℕ → Option (List ℕ) → Type 0

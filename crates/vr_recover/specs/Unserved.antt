@@ -7,7 +7,8 @@ use Rattle.vr_types.specs.Image.{block_at}
 use Rattle.vr_types.specs.LogSpace.{log_size}
 use Rattle.vr_types.specs.Seen.{Seen}
 use Rattle.vr_types.specs.declared.geometry.Geometry.{Geometry}
-use Rattle.vr_types.specs.declared.unit.Kind.TheVariants.{Keyed}
+use Rattle.vr_types.specs.declared.unit.Kind.{Kind}
+use Rattle.vr_types.specs.declared.unit.Kind.TheVariants as kinds
 use Rattle.vr_space.specs.Part.{StandsFor}
 use Rattle.vr_catalog.specs.Catalog.{cluster_definition, definition_in, entries_in}
 use Rattle.vr_catalog.specs.declared.definition.Definition.{Definition}
@@ -27,9 +28,15 @@ use Rattle.vr_recover.specs.declared.open_no.Unserved.TheVariants.{CatalogImage,
 
 -- ---- what is served
 
--- an entry of a key-sequenced cluster
-abbrev pub IsKeyedCluster : CatEntry → Type 0
-IsKeyedCluster entry = (entry.entry_kind ≡ Cluster) × ((definition_in entry).kind ≡ Keyed)
+-- clusters of this kind are
+abbrev pub IsServedKind : Kind → Type 0
+IsServedKind kinds.Keyed = Unit {0}
+IsServedKind kinds.Entry = ⊥
+IsServedKind kinds.Relative = Unit {0}
+
+-- an entry of a key-sequenced or relative cluster
+abbrev pub IsServedCluster : CatEntry → Type 0
+IsServedCluster entry = (entry.entry_kind ≡ Cluster) × IsServedKind (definition_in entry).kind
 
 -- the longest record of a cluster has room in an interval of its own
 abbrev pub IsPlain : Geometry → CatEntry → Type 0
@@ -51,7 +58,7 @@ abbrev pub IsEntryCause : Geometry → List CatEntry → Unserved → Type 0
 IsEntryCause geometry entries LogAtItsEnd = ⊥
 IsEntryCause geometry entries LogWithoutRoom = ⊥
 IsEntryCause geometry entries CatalogImage = ⊥
-IsEntryCause geometry entries OtherKind = All IsKeyedCluster entries → ⊥
+IsEntryCause geometry entries OtherKind = All IsServedCluster entries → ⊥
 IsEntryCause geometry entries LongRecord = All (IsPlain geometry) entries → ⊥
 
 -- The log says so, and is shown at its first block.

@@ -3,18 +3,17 @@ ghost use Rattle.std.specs.Prelude.{◌≡◌, ◌≢◌, ◌↔◌, [], IsTrue,
 ghost use Rattle.std.specs.List.{filter_map};
 ghost use Rattle.std.specs.Option.{option_copied};
 ghost use Rattle.std.specs.Prelude.{◌++◌, ◌∷◌, OnOk};
-ghost use Rattle.vr_space.specs.Keyed.{Keyed};
-ghost use Rattle.vr_space.specs.Part.{KeyedShape};
+ghost use Rattle.vr_part.specs.Any.{shape_any};
 ghost use Rattle.vr_log.specs.Live.{live_in};
 ghost use Rattle.vr_undo.specs.Records.{has_at, images_in};
 ghost use Rattle.vr_volume.specs.PutBack.{AreAlone, image_in, images_of, is_image_of, oldest};
 ghost use Rattle.vr_recover.specs.Found.{AreOff, MayGoBack};
 ghost use Rattle.vr_recover.specs.Undone.{FitsPart};
 
-use crate::fitting::{are_covered, may_put_back};
+use crate::fitting::{are_covered, bytes_of, may_put_back};
 use vr_log::{LogRecord, UndoLog};
-use vr_space::Layout;
-use vr_types::{Bytes, OutOfMemory, PartNo, Place, Unit};
+use vr_part::AnyPart;
+use vr_types::{OutOfMemory, PartNo, Place, Unit};
 use vr_undo::Undo;
 
 /// Whether a record of the log is no before-image of the catalog's part, of a unit that is live.
@@ -111,15 +110,15 @@ fn are_alone(log: &UndoLog, records: &[LogRecord]) -> bool
 
 /// Whether each before-image that the log has of live units may be put back into each of these parts
 /// that is its own.
-fn all_fit(layouts: &[Layout], log: &UndoLog, records: &[LogRecord]) -> bool
+fn all_fit(parts: &[AnyPart], log: &UndoLog, records: &[LogRecord]) -> bool
     requires sound { log.now.broken ≡ false }
     requires records { records.now ≡ log.now.records }
     ensures { IsTrue result
-        ↔ All (λ (part : Keyed). All (FitsPart (KeyedShape part)) (images_of log.now.records))
-        layouts.now }
+        ↔ All (λ shape. All (FitsPart shape) (images_of log.now.records))
+        (map shape_any parts.now) }
 {
-    for layout in layouts {
-        if !may_put_back(layout, log, records) {
+    for part in parts {
+        if !may_put_back(part, log, records) {
             return false;
         }
     }
@@ -128,29 +127,19 @@ fn all_fit(layouts: &[Layout], log: &UndoLog, records: &[LogRecord]) -> bool
 
 /// Whether the before-images that the log has of live units may be put back into these parts.
 /// `records` are those of the log.
-pub(crate) fn may_go_back(layouts: &[Layout], log: &UndoLog, records: &[LogRecord]) -> bool
+pub(crate) fn may_go_back(parts: &[AnyPart], log: &UndoLog, records: &[LogRecord]) -> bool
     requires sound { log.now.broken ≡ false }
     requires records { records.now ≡ log.now.records }
     ensures { IsTrue result
-        ↔ MayGoBack (images_of log.now.records) layouts.now }
+        ↔ MayGoBack (images_of log.now.records) (map shape_any parts.now) }
 {
     if !are_alone(log, records) {
         return false;
     }
-    if !are_covered(layouts, log, records) {
+    if !are_covered(parts, log, records) {
         return false;
     }
-    all_fit(layouts, log, records)
-}
-
-/// What a before-image puts back.
-fn bytes_of(old: &Option<Bytes>) -> Option<&[u8]>
-    ensures { option_copied result ≡ old.now }
-{
-    match old {
-        Some(bytes) => Some(bytes.as_slice()),
-        None => None,
-    }
+    all_fit(parts, log, records)
 }
 
 /// Keeps a record of the log, where it is a before-image of a unit that is live, and none of its unit

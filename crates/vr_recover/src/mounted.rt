@@ -1,41 +1,57 @@
 //! The catalog of a volume that is opened, and the parts that it lays.
-ghost use Rattle.std.specs.Prelude.{◌≡◌, ◌∷◌, [], All, IsTrue, IfOk, IfErr, None, OnOk, nat_eq};
+ghost use Rattle.std.specs.Prelude.{◌≡◌, ◌∷◌, [], All, IsTrue, IfOk, IfErr, None, OnOk, map, nat_eq};
 ghost use Rattle.std.specs.List.{IsDistinct};
 ghost use Rattle.vr_types.specs.Blocks.{Keeps};
-ghost use Rattle.vr_types.specs.Geometry.{IsAllowed, head_block};
-ghost use Rattle.vr_attach.specs.Laid.{AreApart, shape_in};
+ghost use Rattle.vr_types.specs.Geometry.{IsAllowed, area_count, head_block};
+ghost use Rattle.vr_attach.specs.Laid.{AreApart, catalog_shape, shape_in};
 ghost use Rattle.vr_attach.specs.Laid.{keyed_part as part_of};
 ghost use Rattle.vr_catalog.specs.Catalog.{parts_in};
 ghost use Rattle.vr_catalog.specs.Definition.{catalog_definition as definition_of_catalog};
+ghost use Rattle.vr_keyed.specs.Attached.{IsAttachedTo, IsRuleShown};
+ghost use Rattle.vr_part.specs.Any.{shape_any};
 ghost use Rattle.vr_space.specs.Part.{IsOn, KeyedShape, Stands};
 ghost use Rattle.vr_log.specs.LogNow.{IsOf};
 ghost use Rattle.vr_mount.specs.Areas.{AreOn};
 ghost use Rattle.vr_mount.specs.Listing.{AreRecords};
 ghost use Rattle.vr_recover.specs.Found.{
   AllStand,
-  AreAttached,
   AreEntriesBy,
   AreEntriesOf,
+  AreKnown,
+  HasLength,
   IsAreaNo,
   IsEntryNo,
+  IsFirstAlone,
   IsMounted,
   IsMountShown,
   IsNoneBy,
+  MayAdd,
   ShowsBoth,
   ShowsOnly,
 };
 ghost use Rattle.vr_recover.specs.OpenNo.{HasOpenCause, IsOwnNo, IsSilentNo};
-ghost use Rattle.vr_recover.specs.Opening.{IsCatalogShown};
-ghost use Rattle.vr_recover.specs.Unserved.{IsCatalogUnserved, IsKeyedCluster, IsPlain};
+ghost use Rattle.vr_recover.specs.Opening.{AreOwnersBy, HasNoSplit, IsCatalogShown, IsEntryShown};
+ghost use Rattle.vr_recover.specs.Opening.{shapes_laid};
+ghost use Rattle.vr_recover.specs.Unserved.{IsCatalogUnserved, IsPlain, IsServedCluster};
 
-use crate::laid::{Laid, add_entries, add_part};
+use crate::laid::{add, add_entries};
 use crate::open_no::{OpenNo, Unserved};
-use crate::served::{are_keyed_clusters, are_plain};
+use crate::served::{are_plain, are_served};
 use std::alloc::Global;
 use vr_catalog::Catalog;
 use vr_keyed::Keyed;
-use vr_mount::{ListNo, are_apart, are_on, catalog_layout, catalog_of_records, records_of_part};
-use vr_types::{Blocks, Bytes, DeviceFault, Geometry};
+use vr_mount::{
+    ListNo, are_apart, are_on, catalog_layout, catalog_of_records, owners_of, records_of_part,
+};
+use vr_part::AnyPart;
+use vr_types::{Blocks, Bytes, DeviceFault, Geometry, Space};
+
+/// The catalog of a volume, and who owns its areas.
+#[derive(Drop)]
+pub(crate) struct Mounted {
+    pub(crate) catalog: Box<Catalog>,
+    pub(crate) space: Space,
+}
 
 /// The rule that is shown where records are those of no catalog.
 const NO_CATALOG: u32 = 17;
@@ -86,6 +102,7 @@ fn entries_by(alloc: Global, geometry: &Geometry, records: &[Bytes]) -> Result<B
     requires { IsAllowed geometry.now }
     ensures entries { IfOk result (λ catalog. AreEntriesBy geometry.now records.now catalog.value) }
     ensures parts { IfOk result (λ catalog. IsDistinct nat_eq (0 ∷ parts_in catalog.value)) }
+    ensures lengths { IfOk result (λ catalog. All HasLength catalog.value) }
     ensures damaged { IfErr result (ShowsOnly (IsNoneBy geometry.now records.now)) }
     ensures own { IfErr result IsOwnNo }
 {
@@ -114,6 +131,7 @@ fn read_entries<B: Blocks>(
     ensures entries { IsTrue B.tells → IfOk result (λ catalog.
         AreEntriesOf geometry.now (B.seen blocks.old).cur catalog.value) }
     ensures parts { IfOk result (λ catalog. IsDistinct nat_eq (0 ∷ parts_in catalog.value)) }
+    ensures lengths { IfOk result (λ catalog. All HasLength catalog.value) }
     ensures damaged { IsTrue B.tells
         → IfErr result (ShowsOnly (IsCatalogShown geometry.now (B.seen blocks.old))) }
     ensures same { part.new ≡ part.old }
@@ -124,32 +142,54 @@ fn read_entries<B: Blocks>(
     entries_by(alloc, geometry, &records)
 }
 
-/// The catalog, read from the only part that was attached yet.
-fn read_first<B: Blocks>(
+/// The catalog's own part, as its blocks stand.
+fn attach_own<B: Blocks>(
     alloc: Global,
     blocks: &mut B,
     geometry: &Geometry,
-    laid: &mut Laid,
-) -> Result<Box<Catalog>, OpenNo>
+) -> Result<Keyed, OpenNo>
     requires allowed { IsAllowed geometry.now }
     requires shape { IsOf geometry.now (B.seen blocks.old) }
-    requires row { AreAttached laid.old.parts.items laid.old.layouts.items
-        laid.old.numbers.items }
-    requires layouts { laid.old.layouts.items
-        ≡ part_of geometry.now 0 0 definition_of_catalog ∷ [] }
-    requires stand { IsTrue B.tells → AllStand laid.old.layouts.items (B.seen blocks.old).cur }
-    ensures entries { IsTrue B.tells → IfOk result (λ catalog.
-        AreEntriesOf geometry.now (B.seen blocks.old).cur catalog.value) }
-    ensures distinct { IfOk result (λ catalog. IsDistinct nat_eq (0 ∷ parts_in catalog.value)) }
-    ensures damaged { IsTrue B.tells
-        → IfErr result (ShowsOnly (IsCatalogShown geometry.now (B.seen blocks.old))) }
-    ensures parts { laid.new.parts.items ≡ laid.old.parts.items }
-    ensures layouts { laid.new.layouts.items ≡ laid.old.layouts.items }
-    ensures numbers { laid.new.numbers.items ≡ laid.old.numbers.items }
+    ensures attached { IfOk result (IsAttachedTo (part_of geometry.now 0 0 definition_of_catalog)) }
+    ensures stands { IsTrue B.tells → OnOk result
+        (Stands (catalog_shape geometry.now) (B.seen blocks.old).cur) }
+    ensures damaged { IsTrue B.tells → IfErr result (ShowsOnly (IsRuleShown
+        (part_of geometry.now 0 0 definition_of_catalog) 0 (area_count geometry.now)
+        (B.seen blocks.old).cur)) }
     ensures keeps { Keeps B.tells (B.seen blocks.old) (B.seen blocks.new) }
     ensures cause { HasOpenCause (B.faults blocks.old) (B.faults blocks.new) result }
 {
-    read_entries(alloc, blocks, geometry, &mut laid.parts[0])
+    let layout = catalog_layout(geometry);
+    let own = Keyed::attach_layout(alloc, blocks, layout, 0, geometry.areas())?;
+    Ok(own)
+}
+
+/// The catalog, read from its own part, which is the first of the parts.
+fn read_catalog<B: Blocks>(
+    alloc: Global,
+    blocks: &mut B,
+    geometry: &Geometry,
+    parts: &mut Vec<AnyPart>,
+) -> Result<Box<Catalog>, OpenNo>
+    requires allowed { IsAllowed geometry.now }
+    requires shape { IsOf geometry.now (B.seen blocks.old) }
+    requires parts { parts.old.items ≡ [] }
+    ensures first { OnOk result (IsFirstAlone geometry.now parts.new.items) }
+    ensures stands { IsTrue B.tells → OnOk result
+        (Stands (catalog_shape geometry.now) (B.seen blocks.old).cur) }
+    ensures entries { IsTrue B.tells → IfOk result (λ catalog.
+        AreEntriesOf geometry.now (B.seen blocks.old).cur catalog.value) }
+    ensures distinct { IfOk result (λ catalog. IsDistinct nat_eq (0 ∷ parts_in catalog.value)) }
+    ensures lengths { IfOk result (λ catalog. All HasLength catalog.value) }
+    ensures damaged { IsTrue B.tells
+        → IfErr result (ShowsOnly (IsMountShown geometry.now (B.seen blocks.old))) }
+    ensures keeps { Keeps B.tells (B.seen blocks.old) (B.seen blocks.new) }
+    ensures cause { HasOpenCause (B.faults blocks.old) (B.faults blocks.new) result }
+{
+    let mut own = attach_own(alloc, blocks, geometry)?;
+    let catalog = read_entries(alloc, blocks, geometry, &mut own)?;
+    add(parts, AnyPart::Keyed(own))?;
+    Ok(catalog)
 }
 
 /// What is answered of a catalog that isn't served: its head.
@@ -170,7 +210,7 @@ fn check_areas(geometry: &Geometry, catalog: &Catalog) -> Result<(), OpenNo>
     requires parts { IsDistinct nat_eq (0 ∷ parts_in catalog.now) }
     ensures apart { OnOk result (AreApart (shape_in geometry.now catalog.now)) }
     ensures on { OnOk result (AreOn geometry.now catalog.now) }
-    ensures clusters { OnOk result (All IsKeyedCluster catalog.now) }
+    ensures clusters { OnOk result (All IsServedCluster catalog.now) }
     ensures plain { OnOk result (All (IsPlain geometry.now) catalog.now) }
     ensures damaged { IfErr result (ShowsBoth (IsAreaNo geometry.now catalog.now)
         (IsEntryNo geometry.now catalog.now)) }
@@ -188,7 +228,7 @@ fn check_areas(geometry: &Geometry, catalog: &Catalog) -> Result<(), OpenNo>
             rule: 4,
         });
     }
-    if !are_keyed_clusters(catalog) {
+    if !are_served(catalog) {
         return Err(catalog_unserved(geometry, Unserved::OtherKind));
     }
     if !are_plain(geometry, catalog) {
@@ -197,35 +237,74 @@ fn check_areas(geometry: &Geometry, catalog: &Catalog) -> Result<(), OpenNo>
     Ok(())
 }
 
+/// Attaches each part that a catalog lays beside its own, which is there, and answers who owns the
+/// areas of the volume.
+fn lay<B: Blocks>(
+    alloc: Global,
+    blocks: &mut B,
+    geometry: &Geometry,
+    catalog: &Catalog,
+    parts: &mut Vec<AnyPart>,
+) -> Result<Space, OpenNo>
+    requires allowed { IsAllowed geometry.now }
+    requires shape { IsOf geometry.now (B.seen blocks.old) }
+    requires may { MayAdd geometry.now catalog.now }
+    requires apart { AreApart (shape_in geometry.now catalog.now) }
+    requires first { IsFirstAlone geometry.now parts.old.items }
+    requires stands { IsTrue B.tells
+        → Stands (catalog_shape geometry.now) (B.seen blocks.old).cur }
+    ensures shapes { OnOk result
+        (map shape_any parts.new.items ≡ shapes_laid geometry.now catalog.now) }
+    ensures split { OnOk result (All HasNoSplit parts.new.items) }
+    ensures owned { IfOk result (AreOwnersBy geometry.now parts.new.items) }
+    ensures known { IsTrue B.tells
+        → OnOk result (AreKnown parts.new.items (B.seen blocks.old).cur) }
+    ensures stand { IsTrue B.tells
+        → OnOk result (AllStand (map shape_any parts.new.items) (B.seen blocks.old).cur) }
+    ensures damaged { IsTrue B.tells → IfErr result
+        (ShowsOnly (IsEntryShown geometry.now catalog.now (B.seen blocks.old))) }
+    ensures keeps { Keeps B.tells (B.seen blocks.old) (B.seen blocks.new) }
+    ensures cause { HasOpenCause (B.faults blocks.old) (B.faults blocks.new) result }
+{
+    let mut space = owners_of(alloc, geometry, catalog)?;
+    add_entries(
+        alloc,
+        blocks,
+        geometry,
+        catalog.as_slice(),
+        parts,
+        &mut space,
+    )?;
+    Ok(space)
+}
+
 /// Attaches the catalog's own part, reads the catalog from it, and attaches each part that it lays,
-/// where all of them are served.
+/// where all of them are served. There is no part yet.
 pub(crate) fn mount<B: Blocks>(
     alloc: Global,
     blocks: &mut B,
     geometry: &Geometry,
-    laid: &mut Laid,
-) -> Result<Box<Catalog>, OpenNo>
+    parts: &mut Vec<AnyPart>,
+) -> Result<Mounted, OpenNo>
     requires allowed { IsAllowed geometry.now }
     requires shape { IsOf geometry.now (B.seen blocks.old) }
-    requires parts { laid.old.parts.items ≡ [] }
-    requires layouts { laid.old.layouts.items ≡ [] }
-    requires numbers { laid.old.numbers.items ≡ [] }
-    ensures mounted { IfOk result (λ catalog. IsMounted geometry.now catalog.value
-        laid.new.parts.items laid.new.layouts.items laid.new.numbers.items) }
-    ensures entries { IsTrue B.tells → IfOk result (λ catalog.
-        AreEntriesOf geometry.now (B.seen blocks.old).cur catalog.value) }
+    requires parts { parts.old.items ≡ [] }
+    ensures mounted { IfOk result (λ mounted. IsMounted geometry.now mounted.catalog.value
+        parts.new.items mounted.space) }
+    ensures entries { IsTrue B.tells → IfOk result (λ mounted.
+        AreEntriesOf geometry.now (B.seen blocks.old).cur mounted.catalog.value) }
+    ensures known { IsTrue B.tells
+        → OnOk result (AreKnown parts.new.items (B.seen blocks.old).cur) }
     ensures stand { IsTrue B.tells
-        → OnOk result (AllStand laid.new.layouts.items (B.seen blocks.old).cur) }
+        → OnOk result (AllStand (map shape_any parts.new.items) (B.seen blocks.old).cur) }
     ensures damaged { IsTrue B.tells
         → IfErr result (ShowsBoth (IsMountShown geometry.now (B.seen blocks.old))
         (IsCatalogUnserved geometry.now (B.seen blocks.old))) }
     ensures keeps { Keeps B.tells (B.seen blocks.old) (B.seen blocks.new) }
     ensures cause { HasOpenCause (B.faults blocks.old) (B.faults blocks.new) result }
 {
-    let areas = geometry.areas();
-    add_part(alloc, blocks, catalog_layout(geometry), 0, areas, laid)?;
-    let catalog = read_first(alloc, blocks, geometry, laid)?;
+    let catalog = read_catalog(alloc, blocks, geometry, parts)?;
     check_areas(geometry, &catalog)?;
-    add_entries(alloc, blocks, geometry, catalog.as_slice(), laid)?;
-    Ok(catalog)
+    let space = lay(alloc, blocks, geometry, &catalog, parts)?;
+    Ok(Mounted { catalog, space })
 }

@@ -17,14 +17,13 @@ ghost use Rattle.vr_recover.specs.Opening.{IsHandedOut, IsNoVolume, IsOpened, Is
 
 use crate::begun::{Begun, begin_log, read_shape};
 use crate::finding::{Found, find};
-use crate::laid::Laid;
 use crate::open_no::OpenNo;
 use crate::restoring::restore;
 use crate::syncing::sync_all;
 use std::alloc::Global;
 use vr_catalog::Catalog;
-use vr_keyed::Keyed;
 use vr_log::UndoLog;
+use vr_part::AnyPart;
 use vr_types::{Blocks, Geometry, Space};
 
 /// A volume that was opened: its shape, its catalog, its parts in the order of the catalog's entries
@@ -33,40 +32,25 @@ use vr_types::{Blocks, Geometry, Space};
 pub struct Opened {
     pub geometry: Geometry,
     pub catalog: Box<Catalog>,
-    pub parts: Vec<Keyed>,
+    pub parts: Vec<AnyPart>,
     pub log: UndoLog,
     pub space: Space,
 }
 
-/// No part yet, in a box.
-fn new_laid(alloc: Global) -> Result<Box<Laid>, OpenNo>
-    ensures parts { IfOk result (λ laid. laid.value.parts.items ≡ []) }
-    ensures layouts { IfOk result (λ laid. laid.value.layouts.items ≡ []) }
-    ensures numbers { IfOk result (λ laid. laid.value.numbers.items ≡ []) }
-    ensures memory { IfErr result (λ no. no ≡ OpenNo.Memory) }
-{
-    match Box::new(alloc, Laid::new(alloc)) {
-        Ok(laid) => Ok(laid),
-        Err(_) => Err(OpenNo::Memory),
-    }
-}
-
 /// Finds what a volume of this shape has, whose log was read, and makes it one without units of
-/// recovery. `laid` has no part yet. A crash leaves what is read.
+/// recovery. There is no part yet. A crash leaves what is read.
 fn open_log<B: Blocks>(
     alloc: Global,
     blocks: &mut B,
     geometry: &Geometry,
     begun: &mut Begun,
-    laid: &mut Laid,
+    parts: &mut Vec<AnyPart>,
 ) -> Result<Found, OpenNo>
     requires allowed { IsAllowed geometry.now }
     requires shape { IsOf geometry.now (B.seen blocks.old) }
     requires log { begun.old.log ≡ made geometry.now begun.old.content }
     requires young { IsLogFound geometry.now begun.old.content }
-    requires parts { laid.old.parts.items ≡ [] }
-    requires layouts { laid.old.layouts.items ≡ [] }
-    requires numbers { laid.old.numbers.items ≡ [] }
+    requires parts { parts.old.items ≡ [] }
     requires forced { IsTrue B.tells → AllForced (B.seen blocks.old).count
         (B.seen blocks.old).cur (B.seen blocks.old).may }
     requires header { IsTrue B.tells → (number : ℕ)
@@ -74,11 +58,11 @@ fn open_log<B: Blocks>(
     requires spelled { IsTrue B.tells
         → Spells geometry.now (B.seen blocks.old).cur begun.old.content }
     ensures handed { IfOk result (λ found. IsHandedOut geometry.now found.catalog.value
-        laid.new.parts.items begun.new.log found.space (B.seen blocks.new)) }
+        parts.new.items begun.new.log found.space (B.seen blocks.new)) }
     ensures opened { IsTrue B.tells → (number : ℕ)
         → block_at (B.seen blocks.old).cur 0 ≡ header_block geometry.now number
         → IfOk result (λ found. IsOpened number geometry.now found.catalog.value
-        laid.new.parts.items begun.new.log found.space (B.seen blocks.old) (B.seen blocks.new)) }
+        parts.new.items begun.new.log found.space (B.seen blocks.old) (B.seen blocks.new)) }
     ensures any_moment { IsTrue B.tells → (number : ℕ) (contents : ℕ → Content)
         → Recovers geometry.now number (B.seen blocks.old).cur contents
         → Guards (B.seen blocks.old) (B.seen blocks.new)
@@ -94,8 +78,8 @@ fn open_log<B: Blocks>(
         → IfErr result (λ no. Keeps B.tells (B.seen blocks.old) (B.seen blocks.new)) }
     ensures cause { HasOpenCause (B.faults blocks.old) (B.faults blocks.new) result }
 {
-    let found = find(alloc, blocks, geometry, begun, laid)?;
-    restore(alloc, blocks, geometry, begun, laid, &found)?;
+    let found = find(alloc, blocks, geometry, begun, parts)?;
+    restore(alloc, blocks, geometry, begun, parts, &found)?;
     Ok(found)
 }
 
@@ -154,10 +138,9 @@ fn open_numbered<B: Blocks>(
     ensures cause { HasOpenCause (B.faults blocks.old) (B.faults blocks.new) result }
 {
     let mut begun = start(alloc, blocks, count, number)?;
-    let mut laid = new_laid(alloc)?;
+    let mut parts = Vec::new(alloc);
     let geometry = begun.geometry;
-    let found = open_log(alloc, blocks, &geometry, &mut begun, &mut laid)?;
-    let parts = Box::into_inner(laid).parts;
+    let found = open_log(alloc, blocks, &geometry, &mut begun, &mut parts)?;
     let log = Box::into_inner(begun).log;
     Ok(Opened {
         geometry,

@@ -1,4 +1,5 @@
 //! Why a volume is not opened.
+use vr_attach::PartNo2;
 use vr_types::{DeviceFault, OutOfMemory};
 
 /// What a volume has for which it is not opened, though it may be one. The limits are this project's
@@ -11,7 +12,7 @@ pub enum Unserved {
     LogWithoutRoom,
     /// The log has a before-image of the catalog's own part, of a unit that is live.
     CatalogImage,
-    /// The catalog has an entry that is no key-sequenced cluster.
+    /// The catalog has an entry that is no key-sequenced or relative cluster.
     OtherKind,
     /// The catalog has a cluster whose longest record has no room in an interval of its own.
     LongRecord,
@@ -21,7 +22,7 @@ pub enum Unserved {
 #[derive(Clone, Copy)]
 pub enum OpenNo {
     /// The blocks are those of no volume of that number: a block that breaks a rule, and the rule.
-    /// 1: the header, block 0. 2: the log. 3 to 11: a part, by the numbers of `vr_attach`. 17: the
+    /// 1: the header, block 0. 2: the log. 3 to 14: a part, by the numbers of `vr_attach`. 17: the
     /// catalog's records aren't those of a catalog, and 3 and 4: they name an area that the volume
     /// hasn't, or one twice, all at the catalog's head. 19: before-images can't be put back, at the
     /// first block of the log.
@@ -61,5 +62,23 @@ impl From<OutOfMemory> for OpenNo {
 
     fn from(_error: OutOfMemory) -> OpenNo {
         OpenNo::Memory
+    }
+}
+
+impl From<PartNo2> for OpenNo {
+    ghost use Rattle.std.specs.Prelude.{◌≡◌};
+    ghost use Rattle.vr_recover.specs.OpenNo.{part_answer};
+
+    ghost from_gives = { λ why no. no ≡ part_answer why };
+
+    fn from(why: PartNo2) -> OpenNo {
+        match why {
+            PartNo2::Damaged { block, rule } => OpenNo::Damaged {
+                block,
+                rule: u32::from(rule),
+            },
+            PartNo2::Fault(fault) => OpenNo::from(fault),
+            PartNo2::Memory => OpenNo::Memory,
+        }
     }
 }

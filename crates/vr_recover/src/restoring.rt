@@ -1,5 +1,5 @@
 //! Making a volume that was found one without units of recovery.
-ghost use Rattle.std.specs.Prelude.{◌≡◌, ◌<◌, ◌≤◌, ◌+◌, ◌^◌, [], ℕ, All, IsTrue, IfErr, OnOk, None};
+ghost use Rattle.std.specs.Prelude.{◌≡◌, ◌<◌, ◌≤◌, ◌+◌, ◌^◌, [], ℕ, All, IsTrue, IfErr, OnOk};
 ghost use Rattle.std.specs.Prelude.{false, length, map};
 ghost use Rattle.vr_types.specs.Blocks.{AllForced};
 ghost use Rattle.vr_types.specs.Content.{Content};
@@ -9,29 +9,28 @@ ghost use Rattle.vr_types.specs.Moments.{Guards};
 ghost use Rattle.vr_types.specs.Regions.{Touches};
 ghost use Rattle.vr_space.specs.Owners.{Owners};
 ghost use Rattle.vr_attach.specs.Owning.{IsPastLog, owner_of};
-ghost use Rattle.vr_keyed.specs.Owned.{Owned};
 ghost use Rattle.vr_log.specs.LogNow.{IsForced, IsOf, made, next_generation};
 ghost use Rattle.vr_log.specs.Records.{HasFields, bytes_of};
 ghost use Rattle.vr_log.specs.Spells.{Spells};
 ghost use Rattle.vr_log.specs.Standing.{InLog, IsSettled, LogStands};
-ghost use Rattle.vr_mount.specs.Areas.{AreOwners};
+ghost use Rattle.vr_part.specs.Any.{shape_any};
 ghost use Rattle.vr_undo.specs.Records.{images_in};
 ghost use Rattle.vr_volume.specs.PutBack.{images_of};
 ghost use Rattle.vr_volume.specs.Volume.{Recovers};
-ghost use Rattle.vr_recover.specs.Found.{AreAttached, IsFound, IsLogFound, IsPartReady};
-ghost use Rattle.vr_recover.specs.Found.{IsPlanned, IsUndoable};
+ghost use Rattle.vr_recover.specs.Found.{AreKnown, IsFound, IsLogFound, IsPartReady, IsPlanned};
+ghost use Rattle.vr_recover.specs.Found.{IsUndoable, areas_kept};
 ghost use Rattle.vr_recover.specs.OpenNo.{HasOpenCause, IsSilentNo};
-ghost use Rattle.vr_recover.specs.Opening.{shape_owned};
+ghost use Rattle.vr_recover.specs.Opening.{HasNoSplit};
 ghost use Rattle.vr_recover.specs.Undone.{IsUndone};
 ghost use Rattle.vr_recover.specs.Undone.{IsSettled as IsSettledBy};
 
 use crate::begun::Begun;
 use crate::finding::Found;
-use crate::laid::Laid;
 use crate::open_no::OpenNo;
 use crate::undoing::undo_units;
 use std::alloc::Global;
 use vr_log::{LogContent, LogReadNo, clear_past};
+use vr_part::AnyPart;
 use vr_types::{Blocks, DeviceFault, Geometry};
 use vr_undo::Undo;
 
@@ -76,33 +75,34 @@ fn clear<B: Blocks>(
 fn undo<B: Blocks>(
     blocks: &mut B,
     begun: &mut Begun,
-    laid: &mut Laid,
+    parts: &mut Vec<AnyPart>,
     undo: &Undo,
 ) -> Result<(), OpenNo>
-    requires undoable { IsUndoable begun.old.log begun.old.content.records laid.old.parts.items
-        laid.old.numbers.items (images_in undo.now) (B.seen blocks.old) }
+    requires undoable { IsUndoable begun.old.log begun.old.content.records parts.old.items
+        (images_in undo.now) (B.seen blocks.old) }
     requires stands { IsTrue B.tells → LogStands begun.old.log (B.seen blocks.old) }
     requires ready { IsTrue B.tells → (owners : Owners) × IsPastLog begun.old.log.geometry owners
-        × All (IsPartReady owners (images_in undo.now) (B.seen blocks.old)) laid.old.parts.items }
+        × All (IsPartReady owners (images_in undo.now) (B.seen blocks.old)) parts.old.items }
     ensures any_moment { IsTrue B.tells → (number : ℕ) (owners : Owners)
         (contents : ℕ → Content)
-        → IsSettledBy number owners begun.old.log contents (map shape_owned laid.old.parts.items)
+        → IsSettledBy number owners begun.old.log contents (map shape_any parts.old.items)
         (B.seen blocks.old)
         → Guards (B.seen blocks.old) (B.seen blocks.new)
         (λ image. Recovers begun.old.log.geometry number image contents) }
     ensures undone { IsTrue B.tells → begun.old.log.generation + 1 < 2 ^ 64
         → OnOk result ((number : ℕ) (owners : Owners)
         (contents : ℕ → Content)
-        → IsSettledBy number owners begun.old.log contents (map shape_owned laid.old.parts.items)
+        → IsSettledBy number owners begun.old.log contents (map shape_any parts.old.items)
         (B.seen blocks.old)
         → IsUndone number owners begun.new.log contents (B.seen blocks.new)) }
     ensures ready { IsTrue B.tells → OnOk result ((owners : Owners)
         → IsPastLog begun.old.log.geometry owners
-        → All (IsPartReady owners (images_in undo.now) (B.seen blocks.old)) laid.old.parts.items
-        → All (IsPartReady owners (images_in undo.now) (B.seen blocks.new)) laid.new.parts.items) }
-    ensures shapes { map shape_owned laid.new.parts.items
-        ≡ map shape_owned laid.old.parts.items }
-    ensures split { All (λ (keyed : Owned). keyed.split ≡ None) laid.new.parts.items }
+        → All (IsPartReady owners (images_in undo.now) (B.seen blocks.old)) parts.old.items
+        → All (IsPartReady owners (images_in undo.now) (B.seen blocks.new)) parts.new.items) }
+    ensures shapes { map shape_any parts.new.items
+        ≡ map shape_any parts.old.items }
+    ensures split { All HasNoSplit parts.new.items }
+    ensures areas { areas_kept parts.new.items ≡ areas_kept parts.old.items }
     ensures records { OnOk result (begun.new.log.records ≡ []) }
     ensures generation { OnOk result
         (begun.new.log.generation ≡ next_generation begun.old.log.generation) }
@@ -117,8 +117,7 @@ fn undo<B: Blocks>(
 {
     undo_units(
         blocks,
-        laid.parts.as_mut_slice(),
-        laid.numbers.as_slice(),
+        parts.as_mut_slice(),
         undo,
         &mut begun.log,
         begun.content.records(),
@@ -136,24 +135,23 @@ pub(crate) fn restore<B: Blocks>(
     blocks: &mut B,
     geometry: &Geometry,
     begun: &mut Begun,
-    laid: &mut Laid,
+    parts: &mut Vec<AnyPart>,
     found: &Found,
 ) -> Result<(), OpenNo>
     requires allowed { IsAllowed geometry.now }
     requires shape { IsOf geometry.now (B.seen blocks.old) }
     requires log { begun.old.log ≡ made geometry.now begun.old.content }
     requires young { IsLogFound geometry.now begun.old.content }
-    requires row { AreAttached laid.old.parts.items laid.old.layouts.items
-        laid.old.numbers.items }
+    requires split { All HasNoSplit parts.old.items }
     requires planned { IsPlanned geometry.now begun.old.content found.now.catalog.value
-        laid.old.layouts.items }
-    requires owners { AreOwners geometry.now found.now.catalog.value found.now.space }
+        (map shape_any parts.old.items) }
     requires kept { images_in found.now.undo.value ≡ images_of begun.old.content.records }
     requires forced { IsTrue B.tells → AllForced (B.seen blocks.old).count
         (B.seen blocks.old).cur (B.seen blocks.old).may }
     requires found { IsTrue B.tells → (number : ℕ)
         × IsFound geometry.now number begun.old.content found.now.catalog.value
-        laid.old.layouts.items (B.seen blocks.old).cur }
+        (map shape_any parts.old.items) found.now.space (B.seen blocks.old).cur }
+    requires known { IsTrue B.tells → AreKnown parts.old.items (B.seen blocks.old).cur }
     ensures any_moment { IsTrue B.tells → (number : ℕ) (contents : ℕ → Content)
         → Recovers geometry.now number (B.seen blocks.old).cur contents
         → Guards (B.seen blocks.old) (B.seen blocks.new)
@@ -164,11 +162,11 @@ pub(crate) fn restore<B: Blocks>(
         (B.seen blocks.new)) }
     ensures ready { IsTrue B.tells → OnOk result
         (All (IsPartReady (owner_of geometry.now found.now.space)
-        (images_in found.now.undo.value) (B.seen blocks.new)) laid.new.parts.items) }
-    ensures shapes { OnOk result (map shape_owned laid.new.parts.items
-        ≡ map shape_owned laid.old.parts.items) }
-    ensures split { OnOk result (All (λ (keyed : Owned). keyed.split ≡ None)
-        laid.new.parts.items) }
+        (images_in found.now.undo.value) (B.seen blocks.new)) parts.new.items) }
+    ensures shapes { OnOk result (map shape_any parts.new.items
+        ≡ map shape_any parts.old.items) }
+    ensures split { OnOk result (All HasNoSplit parts.new.items) }
+    ensures areas { OnOk result (areas_kept parts.new.items ≡ areas_kept parts.old.items) }
     ensures records { OnOk result (begun.new.log.records ≡ []) }
     ensures generation { OnOk result (begun.new.log.generation < 2 ^ 63 + 1) }
     ensures geometry { OnOk result (begun.new.log.geometry ≡ geometry.now) }
@@ -180,5 +178,5 @@ pub(crate) fn restore<B: Blocks>(
     ensures cause { HasOpenCause (B.faults blocks.old) (B.faults blocks.new) result }
 {
     clear(alloc, blocks, geometry, &begun.content)?;
-    undo(blocks, begun, laid, &found.undo)
+    undo(blocks, begun, parts, &found.undo)
 }

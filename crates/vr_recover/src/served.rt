@@ -1,30 +1,30 @@
-//! Which catalogs are served: those of key-sequenced clusters, whose longest records have room in an
-//! interval of their own.
+//! Which catalogs are served: those of key-sequenced and relative clusters, whose longest records
+//! have room in an interval of their own.
 ghost use Rattle.std.specs.Prelude.{◌≡◌, ◌↔◌, IsTrue, All};
-ghost use Rattle.vr_recover.specs.Unserved.{IsKeyedCluster, IsPlain};
+ghost use Rattle.vr_recover.specs.Unserved.{IsServedCluster, IsPlain};
 
 use vr_catalog::{CatEntry, Catalog, EntryKind};
 use vr_types::{Geometry, Kind};
 
-/// Whether an entry is of a key-sequenced cluster.
-fn is_keyed_cluster(entry: &CatEntry) -> bool
-    ensures { IsTrue result ↔ IsKeyedCluster entry.now }
+/// Whether an entry is of a key-sequenced or relative cluster.
+fn is_served_cluster(entry: &CatEntry) -> bool
+    ensures { IsTrue result ↔ IsServedCluster entry.now }
 {
     match entry.entry_kind {
         EntryKind::Cluster => match entry.kind {
-            None | Some(Kind::Keyed) => true,
-            Some(Kind::Entry) | Some(Kind::Relative) => false,
+            None | Some(Kind::Keyed) | Some(Kind::Relative) => true,
+            Some(Kind::Entry) => false,
         },
         EntryKind::Alternate | EntryKind::Path => false,
     }
 }
 
-/// Whether each entry of a catalog is of a key-sequenced cluster.
-pub(crate) fn are_keyed_clusters(catalog: &Catalog) -> bool
-    ensures { IsTrue result ↔ All IsKeyedCluster catalog.now }
+/// Whether each entry of a catalog is of a key-sequenced or relative cluster.
+pub(crate) fn are_served(catalog: &Catalog) -> bool
+    ensures { IsTrue result ↔ All IsServedCluster catalog.now }
 {
     let entries = catalog.as_slice();
-    entries.iter().all(|entry| is_keyed_cluster(entry))
+    entries.iter().all(|entry| is_served_cluster(entry))
 }
 
 /// Whether the longest record of an entry has room in an interval of its own, where it is a cluster.

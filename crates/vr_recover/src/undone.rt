@@ -39,9 +39,10 @@ ghost use Rattle.vr_recover.specs.Undone.{
   IsReady,
 };
 
+use crate::fitting::bytes_of;
 use vr_log::{LogRecord, UndoLog};
 use vr_space::{Kept, Part};
-use vr_types::{Blocks, Bytes, DeviceFault, PartNo, Place};
+use vr_types::{Blocks, DeviceFault, PartNo, Place};
 use vr_volume::{force_blocks, set_free};
 
 /// Makes these bytes the record at a place, or takes the record there away, and forces the blocks
@@ -94,20 +95,11 @@ fn set_forced<B: Blocks, P: Part, K: Kept>(
     ensures cause { HasCause (B.faults blocks.old) (B.faults blocks.new) result }
     ensures shape { P.shape part.new ≡ P.shape part.old }
     ensures split { (P.known part.new).split ≡ (P.known part.old).split }
+    ensures areas { (P.known part.new).areas ≡ (P.known part.old).areas }
 {
     set_free(blocks, part, kept, place, bytes)?;
     force_blocks(blocks, part.put_blocks())?;
     Ok(())
-}
-
-/// What a before-image puts back.
-fn bytes_of(old: &Option<Bytes>) -> Option<&[u8]>
-    ensures { given result ≡ old.now }
-{
-    match old {
-        Some(bytes) => Some(bytes.as_slice()),
-        None => None,
-    }
 }
 
 /// Puts a record of the log back, where it is a before-image of this part, of a unit that is live,
@@ -161,6 +153,7 @@ fn put_record<B: Blocks, P: Part, K: Kept>(
     ensures cause { HasCause (B.faults blocks.old) (B.faults blocks.new) result }
     ensures shape { P.shape part.new ≡ P.shape part.old }
     ensures split { (P.known part.new).split ≡ (P.known part.old).split }
+    ensures areas { (P.known part.new).areas ≡ (P.known part.old).areas }
 {
     if let LogRecord::Before {
         unit,
@@ -224,6 +217,7 @@ pub(crate) fn put_back<B: Blocks, P: Part, K: Kept>(
     ensures cause { HasCause (B.faults blocks.old) (B.faults blocks.new) result }
     ensures shape { P.shape part.new ≡ P.shape part.old }
     ensures split { (P.known part.new).split ≡ (P.known part.old).split }
+    ensures areas { (P.known part.new).areas ≡ (P.known part.old).areas }
 {
     for rec in records {
         put_record(blocks, part, number, kept, log, rec)?;

@@ -1,6 +1,6 @@
 -- An area more where one is free: it is claimed then; and where none is, nothing is done.
-use Rattle.std.proofs.Common.{◌≡◌, ◌≢◌, ◌<◌, ℕ, Bool, IsTrue, true, List, [], length, Option, Some}
-use Rattle.std.proofs.Common.{None, refl, sym, ap, subst, ◌∙◌, get_or, get_or-set_same, true≢false}
+use Rattle.std.proofs.Common.{◌≡◌, ◌≢◌, ℕ, Bool, IsTrue, List, Option, Some}
+use Rattle.std.proofs.Common.{None, refl, sym, ap, ◌∙◌, get_or, get_or-set_same, true≢false}
 use Rattle.std.specs.Prelude.{slice_set}
 use Rattle.std.specs.Option.{is_none}
 use Rattle.std.proofs.lemmas.List.Quantifiers.{position-Some}
@@ -9,7 +9,7 @@ use Rattle.vr_types.specs.Seen.{Left, Seen}
 use Rattle.vr_types.specs.Space.{least_free}
 use Rattle.vr_types.specs.declared.unit.PartNo.{PartNo}
 use Rattle.vr_types.proofs.CallerLemmas.{keeps-none}
-use Rattle.vr_space.specs.Part.{IsQuiet, MayGrow, RelativeShape}
+use Rattle.vr_space.specs.Part.{RelativeShape}
 use Rattle.vr_space.specs.Room.{Lengths}
 use Rattle.vr_space.specs.Rosters.{Numbered}
 use Rattle.vr_space.specs.Slots.{KeepsSlots}

@@ -1,20 +1,20 @@
 -- The end of a chain: an empty interval that a roster counts, in the last area or in one that is
 -- linked.
-use Rattle.std.proofs.Common.{◌≡◌, ◌≢◌, ◌<◌, ◌≤◌, ◌+◌, ◌-◌, ℕ, zero, suc, Bool, true, false, List, []}
+use Rattle.std.proofs.Common.{◌≡◌, ◌<◌, ◌≤◌, ◌+◌, ◌-◌, ℕ, zero, suc, Bool, true, false, List, []}
 use Rattle.std.proofs.Common.{◌∷◌, length, Option, Some, None, replicate, refl, sym, ap, subst, ◌∙◌}
 use Rattle.std.proofs.Common.{arith, ⊎_elim}
 use Rattle.std.specs.Prelude.{cond, nat_lt, option_and_then, slice_get}
-use Rattle.std.proofs.lemmas.Bool.{cases_lt, ltb-false, ltb-true}
+use Rattle.std.proofs.lemmas.Bool.{cases_lt, ltb-true}
 use Rattle.std.proofs.lemmas.List.{get_or-replicate, length-replicate}
 use Rattle.std.proofs.lemmas.Option.{slice_get-get_or, slice_get_past}
 use Rattle.vr_types.specs.Content.{Item}
-use Rattle.vr_types.specs.Image.{Block, Image, block_at}
+use Rattle.vr_types.specs.Image.{Block, Image}
 use Rattle.vr_ci.specs.Interval as ci
 use Rattle.vr_seqset.specs.Reading.{roster_in}
 use Rattle.vr_seqset.specs.Roster.{IsRoster, Roster}
 use Rattle.vr_seqset.proofs.CallerLemmas.{roster_is}
 use Rattle.vr_space.specs.Rosters.{Chains, IsChainedBy, IsNextOf, Numbered, chain_way, interval_in}
-use Rattle.vr_space.specs.Rosters.{after_next, roster_at, roster_block, way_by}
+use Rattle.vr_space.specs.Rosters.{roster_at, roster_block, way_by}
 use Rattle.vr_space.specs.Slots.{IsSlots, slot_item, slot_read, slots_of, standing_in}
 use Rattle.vr_space.specs.Way.{Found, MayFind}
 use Rattle.vr_relative.specs.Extended.{IsMadeRoster}

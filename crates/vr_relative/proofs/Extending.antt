@@ -1,15 +1,15 @@
 -- A put by which the chain is as it was, or longer, whichever owners it rests by; and puts one after
 -- another.
-use Rattle.std.proofs.Common.{◌≡◌, ◌<◌, ◌≤◌, ◌+◌, ℕ, Bool, IsTrue, List, [], length, All, Option, Some}
-use Rattle.std.proofs.Common.{refl, sym, ◌∙◌, subst}
+use Rattle.std.proofs.Common.{◌≡◌, ◌<◌, ◌≤◌, ◌+◌, ℕ, Bool, IsTrue, List, [], length, All, Option}
+use Rattle.std.proofs.Common.{sym, ◌∙◌}
 use Rattle.vr_types.specs.Blocks.{Puts}
 use Rattle.vr_types.specs.Geometry.{area_count}
-use Rattle.vr_types.specs.Image.{Block, Image}
+use Rattle.vr_types.specs.Image.{Block}
 use Rattle.vr_types.specs.Seen.{Left, Only, Seen}
 use Rattle.vr_types.specs.declared.unit.PartNo.{PartNo}
 use Rattle.vr_types.proofs.CallerLemmas.{touches-then}
 use Rattle.vr_space.specs.Owners.{Owners}
-use Rattle.vr_space.specs.Part.{DueMore, HasRoom, InPart, IsAtRest, IsQuiet, MayGrow, Nothing}
+use Rattle.vr_space.specs.Part.{DueMore, HasRoom, InPart, IsQuiet, MayGrow, Nothing}
 use Rattle.vr_space.specs.Part.{RelativeShape}
 use Rattle.vr_space.specs.Room.{Lengths}
 use Rattle.vr_space.specs.Rosters.{IsChained, IsOwnArea, Numbered, chain_of, used_of}

@@ -25,4 +25,14 @@ pub mod LastPuts
 pub mod AddInterval
 pub mod LinkArea
 pub mod Owning
+pub mod MoreDue
 pub mod AddArea
+pub mod Taking
+pub mod WalkedOn
+pub mod RosterRules
+pub mod SlotRules
+pub mod Attaching
+pub mod Stepping
+pub mod KeptRooms
+pub mod Damaged
+pub mod CallerLemmas

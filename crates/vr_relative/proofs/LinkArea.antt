@@ -1,22 +1,21 @@
 -- An area more of the chain: it is written with one empty interval and forced, then the roster of
 -- the last area, which leads to it.
-use Rattle.std.proofs.Common.{◌≡◌, ◌≢◌, ◌<◌, ◌≤◌, ◌+◌, ◌*◌, ◌++◌, ℕ, Bool, IsTrue, List, [], ◌∷◌}
+use Rattle.std.proofs.Common.{◌≡◌, ◌≢◌, ◌<◌, ◌+◌, ◌*◌, ◌++◌, ℕ, Bool, IsTrue, List, [], ◌∷◌}
 use Rattle.std.proofs.Common.{length, All, Option, Some, None, sym, ap, subst, ◌∙◌, arith, refl}
 use Rattle.std.proofs.Math.Nat.{suc-mul}
 use Rattle.std.proofs.lemmas.List.Elements.{All-head, All-weaker}
 use Rattle.vr_types.specs.Blocks.{Puts}
 use Rattle.vr_types.specs.Geometry.{area_count}
-use Rattle.vr_types.specs.Image.{Block, Image, block_at}
+use Rattle.vr_types.specs.Image.{Block, block_at}
 use Rattle.vr_types.specs.Seen.{Left, Only, Seen}
 use Rattle.vr_types.specs.Space.{least_free}
 use Rattle.vr_types.specs.declared.unit.PartNo.{PartNo}
 use Rattle.vr_types.proofs.CallerLemmas.{only-elsewhere}
 use Rattle.vr_seqset.proofs.CallerLemmas.{All-right}
-use Rattle.vr_space.specs.Owners.{Owners}
-use Rattle.vr_space.specs.Part.{InPart, IsQuiet, MayGrow, RelativeShape}
+use Rattle.vr_space.specs.Part.{IsQuiet, RelativeShape}
 use Rattle.vr_space.specs.Room.{Lengths}
 use Rattle.vr_space.specs.Rosters.{IsInArea, Numbered, chain_of, interval_in, roster_at, roster_block}
-use Rattle.vr_space.specs.Slots.{AreSlotsAtRest, IsNumberedOn, KeepsSlots}
+use Rattle.vr_space.specs.Slots.{IsNumberedOn, KeepsSlots}
 use Rattle.vr_space.proofs.CallerLemmas.{area-below, area-owned, interval-inside, roster-inside}
 use Rattle.vr_relative.specs.Chain.{ChainNow, IsChainOf}
 use Rattle.vr_relative.specs.Extended.{IsExtended, IsMadeRoster, MayExtend}

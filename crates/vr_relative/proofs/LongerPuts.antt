@@ -1,9 +1,9 @@
 -- A put by which the chain of a relative part is as it was, or longer at its end: it adds nothing to
 -- what places may hold, and what is kept has room.
 use Rattle.std.proofs.Common.{◌≡◌, ◌⊎◌, inl, inr, ⊎_elim, ◌<◌, ◌≤◌, ◌+◌, ℕ, Bool, IsTrue, true}
-use Rattle.std.proofs.Common.{false, List, [], length, All, Option, Some, None, refl, sym, ap, subst}
+use Rattle.std.proofs.Common.{false, List, [], length, All, Option, None, refl, sym, ap, subst}
 use Rattle.std.proofs.Common.{◌∙◌, arith}
-use Rattle.std.specs.Prelude.{Contains, cond}
+use Rattle.std.specs.Prelude.{cond}
 use Rattle.vr_types.specs.Blocks.{Puts}
 use Rattle.vr_types.specs.Content.{Item}
 use Rattle.vr_types.specs.Geometry.{area_count}
@@ -12,16 +12,16 @@ use Rattle.vr_types.specs.Regions.{Touches}
 use Rattle.vr_types.specs.Seen.{Left, Only, Seen}
 use Rattle.vr_types.proofs.CallerLemmas.{cur-elsewhere, cur-put, puts-touches}
 use Rattle.vr_space.specs.Owners.{Owners}
-use Rattle.vr_space.specs.Part.{AddsTo, DueMore, HasOnly, HasRoom, InPart, IsDueTo, MayAlsoHold}
+use Rattle.vr_space.specs.Part.{AddsTo, DueMore, HasOnly, HasRoom, InPart, MayAlsoHold}
 use Rattle.vr_space.specs.Part.{MayHold, Nothing, RelativeShape, SameRecords, Shape}
 use Rattle.vr_space.specs.Room.{Lengths}
-use Rattle.vr_space.specs.Rosters.{Chains, IsChained, IsInArea, IsOf, IsOwnArea, Numbered}
-use Rattle.vr_space.specs.Rosters.{areas_from, chain_of, interval_in, interval_way, roster_block}
+use Rattle.vr_space.specs.Rosters.{IsChained, IsInArea, IsOf, IsOwnArea, Numbered}
+use Rattle.vr_space.specs.Rosters.{chain_of, interval_way, roster_block}
 use Rattle.vr_space.specs.Slots.{AreSlotsAtRest, AreSlotsSound, IsNumberedOn, IsRestingArea}
 use Rattle.vr_space.specs.Slots.{IsSlots, KeepsSlots, interval_of, is_slot_place, slot_in, slot_read}
 use Rattle.vr_space.specs.Slots.{slot_way}
 use Rattle.vr_space.specs.Way.{Found, MayFind, MayOnceForced, Reads, Way, found_on}
-use Rattle.vr_space.proofs.CallerLemmas.{IsPartBlock, area-below, area-owned, chain-less}
+use Rattle.vr_space.proofs.CallerLemmas.{IsPartBlock, area-owned, chain-less}
 use Rattle.vr_space.proofs.CallerLemmas.{holds-less, only-weaken, on-still, room-image}
 use Rattle.vr_space.proofs.CallerLemmas.{roster-inside, slots-grow, sound-image, sound-less}
 use Rattle.vr_relative.proofs.Longer.{Lengthens, chain-longer, find-longer, grows-longer}

@@ -1,14 +1,12 @@
 -- The places that were met, as another is.
 use Rattle.std.proofs.Common.{◌≡◌, ◌<◌, ◌≤◌, ◌+◌, ℕ, zero, suc, Bool, true, false, List, [], ◌∷◌}
-use Rattle.std.proofs.Common.{take, All, refl, sym, ap, ◌∙◌, arith, min, subst, length}
+use Rattle.std.proofs.Common.{take, All, refl, sym, ap, ◌∙◌, arith, min, subst}
 use Rattle.std.proofs.lemmas.List.Elements.{All-cons, All-head, All-nil, All-tail}
 use Rattle.std.specs.Prelude.{IfOk, OnOk, bytes_eq, cond, filter, not}
 use Rattle.std.specs.declared.result.Result.{Result}
 use Rattle.std.specs.declared.result.Result.TheVariants.{Ok, Err}
 use Rattle.std.proofs.lemmas.Slice.Eq.{bytes_eq-Decides}
-use Rattle.vr_types.proofs.CallerLemmas.{length-four}
 use Rattle.vr_space.specs.Met.{Met, met_next}
-use Rattle.vr_space.specs.Slots.{IsSlotPlace, number_of}
 use Rattle.vr_relative.specs.Met.{HasMetPlace, met_places}
 
 same-bytes : (one other : List ℕ) → one ≡ other → bytes_eq one other ≡ true

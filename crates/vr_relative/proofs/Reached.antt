@@ -1,9 +1,10 @@
 -- The block that a way over a chain comes to where the rosters are as an image has them: one at
 -- most, and no two intervals have the same.
-use Rattle.std.proofs.Common.{◌≡◌, ◌+◌, ◌-◌, ◌<◌, ◌≤◌, ℕ, zero, suc, Bool, true, false, List, []}
+use Rattle.std.proofs.Common.{◌≡◌, ◌≢◌, get_or, ◌+◌, ◌-◌, ◌<◌, ◌≤◌, ℕ, zero, suc, Bool, true, false, List, []}
 use Rattle.std.proofs.Common.{◌∷◌, length, Option, Some, None, refl, sym, ap, subst, ◌∙◌, arith}
 use Rattle.std.proofs.Common.{⊎_elim}
 use Rattle.std.specs.Prelude.{cond, nat_lt}
+use Rattle.std.specs.List.{AllPairs}
 use Rattle.std.proofs.Math.Nat.{mul-le-mul_right}
 use Rattle.std.proofs.lemmas.Bool.{cases_lt, ltb-true, ltb-false}
 use Rattle.vr_types.specs.Content.{Item}
@@ -186,7 +187,7 @@ roster-apart part area other interval below same =
 
 module _ (part : Numbered) (Own : ℕ → Type 0) (Interval : Block → Type 0) (image : Image) where
   -- A chain that goes on from an area has the same areas, however many it may have at most.
-  areas-agree : (k j area : ℕ) → Chains part Own Interval (IsOf image) k area
+  pub areas-agree : (k j area : ℕ) → Chains part Own Interval (IsOf image) k area
       → Chains part Own Interval (IsOf image) j area
       → areas_from part image k area ≡ areas_from part image j area
   areas-agree zero j area one other = absurd one
@@ -372,3 +373,51 @@ module _ (part : Numbered) (Own : ℕ → Type 0) (Interval : Block → Type 0) 
             ltb-false i used past,
             ltb-false j used beyond,
           )
+
+  -- ---- no area comes twice
+
+  -- A chain goes on from the area at this place of it, with the areas that come from there on.
+  pub record GoesOn (many j at : ℕ) : Type 0 where
+    pub left : ℕ
+    pub chain : Chains part Own Interval (IsOf image) left at
+    pub rest : j + length (areas_from part image left at) ≡ many
+
+  pub goes-on : (k j area d : ℕ) → Chains part Own Interval (IsOf image) k area
+      → j < length (areas_from part image k area)
+      → GoesOn (length (areas_from part image k area)) j (get_or (areas_from part image k area) j d)
+  goes-on zero j area d chain below = absurd chain
+  goes-on (suc k) zero area d chain below =
+      record { left = suc k; chain = chain; rest = omega arith }
+  goes-on (suc k) (suc j) area d chain below =
+      by_next (roster_at part image area).next
+      (chained-here part Own Interval image k area chain).next below
+      (λ after further less. goes-on k j after d further less)
+    where
+      by_next : (next : Option ℕ)
+          → IsNextOf (roster_at part image area).used part.geometry.area
+          (Chains part Own Interval (IsOf image) k) next
+          → suc j < suc (length (after_next [] (areas_from part image k) next))
+          → ((after : ℕ) → Chains part Own Interval (IsOf image) k after
+          → j < length (areas_from part image k after)
+          → GoesOn (length (areas_from part image k after)) j
+          (get_or (areas_from part image k after) j d))
+          → GoesOn (suc (length (after_next [] (areas_from part image k) next))) (suc j)
+          (get_or (after_next [] (areas_from part image k) next) j d)
+      by_next None rule within more = absurd (omega (arith, within))
+      by_next (Some after) rule within more =
+          let it = more after rule.1 (omega (arith, within)) in
+          record { left = it.left; chain = it.chain; rest = omega (arith, it.rest) }
+
+  pub chain-once : (k area : ℕ) → Chains part Own Interval (IsOf image) k area
+      → AllPairs (λ (x y : ℕ). x ≢ y) (areas_from part image k area)
+  chain-once k area chain i j d less within same =
+      let one = goes-on k i area d chain (omega (arith, less, within)) in
+      let other = goes-on k j area d chain within in
+      let agree = areas-agree one.left other.left (get_or (areas_from part image k area) i d)
+      one.chain
+      (subst (Chains part Own Interval (IsOf image) other.left) (sym same) other.chain) in
+      let long : length (areas_from part image one.left (get_or (areas_from part image k area) i d))
+      ≡ length (areas_from part image other.left (get_or (areas_from part image k area) j d)) =
+      ap (λ (areas : List ℕ). length areas) agree
+      ∙ ap (λ (at : ℕ). length (areas_from part image other.left at)) same in
+      omega (arith, less, one.rest, other.rest, long)

@@ -1,9 +1,12 @@
 -- What an interval more, or an area more, leaves of a relative part. The rules are this project's
 -- own.
-use Rattle.std.specs.Prelude.{◌≡◌, ℕ, List, [], Option}
+use Rattle.std.specs.Prelude.{◌≡◌, ◌≤◌, ◌+◌, ◌-◌, ℕ, List, [], Option, length}
+use Rattle.std.specs.Int.{div_ceil}
+use Rattle.vr_types.specs.Geometry.{area_count}
 use Rattle.vr_types.specs.Image.{Block}
 use Rattle.vr_types.specs.Regions.{Touches}
 use Rattle.vr_types.specs.Seen.{Seen}
+use Rattle.vr_types.specs.Space.{free_count}
 use Rattle.vr_types.specs.declared.unit.PartNo.{PartNo}
 use Rattle.vr_seqset.specs.Reading.{roster_in}
 use Rattle.vr_space.specs.Room.{Lengths}
@@ -11,6 +14,7 @@ use Rattle.vr_space.specs.Owners.{Owners}
 use Rattle.vr_space.specs.Part.{AddsTo, DueMore, HasKeptRoom, HasRoom, InPart, IsAtRest, MayGrow}
 use Rattle.vr_space.specs.Part.{Nothing, RelativeShape, SameRecords}
 use Rattle.vr_space.specs.Rosters.{IsRosterOf, Numbered}
+use Rattle.vr_relative.specs.Chain.{ChainNow}
 
 -- Whether it failed or not: nothing is added to what places may hold, and what is kept has room, in
 -- the image of each moment and from then on.
@@ -40,3 +44,16 @@ pub record IsMadeRoster (part : Numbered) (used : ℕ) (next : Option ℕ) (bloc
   where
     pub roster : IsRosterOf part block
     pub has : roster_in block ≡ record { used = used; part = part.part; next = next }
+
+-- The interval more is due: one that isn't used is wanted, and areas enough for it are free, which
+-- are those of the volume; and the part is at rest, in blocks that it may have more of.
+pub record IsMoreDue (chain : ChainNow) (areas : List (Option PartNo)) (now : Seen) : Type 0 where
+  pub interval : ℕ
+  pub unused : chain.used ≤ interval
+  pub enough : div_ceil (interval + 1) chain.part.geometry.area - length chain.areas
+      ≤ free_count areas
+  pub volume : length areas ≡ area_count chain.part.geometry
+  pub owners : Owners
+  pub grown : Owners
+  pub grows : MayGrow (RelativeShape chain.part) areas owners grown
+  pub rests : IsAtRest (RelativeShape chain.part) owners now

@@ -5,3 +5,4 @@ pub mod Written
 pub mod Searched
 pub mod Setting
 pub mod Extended
+pub mod Walked

@@ -1,6 +1,6 @@
 //! The chain of a part's areas, in memory.
 ghost use Rattle.std.specs.Prelude.{◌≡◌, ◌≤◌, ◌<◌, ◌+◌, ◌-◌, ◌*◌, ◌/◌, ◌%◌, ◌++◌, ◌∷◌, [], ℕ, List};
-ghost use Rattle.std.specs.Prelude.{◌≢◌, All, IfOk, IfSome, IsTrue, None, false, length, nat_lt};
+ghost use Rattle.std.specs.Prelude.{◌≢◌, All, Contains, IfOk, IfSome, IsTrue, None, false, length, nat_lt};
 ghost use Rattle.std.specs.Int.{div_ceil};
 ghost use Rattle.vr_types.specs.Geometry.{area_count};
 ghost use Rattle.vr_space.specs.Known.{Known};
@@ -133,6 +133,13 @@ impl Chain {
         (number - 1) % self.layout.slots()
     }
 
+    /// The number of the last slot, and 0 where no interval is used.
+    pub(crate) fn last_number(&self) -> u32
+        ensures { result ≡ self.now.used * slots_of self.now.part }
+    {
+        self.used * self.layout.slots()
+    }
+
     /// The number of a slot of a used interval.
     pub(crate) fn number_of(&self, interval: u32, slot: u32) -> u32
         requires used { interval < self.now.used }
@@ -191,6 +198,13 @@ impl Chain {
         }
     }
 
+    /// How many areas it has.
+    pub(crate) fn count(&self) -> u32
+        ensures { result ≡ length self.now.areas }
+    {
+        self.areas.len() as u32
+    }
+
     /// Whether every interval of its areas is used.
     pub(crate) fn is_whole(&self) -> bool
         ensures whole { IsTrue result
@@ -231,6 +245,19 @@ impl Chain {
         self.used += 1;
     }
 
+    /// So many intervals more are used.
+    pub(crate) fn use_more(&mut self, more: u32)
+        requires { self.old.used + more
+            ≤ length self.old.areas * self.old.part.geometry.area }
+        ensures { self.new ≡ record {
+          part = self.old.part;
+          areas = self.old.areas;
+          used = self.old.used + more;
+        } }
+    {
+        self.used += more;
+    }
+
     /// An area more is the last one.
     pub(crate) fn add_area(&mut self, area: u32)
         requires there { area < area_count self.old.part.geometry }
@@ -253,6 +280,9 @@ impl Chain {
         ensures room { IsTrue result
             → length self.now.areas < area_count self.now.part.geometry }
         ensures apart { IsTrue result → All (λ other. other ≢ area) self.now.areas }
+        ensures has { result ≡ false → area < area_count self.now.part.geometry
+            → length self.now.areas < area_count self.now.part.geometry
+            → Contains self.now.areas area }
     {
         let count = self.layout.geometry.areas();
         area < count && (self.areas.len() as u32) < count && !self.areas.contains(&area)

@@ -1,5 +1,6 @@
 //! One interval more at the end of the chain, in its last area or in one that is claimed.
-ghost use Rattle.std.specs.Prelude.{◌≡◌, ◌≢◌, ◌<◌, ◌≤◌, ◌*◌, List, All, Option, Some, IsTrue, OnErr};
+ghost use Rattle.std.specs.Prelude.{◌≡◌, ◌≢◌, ◌<◌, ◌≤◌, ◌+◌, ◌*◌, ◌++◌, ◌∷◌, [], List, All, Option};
+ghost use Rattle.std.specs.Prelude.{Some, IsTrue, OnErr};
 ghost use Rattle.std.specs.Prelude.{OnOk, length};
 ghost use Rattle.vr_types.specs.Blocks.{Puts};
 ghost use Rattle.vr_types.specs.Faults.{HasWriteCause};
@@ -9,12 +10,13 @@ ghost use Rattle.vr_types.specs.Seen.{Only};
 ghost use Rattle.vr_types.specs.Space.{least_free};
 ghost use Rattle.vr_types.specs.declared.unit.StageKind.TheVariants as stages;
 ghost use Rattle.vr_types.specs.declared.unit.PartNo.{PartNo};
-ghost use Rattle.vr_space.specs.Part.{HasKeptRoom, IsQuiet, OwnersAfter, RelativeShape, part_no};
+ghost use Rattle.vr_space.specs.Part.{HasKeptRoom, IsQuiet, KeepsChain, OwnersAfter, RelativeShape};
+ghost use Rattle.vr_space.specs.Part.{part_no};
 ghost use Rattle.vr_space.specs.Room.{Lengths};
 ghost use Rattle.vr_space.specs.Rosters.{interval_in, roster_block};
 ghost use Rattle.vr_space.specs.Slots.{IsNumberedOn};
 ghost use Rattle.vr_relative.specs.Chain.{IsChainOf};
-ghost use Rattle.vr_relative.specs.Extended.{IsExtended, IsMadeRoster, MayExtend};
+ghost use Rattle.vr_relative.specs.Extended.{IsExtended, IsMadeRoster, IsMoreDue, MayExtend};
 ghost use Rattle.vr_relative.specs.Written.{AreSlotsEmpty};
 
 use crate::chain::Chain;
@@ -96,6 +98,12 @@ fn add_interval<B: Blocks>(
         → IsQuiet (RelativeShape chain.old.part) (B.seen blocks.old)
         → IsExtended chain.old.part areas areas (B.seen blocks.old) (B.seen blocks.new)
         × IsChainOf chain.new (B.seen blocks.new).cur) }
+    ensures more { OnOk result (chain.new ≡ record {
+      part = chain.old.part;
+      areas = chain.old.areas;
+      used = chain.old.used + 1;
+    }) }
+    ensures stays { OnErr result (chain.new ≡ chain.old) }
     ensures part { chain.new.part ≡ chain.old.part }
     ensures out { length out.new ≡ length out.old }
     ensures count { (B.seen blocks.new).count ≡ (B.seen blocks.old).count }
@@ -137,6 +145,12 @@ fn link_area<B: Blocks>(
         → IsQuiet (RelativeShape chain.old.part) (B.seen blocks.old)
         → IsExtended chain.old.part areas after (B.seen blocks.old) (B.seen blocks.new)
         × IsChainOf chain.new (B.seen blocks.new).cur) }
+    ensures more { OnOk result (chain.new ≡ record {
+      part = chain.old.part;
+      areas = chain.old.areas ++ area ∷ [];
+      used = chain.old.used + 1;
+    }) }
+    ensures stays { OnErr result (chain.new ≡ chain.old) }
     ensures part { chain.new.part ≡ chain.old.part }
     ensures out { length out.new ≡ length out.old }
     ensures count { (B.seen blocks.new).count ≡ (B.seen blocks.old).count }
@@ -177,6 +191,11 @@ fn add_area<B: Blocks>(
     ensures owners { OnOk result (OwnersAfter (part_no (RelativeShape chain.old.part))
         stages.Extend space.old space.new) }
     ensures owners_stay { OnErr result (space.new ≡ space.old) }
+    ensures chain { OnOk result (KeepsChain (part_no (RelativeShape chain.old.part))
+        chain.old.areas chain.new.areas space.old space.new) }
+    ensures chain_stays { OnErr result (chain.new ≡ chain.old) }
+    ensures more { IsTrue B.tells → IsMoreDue chain.old space.old (B.seen blocks.old)
+        → OnOk result (chain.new.used ≡ chain.old.used + 1) }
     ensures part { chain.new.part ≡ chain.old.part }
     ensures out { length out.new ≡ length out.old }
     ensures count { (B.seen blocks.new).count ≡ (B.seen blocks.old).count }
@@ -217,6 +236,11 @@ pub(crate) fn extend<B: Blocks>(
     ensures owners { OnOk result (OwnersAfter (part_no (RelativeShape chain.old.part))
         stages.Extend space.old space.new) }
     ensures owners_stay { OnErr result (space.new ≡ space.old) }
+    ensures chain { OnOk result (KeepsChain (part_no (RelativeShape chain.old.part))
+        chain.old.areas chain.new.areas space.old space.new) }
+    ensures chain_stays { OnErr result (chain.new ≡ chain.old) }
+    ensures more { IsTrue B.tells → IsMoreDue chain.old space.old (B.seen blocks.old)
+        → OnOk result (chain.new.used ≡ chain.old.used + 1) }
     ensures part { chain.new.part ≡ chain.old.part }
     ensures out { length out.new ≡ length out.old }
     ensures count { (B.seen blocks.new).count ≡ (B.seen blocks.old).count }

@@ -1,10 +1,11 @@
 -- A part of a volume on its blocks: what they stand for, which items each place may hold in the
 -- images that a crash may leave, and what a call adds to that. The rules are this project's own.
 use Rattle.std.specs.Prelude.{◌≡◌, ◌≢◌, ◌⊎◌, ◌<◌, ◌≤◌, ◌+◌, ℕ, Bool, List, Option, Some, None, All}
-use Rattle.std.specs.Prelude.{Contains, length, option_and_then}
+use Rattle.std.specs.Prelude.{◌++◌, ◌∷◌, [], Contains, filter, length, option_and_then}
 use Rattle.std.specs.Option.{option_map}
 use Rattle.vr_types.specs.Content.{Content, Item, item_at, record_of}
 use Rattle.vr_types.specs.Content.Item.{Standing}
+use Rattle.vr_types.specs.Geometry.{area_count}
 use Rattle.vr_types.specs.Image.{Block, Image, block_at}
 use Rattle.vr_types.specs.Seen.{Seen}
 use Rattle.vr_types.specs.Regions.{Touches}
@@ -16,7 +17,7 @@ use Rattle.vr_types.specs.Content.{place_cmp}
 use Rattle.vr_types.specs.declared.unit.PartNo.{PartNo}
 use Rattle.vr_types.specs.declared.unit.StageKind.{StageKind}
 use Rattle.vr_types.specs.declared.unit.StageKind.TheVariants.{CaClaim, Extend, Post}
-use Rattle.vr_types.specs.Space.{least_free}
+use Rattle.vr_types.specs.Space.{is_owner, least_free}
 use Rattle.std.specs.Prelude.{slice_set}
 use Rattle.vr_space.specs.declared.whence.Whence.{Whence}
 use Rattle.vr_space.specs.declared.room.Room.{Room}
@@ -267,6 +268,34 @@ OwnersAfter part CaClaim old new = IsClaimed part old new
 OwnersAfter part Post old new = (new ≡ old) ⊎ IsClaimed part old new
 OwnersAfter part Extend old new = (new ≡ old) ⊎ IsClaimed part old new
 OwnersAfter part stage old new = new ≡ old
+
+-- The areas that a part keeps in memory go with those that it owns: both stay, or the least free area
+-- is the part's now and the last one that it keeps.
+abbrev pub KeepsChain : PartNo → List ℕ → List ℕ → List (Option PartNo) → List (Option PartNo)
+    → Type 0
+KeepsChain part areas after old new = ((after ≡ areas) × (new ≡ old))
+    ⊎ ((area : ℕ) × (least_free old ≡ Some area) × (after ≡ areas ++ area ∷ [])
+    × (new ≡ slice_set old area (Some part)))
+
+-- what a stage of a chain of areas leaves: one interval more is used
+abbrev pub HasMore : Shape → Known → Known → Type 0
+HasMore (KeyedShape part) old new = Unit {0}
+HasMore (RelativeShape part) old new = new.used ≡ old.used + 1
+
+-- The owners are those of as many areas as the volume of a chain has.
+abbrev pub HasOwners : Shape → List (Option PartNo) → Type 0
+HasOwners (KeyedShape part) areas = Unit {0}
+HasOwners (RelativeShape part) areas = length areas ≡ area_count part.geometry
+
+-- how many areas a part owns
+abbrev pub owned_count : PartNo → List (Option PartNo) → ℕ
+owned_count part areas = length (filter (is_owner part) areas)
+
+-- a part of chained areas keeps as many as it owns
+abbrev pub OwnsChain : Shape → Known → List (Option PartNo) → Type 0
+OwnsChain (KeyedShape part) known areas = Unit {0}
+OwnsChain (RelativeShape part) known areas =
+    owned_count (record { 0 = part.part }) areas ≡ length known.areas
 
 -- the blocks of the areas that the part has, as it keeps them in memory
 abbrev pub InHeld : Shape → Known → ℕ → Type 0

@@ -31,6 +31,9 @@ ghost use Rattle.vr_space.specs.Part.{
   IsAtRest,
   MayGrow,
   IsQuiet,
+  KeepsChain,
+  HasMore,
+  HasOwners,
   HasKeptRoom,
   HasRoom,
   IsStageDue,
@@ -137,6 +140,7 @@ pub trait Part {
         ensures cause { HasCause (B.faults blocks.old) (B.faults blocks.new) result }
         ensures shape { shape self.new ≡ shape self.old }
         ensures split { (known self.new).split ≡ (known self.old).split }
+        ensures areas { (known self.new).areas ≡ (known self.old).areas }
         ensures put { put self.new ≡ put self.old };
 
     /// Does the stage that comes before such a record, and answers it. Each place keeps its item.
@@ -167,6 +171,15 @@ pub trait Part {
         ensures owners { IfOk result (λ kind.
             OwnersAfter (part_no (shape self.old)) kind space.old space.new) }
         ensures owners_stay { OnErr result (space.new ≡ space.old) }
+        // What it keeps of its areas goes with the areas that it owns.
+        ensures chain { OnOk result (KeepsChain (part_no (shape self.old)) (known self.old).areas
+            (known self.new).areas space.old space.new) }
+        ensures chain_stays { OnErr result ((known self.new).areas ≡ (known self.old).areas) }
+        // A chain of areas has one interval more.
+        ensures more { IsTrue B.tells → HasOwners (shape self.old) space.old
+            → (owners grown : Owners) → MayGrow (shape self.old) space.old owners grown
+            → IsAtRest (shape self.old) owners (B.seen blocks.old)
+            → OnOk result (HasMore (shape self.old) (known self.old) (known self.new)) }
         // At every moment, whether it fails or not.
         ensures adds { IsTrue B.tells → (owners grown : Owners)
             → MayGrow (shape self.old) space.old owners grown
@@ -262,7 +275,12 @@ pub trait Part {
         ensures size { (B.seen blocks.new).size ≡ (B.seen blocks.old).size }
         ensures cause { HasCause (B.faults blocks.old) (B.faults blocks.new) result }
         ensures shape { shape self.new ≡ shape self.old }
-        ensures split { (known self.new).split ≡ (known self.old).split };
+        ensures split { (known self.new).split ≡ (known self.old).split }
+        ensures areas { (known self.new).areas ≡ (known self.old).areas };
+
+    /// How many areas it has, where they are a chain of rosters; 0 of a keyed part.
+    fn areas(&self) -> u32
+        ensures { result ≡ length (known self.now).areas };
 
     /// The blocks that the last `set` put, until the next call that may change the part.
     fn put_blocks(&self) -> &[u32]

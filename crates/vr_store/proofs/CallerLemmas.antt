@@ -1,5 +1,8 @@
 -- What the crates above cite: what a call leaves of a store that puts nothing or works on one part,
--- the record at a place of a part, the part and the before-images of a change, and an idle volume.
+-- the record at a place of a part, the part and the before-images of a change, an idle volume, and
+-- the areas after a stage.
+pub use Rattle.vr_store.proofs.Among.{among-all}
+pub use Rattle.vr_store.proofs.Claims.{HasClaimed, has-claimed, owners-after}
 pub use Rattle.vr_store.proofs.Idle.{idle-guards, stored-left}
 pub use Rattle.vr_store.proofs.Kept.{on-err, stored-changed}
 pub use Rattle.vr_store.proofs.LastImages.{last-has, last-state}

@@ -6,7 +6,7 @@ use Rattle.std.proofs.lemmas.Bool.{true≢false}
 use Rattle.std.proofs.lemmas.List.Elements.{All-weaker}
 use Rattle.vr_types.specs.Blocks.{Keeps}
 use Rattle.vr_types.specs.Content.{Content, item_at}
-use Rattle.vr_types.specs.Geometry.{IsAllowed}
+use Rattle.vr_types.specs.Geometry.{IsAllowed, area_count}
 use Rattle.vr_types.specs.Image.{Image}
 use Rattle.vr_types.specs.Locks.{same_unit}
 use Rattle.vr_types.specs.Regions.{Touches}
@@ -253,4 +253,6 @@ set-ended store a b log undo changed set idle kept same sound shape each =
       changed = each b.count still.changed;
       idle = idle;
       kept = kept;
+      areas = still.areas ∙ ap area_count (sym same);
+      owns = still.owns;
     }

@@ -76,6 +76,8 @@ set-changed store now changed undo each kept set = record {
   changed = each now.count set.changed;
   idle = set.idle;
   kept = kept;
+  areas = set.areas;
+  owns = set.owns;
 }
 
 -- where other blocks are changed
@@ -91,6 +93,8 @@ set-listed store now changed each set = record {
   changed = each;
   idle = set.idle;
   kept = set.kept;
+  areas = set.areas;
+  owns = set.owns;
 }
 
 -- what is kept, taken back where anything was new

@@ -290,4 +290,6 @@ set-taken store now unit undo befores set = record {
   idle = set.idle;
   kept = subst (All (IsFitImage store.parts)) (sym befores)
       (fits-out (IsFitImage store.parts) unit (befores_of store.undo) set.kept);
+  areas = set.areas;
+  owns = set.owns;
 }

@@ -4,6 +4,7 @@ pub mod Positions
 pub mod PlacedParts
 pub mod Fits
 pub mod PartsAt
+pub mod Claims
 pub mod Worked
 pub mod Recorded
 pub mod Rooms

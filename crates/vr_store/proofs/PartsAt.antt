@@ -81,6 +81,20 @@ part-of number shape known =
 abbrev pub part-split : PartNo → Shape → Option SplitNow → PartNow
 part-split number shape split = part-of number shape (record { split = split; met = []; areas = []; used = 0 })
 
+-- A part that a call left with its shape, its split under way and its areas is the same but for what
+-- it met.
+pub same-met : (number : PartNo) (shape now : Shape) (known later : Known) → now ≡ shape
+    → later.split ≡ known.split → later.areas ≡ known.areas
+    → but_met (part-of number now later) ≡ but_met (part-of number shape known)
+same-met number shape now known later shapes splits areas =
+    ap (λ (s : Shape). part-met s later.split later.areas) shapes
+    ∙ ap (λ (s : Option SplitNow). part-met shape s later.areas) splits
+    ∙ ap (part-met shape known.split) areas
+  where
+    part-met : Shape → Option SplitNow → List ℕ → PartNow
+    part-met s split kept =
+        part-of number s (record { split = split; met = []; areas = kept; used = 0 })
+
 -- a part that a call left as it was
 pub laid-same : {P : Type 0} (shape : P → Shape) (known : P → Known)
     (items : List (Laid P)) (at : ℕ) (laid : Laid P) (part : P) → laid ≡ get_or items at laid

@@ -207,6 +207,8 @@ set-bare store now set = record {
   changed = set.changed;
   idle = set.idle;
   kept = All-nil (IsFitImage store.parts);
+  areas = set.areas;
+  owns = set.owns;
 }
 
 module _ (number : ℕ) (store : StoreNow) (unit : UnitOfRecovery) (part : PartNo) (place : List ℕ)

@@ -48,6 +48,8 @@ set-still store a b count size set = record {
       store.changed) (sym count) set.changed;
   idle = set.idle;
   kept = set.kept;
+  areas = set.areas;
+  owns = set.owns;
 }
 
 pub set-keeps : (tells : Bool) (store : StoreNow) (a b : Seen) → Keeps tells a b → IsSet store a

@@ -9,7 +9,7 @@ use Rattle.std.proofs.lemmas.Bool.{true≢false}
 use Rattle.std.proofs.lemmas.Bool.Decides.{Decides-eqb}
 use Rattle.std.proofs.lemmas.List.{append-nil}
 use Rattle.vr_types.specs.Content.{Content, Item}
-use Rattle.vr_types.specs.Geometry.{IsAllowed}
+use Rattle.vr_types.specs.Geometry.{IsAllowed, area_count}
 use Rattle.vr_types.specs.Locks.{same_unit}
 use Rattle.vr_types.specs.Seen.{Left, Seen}
 use Rattle.vr_types.specs.declared.geometry.Geometry.{Geometry}
@@ -390,4 +390,6 @@ set-logged store log changed now same sound idle each set = record {
   changed = each;
   idle = idle;
   kept = set.kept;
+  areas = set.areas ∙ ap area_count (sym same);
+  owns = set.owns;
 }

@@ -13,16 +13,17 @@ use Rattle.vr_types.specs.declared.geometry.Geometry.{Geometry}
 use Rattle.vr_types.specs.declared.unit.PartNo.{PartNo}
 use Rattle.vr_space.specs.Known.{Known}
 use Rattle.vr_space.specs.Owners.{Owners}
-use Rattle.vr_space.specs.Part.{DueMore, IsOn, Knows, Shape, part_no}
+use Rattle.vr_space.specs.Part.{DueMore, IsOn, KeepsChain, Knows, OwnsChain, Shape, part_no}
 use Rattle.vr_space.proofs.CallerLemmas.{due-keeps, rest-sound}
 use Rattle.vr_history.specs.State.{BeforeImage, State}
 use Rattle.vr_undo.specs.Records.{befores_of, images_in}
 use Rattle.vr_volume.specs.Rests.{IsPartAtRest, IsVolumeAtRest}
 use Rattle.vr_volume.proofs.Rested.{part-keeps, volume-keeps}
 use Rattle.vr_store.specs.Parts.{but_split}
-use Rattle.vr_store.specs.Store.{IsPartSet, IsRestedPart, IsSet, IsStored, PartNow, StoreNow}
-use Rattle.vr_store.specs.Store.{blocks_of, owners_of, part_among}
+use Rattle.vr_store.specs.Store.{IsPartSet, IsRestedPart, IsSet, IsStored, OwnsItsChain, PartNow}
+use Rattle.vr_store.specs.Store.{StoreNow, blocks_of, owners_of, part_among}
 use Rattle.vr_store.proofs.Among.{HasShape, among-all, among-number, among-shape}
+use Rattle.vr_store.proofs.Claims.{count-kept, owns-mine, owns-other}
 use Rattle.vr_store.proofs.Fits.{fits-parts}
 use Rattle.vr_store.proofs.PutNothing.{set-still}
 use Rattle.vr_store.proofs.PartsAt.{IsPartAt}
@@ -52,10 +53,11 @@ module _ (store : StoreNow) (number : ℕ) (before after : PartNow) (new : List 
   same-parts = ap (map but_split) at.is
       ∙ map-with but_split number before after same store.parts at.found
 
-  -- it is set,
-  pub set-worked : (a b : Seen) → b.count ≡ a.count → b.size ≡ a.size → IsSet store a
-      → IsSet worked b
-  set-worked a b count size before-set =
+  -- it is set, where its areas go with those that it owns,
+  pub set-worked : (a b : Seen) → b.count ≡ a.count → b.size ≡ a.size
+      → KeepsChain (part_no before.shape) before.known.areas after.known.areas store.space space
+      → IsSet store a → IsSet worked b
+  set-worked a b count size chain before-set =
       let set = set-still store a b count size before-set in
       let mine : IsPartSet b before =
       among-all (IsPartSet b) store.parts number before set.parts at.found in
@@ -78,6 +80,21 @@ module _ (store : StoreNow) (number : ℕ) (before after : PartNow) (new : List 
         changed = set.changed;
         idle = set.idle;
         kept = fits-parts new store.parts same-parts (befores_of store.undo) set.kept;
+        areas = count-kept (part_no before.shape) before.known.areas after.known.areas store.space
+            space chain ∙ set.areas;
+        owns = subst (All (OwnsItsChain space)) (sym at.is)
+            (all-with (λ (part : PartNow). IsPartSet b part × OwnsItsChain store.space part)
+            (OwnsItsChain space) number after
+            (λ part apart both. owns-other (part_no before.shape) before.known.areas
+            after.known.areas store.space space chain part.shape part.known
+            (λ same. apart (ap (λ (n : PartNo). n.0) (sym both.0.number) ∙ same
+            ∙ ap (λ (n : PartNo). n.0) mine.number
+            ∙ among-number store.parts number before at.found)) both.1)
+            (subst (λ (shape : Shape). OwnsChain shape after.known space) (sym same-shape)
+            (owns-mine before.shape before.known after.known store.space space chain
+            (among-all (OwnsItsChain store.space) store.parts number before set.owns at.found)))
+            store.parts set.apart
+            (all-both (IsPartSet b) (OwnsItsChain store.space) store.parts set.parts set.owns));
       }
 
   module _ (volume : ℕ) (state : State) (a b : Seen) (set : IsSet store a)

@@ -1,6 +1,7 @@
 -- The parts of a volume by their numbers, and what a call that works on one of them leaves of the
 -- others. The rules are this project's own.
-use Rattle.std.specs.Prelude.{◌≡◌, ◌≢◌, ℕ, cond, List, [], ◌∷◌, map, None}
+use Rattle.std.specs.Prelude.{◌≡◌, ◌≢◌, ℕ, cond, List, [], ◌∷◌, map, None, IfSome}
+use Rattle.vr_space.specs.Part.{HasMore}
 use Rattle.vr_store.specs.Store.{PartNow, has_number, part_among}
 
 -- the list with another part in the place of the first of this number
@@ -9,10 +10,11 @@ with_part number after [] = []
 with_part number after (part ∷ parts) =
     cond (has_number number part) (after ∷ parts) (part ∷ with_part number after parts)
 
--- a part by its split under way alone, and but for all that it keeps of its blocks
+-- a part by its split under way and its areas alone, and but for all that it keeps of its blocks
 abbrev pub but_met : PartNow → PartNow
-but_met part =
-    record part { known = record { split = part.known.split; met = []; areas = []; used = 0 } }
+but_met part = record part {
+  known = record { split = part.known.split; met = []; areas = part.known.areas; used = 0 };
+}
 
 abbrev pub but_split : PartNow → PartNow
 but_split part = record part { known = record { split = None; met = []; areas = []; used = 0 } }
@@ -22,7 +24,14 @@ abbrev pub OthersStay : ℕ → List PartNow → List PartNow → Type 0
 OthersStay number old new = (other : ℕ) → other ≢ number
     → part_among new other ≡ part_among old other
 
--- Of the part of this number alone there is something new: what it keeps beside its split,
+-- a chain of areas of the part of this number has one interval more
+abbrev pub HasMoreAt : ℕ → List PartNow → List PartNow → Type 0
+HasMoreAt number old new = IfSome (part_among old number) (λ (before : PartNow).
+    IfSome (part_among new number) (λ (after : PartNow).
+    HasMore before.shape before.known after.known))
+
+-- Of the part of this number alone there is something new: what it keeps beside its split and its
+-- areas,
 pub record OnlyMet (number : ℕ) (old new : List PartNow) : Type 0 where
   pub parts : map but_met new ≡ map but_met old
   pub others : OthersStay number old new

@@ -2,19 +2,19 @@
 -- blocks that units of recovery changed; and when these and the blocks are those of a state of the
 -- record file. The rules are this project's own.
 use Rattle.std.specs.Prelude.{◌≡◌, ◌≢◌, ◌<◌, ℕ, Bool, false, ◌==◌, List, [], All, Option, Some}
-use Rattle.std.specs.Prelude.{IfSome, None, find, map, option_map}
+use Rattle.std.specs.Prelude.{IfSome, None, find, length, map, option_map}
 use Rattle.std.specs.List.{IsDistinct}
 use Rattle.std.specs.Option.{option_map_or}
 use Rattle.std.specs.Prelude.{nat_eq}
 use Rattle.vr_types.specs.Content.{Item, Standing, Withdrawn}
-use Rattle.vr_types.specs.Geometry.{IsAllowed}
+use Rattle.vr_types.specs.Geometry.{IsAllowed, area_count}
 use Rattle.vr_types.specs.Locks.{same_unit}
 use Rattle.vr_types.specs.Seen.{Seen}
 use Rattle.vr_types.specs.declared.unit.PartNo.{PartNo}
 use Rattle.vr_types.specs.declared.unit.Unit.{Unit as UnitOfRecovery}
 use Rattle.vr_space.specs.Known.{Known}
 use Rattle.vr_space.specs.Owners.{Owners}
-use Rattle.vr_space.specs.Part.{IsOn, IsPlaceOf, IsRecordOf, Shape, part_no}
+use Rattle.vr_space.specs.Part.{IsOn, IsPlaceOf, IsRecordOf, OwnsChain, Shape, part_no}
 use Rattle.vr_attach.specs.Owning.{owner_of}
 use Rattle.vr_log.specs.Live.{live_in}
 use Rattle.vr_log.specs.LogNow.{IsOf, LogNow}
@@ -96,6 +96,10 @@ pub record IsPartSet (now : Seen) (part : PartNow) : Type 0 where
   pub number : part_no part.shape ≡ part.number
   pub on : IsOn part.shape now
 
+-- a part keeps as many areas as it owns, where they are chained
+abbrev pub OwnsItsChain : List (Option PartNo) → PartNow → Type 0
+OwnsItsChain areas part = OwnsChain part.shape part.known areas
+
 -- a record, or none, that may stand at a place of a part
 abbrev pub IsOldOf : Shape → List ℕ → Option Item → Type 0
 IsOldOf shape place None = Unit {0}
@@ -109,7 +113,8 @@ pub record IsFitImage (parts : List PartNow) (image : BeforeImage) : Type 0 wher
   pub old : IfSome (shape_among parts image.part) (λ shape. IsOldOf shape image.place image.old)
 
 -- The numbers of the parts differ, and each changed block is one of the device. Once no unit is
--- live the log has no record, and what units may put back is fit for the parts.
+-- live the log has no record, and what units may put back is fit for the parts. Each area of the
+-- volume has an owner or none, and a part of chained areas keeps as many as it owns.
 pub record IsSet (store : StoreNow) (now : Seen) : Type 0 where
   pub allowed : IsAllowed store.log.geometry
   pub blocks : IsOf store.log.geometry now
@@ -119,6 +124,8 @@ pub record IsSet (store : StoreNow) (now : Seen) : Type 0 where
   pub changed : All (λ (by : ChangedBy). All (λ n. n < now.count) by.blocks) store.changed
   pub idle : live_in store.log.records ≡ [] → store.log.records ≡ []
   pub kept : All (IsFitImage store.parts) (befores_of store.undo)
+  pub areas : length store.space ≡ area_count store.log.geometry
+  pub owns : All (OwnsItsChain store.space) store.parts
 
 -- ---- what holds where it does
 

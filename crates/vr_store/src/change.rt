@@ -104,6 +104,7 @@ fn put_at<B: Blocks, P: Part>(
     ensures size { OnOk result ((B.seen blocks.new).size ≡ (B.seen blocks.old).size) }
     ensures part { OnOk result (P.shape part.new ≡ P.shape part.old) }
     ensures split { OnOk result ((P.known part.new).split ≡ (P.known part.old).split) }
+    ensures areas { OnOk result ((P.known part.new).areas ≡ (P.known part.old).areas) }
     ensures full { prepared.now.logged ≡ false
         → IsFullWhere log.old (need_of (live_in log.old.records) prepared.now.rec) result }
     ensures never_full { prepared.now.logged ≡ true → IfErr result (λ no. IsFullNo no → ⊥) }
@@ -217,6 +218,7 @@ fn set_at<B: Blocks, P: Part>(
     ensures size { OnOk result ((B.seen blocks.new).size ≡ (B.seen blocks.old).size) }
     ensures part { OnOk result (P.shape part.new ≡ P.shape part.old) }
     ensures split { OnOk result ((P.known part.new).split ≡ (P.known part.old).split) }
+    ensures areas { OnOk result ((P.known part.new).areas ≡ (P.known part.old).areas) }
     ensures full { prepared.now.logged ≡ false
         → IsFullWhere log.old (need_of (live_in log.old.records) prepared.now.rec) result }
     ensures never_full { prepared.now.logged ≡ true → IfErr result (λ no. IsFullNo no → ⊥) }

@@ -19,7 +19,7 @@ ghost use Rattle.vr_store.specs.LastImage.{IsMetBy, OnLast, last_claimed};
 ghost use Rattle.vr_store.specs.LastImage.{is_stage as is_a_stage, last_of_unit};
 ghost use Rattle.vr_store.specs.Change.{IsSettable};
 ghost use Rattle.vr_store.specs.PutBack.{IsTaken, IsTakenFrom, back_at};
-ghost use Rattle.vr_store.specs.Parts.{OnlyMet};
+ghost use Rattle.vr_store.specs.Parts.{HasMoreAt, OnlyMet};
 ghost use Rattle.vr_store.specs.Store.{IsOldOf, IsSet, IsStored, Stands, owners_of, part_among};
 ghost use Rattle.vr_store.specs.Store.{shape_among};
 
@@ -131,6 +131,9 @@ impl<P: Part> Store<P> {
             IfSome (shape_among self.old.parts last.part)
             (λ shape. HasAdvanced (record { 0 = last.part }) shape self.old.space
             self.new.space))) }
+        // A chain of areas has one interval more.
+        ensures more { IsTrue B.tells → OnOk result (OnLast self.old unit (λ last.
+            HasMoreAt last.part self.old.parts self.new.parts)) }
         ensures shapes { (number : ℕ)
             → shape_among self.new.parts number ≡ shape_among self.old.parts number }
         ensures set { IsSet self.new (B.seen blocks.new) }

@@ -1,17 +1,19 @@
 //! What a store reports of its parts, its log, its before-images and its areas, without a block.
 ghost use Rattle.std.specs.Prelude.{◌≡◌, ◌==◌, IsTrue, MatchOption, [], false, is_some};
+ghost use Rattle.std.specs.Prelude.{length, option_map};
 ghost use Rattle.std.specs.List.{list_any};
-ghost use Rattle.vr_types.specs.Space.{free_count};
+ghost use Rattle.std.specs.Option.{option_map_or};
+ghost use Rattle.vr_types.specs.Space.{free_count, least_free};
 ghost use Rattle.vr_log.specs.Live.{is_in, live_in, used_by};
 ghost use Rattle.vr_undo.specs.Others.{IsLeastAllowed, NoneAllowed, others_in};
 ghost use Rattle.vr_undo.specs.Records.{is_logged_in, logged_of};
-ghost use Rattle.vr_store.specs.Store.{blocks_of, part_among};
+ghost use Rattle.vr_store.specs.Store.{PartNow, blocks_of, part_among};
 
 use crate::changed::is_none;
-use crate::parts::Laid;
+use crate::parts::{Laid, index_of};
 use crate::store::Store;
 use vr_space::{Part, Whence};
-use vr_types::{PartNo, Place, Unit};
+use vr_types::{AreaNo, PartNo, Place, Unit};
 
 /// Whether one of the parts has this number.
 fn is_laid<P>(parts: &[Laid<P>], number: PartNo) -> bool
@@ -26,6 +28,25 @@ impl<P: Part> Store<P> {
         ensures { result ≡ is_some (part_among self.now.parts number.0) }
     {
         is_laid(&self.parts, number)
+    }
+
+    /// How many areas a part has, where they are a chain of rosters; 0 of a keyed part, and where no
+    /// part of this number is laid.
+    pub fn areas_of(&self, number: PartNo) -> u32
+        ensures { result ≡ option_map_or (λ (part : PartNow). length part.known.areas)
+            (part_among self.now.parts number.0) 0 }
+    {
+        match index_of(&self.parts, number) {
+            Some(at) => self.parts[at].part.areas(),
+            None => 0,
+        }
+    }
+
+    /// The least area that no part has; None exactly where each has one.
+    pub fn least_free(&self) -> Option<AreaNo>
+        ensures { option_map (λ area. area.0) result ≡ least_free self.now.space }
+    {
+        self.space.least_free()
     }
 
     /// How many areas no part has.

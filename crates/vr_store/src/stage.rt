@@ -11,7 +11,7 @@ ghost use Rattle.vr_attach.specs.Owning.{claimed_by, owner_of};
 ghost use Rattle.vr_history.specs.State.{State};
 ghost use Rattle.vr_volume.specs.Committed.{committed_by};
 ghost use Rattle.vr_volume.specs.Safe.{IsSafeImage};
-ghost use Rattle.vr_store.specs.Parts.{OnlyMet, OnlySplit};
+ghost use Rattle.vr_store.specs.Parts.{HasMoreAt, OnlyMet, OnlySplit};
 ghost use Rattle.vr_store.specs.Room.{IsDueAt, IsRoomAt};
 ghost use Rattle.vr_store.specs.Store.{IsSet, IsStored, Stands, part_among, part_now, shape_among};
 ghost use Rattle.vr_store.specs.Store.{store_of};
@@ -131,6 +131,9 @@ pub(crate) fn advance_at<B: Blocks, P: Part>(
         changed.now.items space.old) state (B.seen blocks.old)
         → IsStored volume (store_of P.shape P.known log.now undo.now parts.new.items
         changed.now.items space.new) state (B.seen blocks.new))) }
+    ensures more { IsTrue B.tells → OnOk result
+        (HasMoreAt number.0 (map (part_now P.shape P.known) parts.old.items)
+        (map (part_now P.shape P.known) parts.new.items)) }
     ensures parts { OnlySplit number.0 (map (part_now P.shape P.known) parts.old.items)
         (map (part_now P.shape P.known) parts.new.items) }
     ensures cause { HasCause (B.faults blocks.old) (B.faults blocks.new) result }
@@ -234,6 +237,9 @@ impl<P: Part> Store<P> {
             × (IsTrue B.tells → (volume : ℕ) (state : State)
             → IsStored volume self.old state (B.seen blocks.old)
             → IsStored volume self.new state (B.seen blocks.new))) }
+        // A chain of areas has one interval more.
+        ensures more { IsTrue B.tells → OnOk result
+            (HasMoreAt number.0 self.old.parts self.new.parts) }
         ensures parts { OnlySplit number.0 self.old.parts self.new.parts }
         ensures rest { self.new
             ≡ record self.old { parts = self.new.parts; space = self.new.space } }

@@ -1,7 +1,8 @@
 -- What a stage of a part leaves of a safe volume, and of one at rest, by who owns the areas then.
 use Rattle.std.proofs.Common.{◌≡◌, ◌≢◌, ◌⊎◌, ⊎_elim, ℕ, List, [], Option, Some, refl, sym, subst}
-use Rattle.std.proofs.Common.{◌∙◌}
+use Rattle.std.proofs.Common.{◌∙◌, ap, length}
 use Rattle.vr_types.specs.Content.{Content}
+use Rattle.vr_types.specs.Geometry.{area_count}
 use Rattle.vr_types.specs.Image.{Image}
 use Rattle.vr_types.specs.Regions.{Touches}
 use Rattle.vr_types.specs.Seen.{Left, Seen}
@@ -12,7 +13,7 @@ use Rattle.vr_space.specs.Known.{Known}
 use Rattle.vr_space.specs.Owners.{Owners}
 use Rattle.vr_space.specs.Part.{AddsTo, DueMore, HasKeptRoom, HasRoom, InPart, IsAtRest, IsSound}
 use Rattle.vr_space.specs.Part.{IsUnderWay, Knows, MayGrow, Nothing, OwnersAfter, SameRecords}
-use Rattle.vr_space.specs.Part.{Shape, part_no, room_of}
+use Rattle.vr_space.specs.Part.{HasOwners, KeyedShape, RelativeShape, Shape, part_no, room_of}
 use Rattle.vr_space.specs.Room.{Lengths}
 use Rattle.vr_space.specs.declared.room.Room.TheVariants.{Stage}
 use Rattle.vr_space.proofs.CallerLemmas.{StaysPart, due-stays, rest-sound, room-stage, sound-less}
@@ -63,13 +64,26 @@ module _ (geometry : Geometry) (number : ℕ) (log : LogNow)
       (safe.by_log some.0 some.2).committed.inside (part_no shape).0 shape
       (laid some.0 some.2).laid
 
-  -- So it may get the least free area.
+  -- So it may get the least free area,
   pub may-claim : (areas : List (Option PartNo))
       → IsSafe geometry number (owner_of geometry areas) log committed now
       → MayGrow shape areas (owner_of geometry areas)
       (owner_of geometry (claimed_by (part_no shape) areas))
   may-claim areas safe =
       claimed-grows geometry shape areas (inside-safe (owner_of geometry areas) safe)
+
+  -- and the owners are those of the areas of its volume.
+  pub all-owners : (areas : List (Option PartNo))
+      → IsSafe geometry number (owner_of geometry areas) log committed now
+      → length areas ≡ area_count geometry → HasOwners shape areas
+  all-owners areas safe count =
+      owners-inside shape areas (inside-safe (owner_of geometry areas) safe) count
+    where
+      owners-inside : (shape : Shape) (areas : List (Option PartNo)) → IsInside geometry shape
+          → length areas ≡ area_count geometry → HasOwners shape areas
+      owners-inside (KeyedShape part) areas inside count = tt
+      owners-inside (RelativeShape part) areas inside count =
+          count ∙ ap area_count (sym inside.1)
 
 -- ---- a part that has no block more
 

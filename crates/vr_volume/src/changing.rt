@@ -1,9 +1,10 @@
 //! Calls of a part on a volume: what each leaves of it in the image of each moment.
 ghost use Rattle.std.specs.Prelude.{◌≡◌, ◌≢◌, ◌<◌, [], ℕ, List, IsTrue, IfOk, OnOk, IfErr};
-ghost use Rattle.std.specs.Prelude.{OnErr, All};
+ghost use Rattle.std.specs.Prelude.{OnErr, All, length as length_of};
 ghost use Rattle.vr_types.specs.Blocks.{Forced, Keeps};
 ghost use Rattle.vr_types.specs.Content.{Content};
 ghost use Rattle.vr_types.specs.Faults.{HasCause, HasWriteCause};
+ghost use Rattle.vr_types.specs.Geometry.{area_count};
 ghost use Rattle.vr_types.specs.Moments.{Guards};
 ghost use Rattle.vr_types.specs.Regions.{Touches};
 ghost use Rattle.vr_types.specs.Space.{free_count};
@@ -18,6 +19,7 @@ ghost use Rattle.vr_space.specs.Part.{
   DueMore,
   DueMoreAt,
   HasKeptRoom,
+  HasMore,
   HasRoom,
   InPart,
   IsAtRest,
@@ -27,6 +29,7 @@ ghost use Rattle.vr_space.specs.Part.{
   IsPlaceOf,
   IsQuiet,
   IsStageDue,
+  KeepsChain,
   Knows,
   MayGrow,
   OwnersAfter,
@@ -108,6 +111,7 @@ pub fn set_free<B: Blocks, P: Part, K: Kept>(
     ensures cause { HasCause (B.faults blocks.old) (B.faults blocks.new) result }
     ensures shape { P.shape part.new ≡ P.shape part.old }
     ensures split { (P.known part.new).split ≡ (P.known part.old).split }
+    ensures areas { (P.known part.new).areas ≡ (P.known part.old).areas }
 {
     part.set(blocks, kept, place, bytes)
 }
@@ -150,6 +154,10 @@ pub fn do_stage<B: Blocks, P: Part, K: Kept>(
     ensures owners { IfOk result (λ kind.
         OwnersAfter (part_no (P.shape part.old)) kind space.old space.new) }
     ensures owners_stay { OnErr result (space.new ≡ space.old) }
+    // What the part keeps of its areas goes with the areas that it owns.
+    ensures chain { OnOk result (KeepsChain (part_no (P.shape part.old)) (P.known part.old).areas
+        (P.known part.new).areas space.old space.new) }
+    ensures chain_stays { OnErr result ((P.known part.new).areas ≡ (P.known part.old).areas) }
     ensures same { IsTrue B.tells → SameRecords (P.shape part.old)
         (B.seen blocks.old).cur (B.seen blocks.new).cur }
     ensures due { IsTrue B.tells → OnOk result
@@ -199,6 +207,15 @@ pub fn do_stage<B: Blocks, P: Part, K: Kept>(
         (B.seen blocks.old)
         → IsPartAtRest log.geometry (owner_of log.geometry space.new) images state other known
         (B.seen blocks.new)) }
+    // A chain of areas of a volume at rest has one interval more.
+    ensures more { IsTrue B.tells → OnOk result ((number : ℕ) (log : LogNow)
+        (images : List BeforeImage) (state : State)
+        → IsVolumeAtRest log.geometry number (owner_of log.geometry space.old) log images state
+        (B.seen blocks.old)
+        → IsPartAtRest log.geometry (owner_of log.geometry space.old) images state
+        (P.shape part.old) (P.known part.old) (B.seen blocks.old)
+        → length_of space.old ≡ area_count log.geometry
+        → HasMore (P.shape part.old) (P.known part.old) (P.known part.new)) }
     // What has to be forced for the places of another part stays.
     ensures others_due { IsTrue B.tells → OnOk result ((number : ℕ) (log : LogNow)
         (images : List BeforeImage) (state : State) (other : Shape) (known : Known)

@@ -148,6 +148,7 @@ pub fn change<B: Blocks, P: Part, K: Kept>(
     ensures size { OnOk result ((B.seen blocks.new).size ≡ (B.seen blocks.old).size) }
     ensures part { OnOk result (P.shape part.new ≡ P.shape part.old) }
     ensures split { OnOk result ((P.known part.new).split ≡ (P.known part.old).split) }
+    ensures areas { OnOk result ((P.known part.new).areas ≡ (P.known part.old).areas) }
     ensures stands { IsTrue B.tells → OnOk result (LogStands log.new (B.seen blocks.new)) }
     // A volume that was at rest is so by the state after the change, and so is the part.
     ensures at_rest { IsTrue B.tells → OnOk result ((number : ℕ) (owners : Owners) (old new : State)

@@ -1,26 +1,29 @@
-use Rattle.std.proofs.Common.{◌≡◌, None, subst, sym, ◌∙◌}
+use Rattle.std.proofs.Common.{◌≡◌, ℕ, None, subst, sym, ◌∙◌}
 use Rattle.vr_history.specs.Case.{Case}
 use Rattle.vr_history.specs.Replies.{first_of}
 use Rattle.vr_history.specs.State.{State}
-use Rattle.vr_history.specs.Step.{case_of}
 use Rattle.vr_answer.specs.InHand.{IsCaseOf}
 use Rattle.vr_answer.specs.Tried.{file_refusals}
-use Rattle.vr_answer.proofs.CallerLemmas.{numbers_keyed}
-use Rattle.vr_record_file.proofs.Resting.{keyed_now}
 use Rattle.vr_record_file.specs.Now.{state_now}
+use Rattle.vr_history.specs.Step.{case_of}
+use Rattle.vr_event.specs.Putting.{IsSpaceOf}
 use Rattle.vr_event.specs.Getting.{IsRead, MayEnd}
 use Rattle.vr_event.proofs.Known.{whole-is}
+use Rattle.vr_event.proofs.SpaceHeld.{numbers-now}
 use Rattle.vr_event.proofs.getting.decide.Goals as goal
 
 pub returns-clause-ends : goal.returns-clause-ends
-returns-clause-ends g c told volume opening is going stored deck read free none =
+returns-clause-ends g c told volume opening is going stored deck read space none =
     let file = c.args.file.now in
     let state : State = state_now opening file in
     let case = c.case-case.result in
     let agrees : IsCaseOf case state = c.case-case.ensures.going opening is going deck
-    (c.used.ensures ∙ stored.volume.logged.used) (c.free_areas.ensures ∙ free)
-    (numbers_keyed (case_of file.geometry state c.args.unit c.args.request.now)
-    (keyed_now opening file is c.requires.keyed) _ _) in
+    (c.used.ensures ∙ stored.volume.logged.used) (c.free_areas.ensures ∙ space.free)
+    (numbers-now (g.B.Blocks.seen c.args.blocks.now) c.args.store.now c.requires.set opening file is
+    c.requires.laid c.requires.served c.args.unit c.args.request.now c.base_of-base.result.0
+    c.base_of-base.ensures (subst (λ (n : ℕ). IsSpaceOf c.args.store.now n
+    (case_of file.geometry state c.args.unit c.args.request.now)) (sym c.base_of-base.ensures) space)
+    c.areas_of-areas.result c.areas_of-areas.ensures) in
     let same = whole-is case state file.geometry c.args.unit c.args.request.now
     c.case-case.ensures.geometry c.case-case.ensures.unit c.case-case.ensures.asked in
     subst (λ (w : Case). MayEnd w c.sought.result) same

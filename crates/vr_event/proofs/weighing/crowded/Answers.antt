@@ -1,21 +1,17 @@
 use Rattle.std.proofs.Common.{Option, List, ℕ, Bor, ap, sym, ◌∙◌}
 use Rattle.std.specs.Option.{option_copied}
-use Rattle.vr_types.specs.declared.reply.Refusal.TheVariants.{NoSpace}
 use Rattle.vr_answer.specs.InHand.{whole}
 use Rattle.vr_event.specs.Lacking.{LacksRoomIn}
 use Rattle.vr_event.proofs.Lacks.{lacking, lacks-any, long-some}
-use Rattle.vr_event.proofs.Weighs.{asks-change, refuse-space}
+use Rattle.vr_event.proofs.Weighs.{refuse-space}
 use Rattle.vr_event.proofs.weighing.crowded.Goals as goal
 
 pub returns-in-Some-clause-may : goal.returns-in-Some-clause-may
 returns-in-Some-clause-may c state is at lacks ready =
-    let w = whole c.args.case.now state in
-    refuse-space c.args.case.now state is c.requires
-    (asks-change w w.request c.args.place ready.place_is)
-    ready.unheld c.in-Some.given.now
+    refuse-space (whole c.args.case.now state) ready.unheld c.args.need c.args.free
+    c.in-Some.given.now
     (sym c.new_record.ensures
-    ∙ ap (λ (o : Option (Bor (List ℕ))). option_copied o) c.in-Some.is)
-    (NoSpace c.args.need c.args.free) lacks
+    ∙ ap (λ (o : Option (Bor (List ℕ))). option_copied o) c.in-Some.is) lacks
 
 pub returns-in-Some-clause-lacks : goal.returns-in-Some-clause-lacks
 returns-in-Some-clause-lacks c store image part n laid room long =

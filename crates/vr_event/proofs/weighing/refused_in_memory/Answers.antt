@@ -1,10 +1,11 @@
 use Rattle.std.proofs.Common.{Option, ap, subst, sym, ◌∙◌}
 use Rattle.std.specs.Option.{option_and_then}
 use Rattle.vr_types.specs.declared.reply.Refusal.{Refusal}
+use Rattle.vr_history.specs.RefusedRoom.{log_full}
 use Rattle.vr_history.specs.Step.{stand_refused}
 use Rattle.vr_answer.specs.InHand.{whole}
-use Rattle.vr_event.specs.Lacking.{AreElse}
-use Rattle.vr_event.proofs.Lacks.{log-else, refused-else}
+use Rattle.vr_event.specs.Lacking.{AreWanting, IsWanting}
+use Rattle.vr_event.proofs.Lacks.{are-any, log-else, refused-wanting}
 use Rattle.vr_event.proofs.Weighs.{change-direct, refuse-log, refuse-record}
 use Rattle.vr_event.proofs.weighing.refused_in_memory.Goals as goal
 
@@ -36,14 +37,16 @@ returns-in-None-clause-stays c = λ change.
     c.log_full.ensures.stays (change-direct c.args.case.now.request.now change)
 
 pub returns-in-Some-clause-lacks : goal.returns-in-Some-clause-lacks
-returns-in-Some-clause-lacks c = λ state is at logs lives change none.
-    subst AreElse
+returns-in-Some-clause-lacks c = λ state is at logs lives change.
+    let w = whole c.args.case.now state in
+    subst (AreWanting w)
     (sym (c.in_ok-refusal.ensures.value state is
     (c.changed_at-looked.ensures.looked state is at change)) ∙ c.in-Some.is)
-    (refused-else c.args.case.now state is c.requires.keyed change none)
+    (refused-wanting w change)
 
 pub returns-in-None-clause-lacks : goal.returns-in-None-clause-lacks
-returns-in-None-clause-lacks c = λ state is at logs lives change none.
-    subst AreElse (sym (c.log_full.ensures.value state is
+returns-in-None-clause-lacks c = λ state is at logs lives change.
+    let w = whole c.args.case.now state in
+    subst (AreWanting w) (sym (c.log_full.ensures.value state is
     (c.changed_at-looked.ensures.looked state is at change) logs lives))
-    (log-else (whole c.args.case.now state))
+    (are-any (IsWanting w) (log_full w) (log-else w))

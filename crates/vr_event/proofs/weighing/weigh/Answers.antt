@@ -1,4 +1,4 @@
-use Rattle.std.proofs.Common.{◌≡◌, ℕ, List, None, Some, sym, subst, ◌∙◌}
+use Rattle.std.proofs.Common.{◌≡◌, ℕ, List, None, Some, ap, sym, subst, ◌∙◌}
 use Rattle.vr_types.proofs.CallerLemmas.{keeps-none}
 use Rattle.vr_catalog.specs.declared.entry.CatEntry.{CatEntry}
 use Rattle.vr_types.specs.declared.geometry.Geometry.{Geometry}
@@ -8,31 +8,30 @@ use Rattle.vr_history.specs.Change.{place_changed}
 use Rattle.vr_history.specs.Replies.{first_of}
 use Rattle.vr_history.specs.State.{State}
 use Rattle.vr_history.specs.Step.{case_of}
+use Rattle.vr_answer.specs.Here.{base_here}
 use Rattle.vr_answer.specs.InHand.{IsCaseOf}
-use Rattle.vr_answer.specs.Scope.{AreKeyedClusters}
 use Rattle.vr_answer.specs.Tried.{file_refusals}
-use Rattle.vr_answer.proofs.CallerLemmas.{numbers_keyed}
-use Rattle.vr_record_file.proofs.Resting.{keyed_now}
 use Rattle.vr_record_file.specs.Now.{state_now}
 use Rattle.vr_event.specs.Lacking.{IfLacks, LacksRoomIn}
-use Rattle.vr_event.specs.Putting.{AreLaidBy, IsAskedAt, MayWeigh}
+use Rattle.vr_event.specs.Putting.{AreLaidBy, IsAskedAt, IsSpaceOf, MayWeigh}
 use Rattle.vr_event.proofs.Known.{whole-is}
+use Rattle.vr_event.proofs.SpaceHeld.{numbers-now}
 use Rattle.vr_event.proofs.Weighs.{refuse-memory}
 use Rattle.vr_event.proofs.weighing.weigh.Goals as goal
 
 pub weigh_at-requires-clause-laid : goal.weigh_at-requires-clause-laid
 weigh_at-requires-clause-laid g c =
-    subst (λ (s : Geometry). AreLaidBy s c.catalog.result.now c.args.store.now.parts)
+    subst (λ (s : Geometry). AreLaidBy s c.case-case.result.catalog.now c.args.store.now.parts)
     (sym c.case-case.ensures.geometry)
     (subst (λ (entries : List CatEntry). AreLaidBy c.args.file.now.geometry entries
-    c.args.store.now.parts) (sym c.catalog.ensures) c.requires.laid)
+    c.args.store.now.parts) (sym c.case-case.ensures.catalog) c.requires.laid)
 
-pub weigh_at-requires-clause-keyed : goal.weigh_at-requires-clause-keyed
-weigh_at-requires-clause-keyed g c =
-    subst AreKeyedClusters (sym c.case-case.ensures.catalog) c.requires.keyed
+pub weigh_at-requires-clause-base : goal.weigh_at-requires-clause-base
+weigh_at-requires-clause-base g c =
+    c.requires.base ∙ ap (λ (r : Request). base_here r) (sym c.case-case.ensures.asked)
 
 pub returns-in-None-clause-may : goal.returns-in-None-clause-may
-returns-in-None-clause-may g c told volume opening is going stored free =
+returns-in-None-clause-may g c told volume opening is going stored space =
     refuse-memory (case_of c.args.file.now.geometry (state_now opening c.args.file.now) c.args.unit
     c.args.request.now) c.requires.change
 
@@ -42,7 +41,7 @@ returns-in-None-clause-keeps g c =
     (λ told image is. g.met.B.Blocks.images_may c.args.blocks.now image told is)
 
 pub returns-else-may_change-clause-may : goal.returns-else-may_change-clause-may
-returns-else-may_change-clause-may g c told volume opening is going stored free =
+returns-else-may_change-clause-may g c told volume opening is going stored space =
     refuse-memory (case_of c.args.file.now.geometry (state_now opening c.args.file.now) c.args.unit
     c.args.request.now) c.requires.change
 
@@ -52,15 +51,16 @@ returns-else-may_change-clause-keeps g c =
     (λ told image is. g.met.B.Blocks.images_may c.args.blocks.now image told is)
 
 pub returns-then-may_change-clause-may : goal.returns-then-may_change-clause-may
-returns-then-may_change-clause-may g c told volume opening is going stored free =
+returns-then-may_change-clause-may g c told volume opening is going stored space =
     let file = c.args.file.now in
     let state : State = state_now opening file in
     let case = c.case-case.result in
     let deck = c.may_change.ensures.deck c.if-may_change.true in
     let agrees : IsCaseOf case state = c.case-case.ensures.going opening is going deck
-    (c.used.ensures ∙ stored.volume.logged.used) (c.free_areas.ensures ∙ free)
-    (numbers_keyed (case_of file.geometry state c.args.unit c.args.request.now)
-    (keyed_now opening file is c.requires.keyed) _ _) in
+    (c.used.ensures ∙ stored.volume.logged.used) (c.free_areas.ensures ∙ space.free)
+    (numbers-now (g.B.Blocks.seen c.args.blocks.now) c.args.store.now c.requires.set opening file is
+    c.requires.laid c.requires.served c.args.unit c.args.request.now c.args.part.0 c.requires.base
+    space c.areas_of-areas.result c.areas_of-areas.ensures) in
     let same = whole-is case state file.geometry c.args.unit c.args.request.now
     c.case-case.ensures.geometry c.case-case.ensures.unit c.case-case.ensures.asked in
     let asked : IsAskedAt (case_of file.geometry state c.args.unit c.args.request.now) c.args.part.0
@@ -73,19 +73,21 @@ returns-then-may_change-clause-may g c told volume opening is going stored free 
     } in
     subst (λ (w : Case). MayWeigh w c.weigh_at.result) same
     (c.weigh_at.ensures.may told volume state agrees stored
+    (subst (λ (w : Case). IsSpaceOf c.args.store.now c.args.part.0 w) (sym same) space)
     (subst (λ (w : Case). IsAskedAt w c.args.part.0 c.in-Some.place) (sym same) asked))
 
 pub returns-then-may_change-clause-lacks : goal.returns-then-may_change-clause-lacks
-returns-then-may_change-clause-lacks g c told volume opening is going stored free none place at =
+returns-then-may_change-clause-lacks g c told volume opening is going stored space none place at =
     let file = c.args.file.now in
     let state : State = state_now opening file in
     let case = c.case-case.result in
     let image = (g.B.Blocks.seen c.args.blocks.now).cur in
     let deck = c.may_change.ensures.deck c.if-may_change.true in
     let agrees : IsCaseOf case state = c.case-case.ensures.going opening is going deck
-    (c.used.ensures ∙ stored.volume.logged.used) (c.free_areas.ensures ∙ free)
-    (numbers_keyed (case_of file.geometry state c.args.unit c.args.request.now)
-    (keyed_now opening file is c.requires.keyed) _ _) in
+    (c.used.ensures ∙ stored.volume.logged.used) (c.free_areas.ensures ∙ space.free)
+    (numbers-now (g.B.Blocks.seen c.args.blocks.now) c.args.store.now c.requires.set opening file is
+    c.requires.laid c.requires.served c.args.unit c.args.request.now c.args.part.0 c.requires.base
+    space c.areas_of-areas.result c.areas_of-areas.ensures) in
     let same = whole-is case state file.geometry c.args.unit c.args.request.now
     c.case-case.ensures.geometry c.case-case.ensures.unit c.case-case.ensures.asked in
     let found : place_changed (case_of file.geometry state c.args.unit c.args.request.now)
@@ -106,5 +108,6 @@ returns-then-may_change-clause-lacks g c told volume opening is going stored fre
     (subst (λ (r : Request). IfLacks (LacksRoomIn c.args.store.now image c.args.part.0
     c.in-Some.place r) c.weigh_at.result) c.case-case.ensures.asked
     (c.weigh_at.ensures.lacks told volume state agrees stored
+    (subst (λ (w : Case). IsSpaceOf c.args.store.now c.args.part.0 w) (sym same) space)
     (subst (λ (w : Case). IsAskedAt w c.args.part.0 c.in-Some.place) (sym same) asked)
     (subst (λ (w : Case). first_of (file_refusals w) ≡ None) (sym same) none)))

@@ -3,12 +3,11 @@ use Rattle.std.proofs.lemmas.Option.{IfSome_then}
 use Rattle.vr_types.proofs.CallerLemmas.{keeps-none}
 use Rattle.vr_answer.specs.InHand.{whole}
 use Rattle.vr_event.specs.Putting.{FitsItem}
-use Rattle.vr_event.proofs.KeyedParts.{keyed-laid}
 use Rattle.vr_event.proofs.Weighs.{refuse-memory}
 use Rattle.vr_event.proofs.weighing.weigh_looked.Goals as goal
 
 pub returns-then-not-fits_item-clause-may : goal.returns-then-not-fits_item-clause-may
-returns-then-not-fits_item-clause-may g c told volume state is at stored asked =
+returns-then-not-fits_item-clause-may g c told volume state is at stored space asked =
     refuse-memory (whole c.args.case.now state) c.requires.change
 
 pub returns-then-not-fits_item-clause-keeps : goal.returns-then-not-fits_item-clause-keeps
@@ -33,8 +32,3 @@ weigh_record-requires-clause-old_fits g c =
     subst (FitsItem c.args.store.now.parts c.args.part.0 c.args.place) c.slice_of.ensures
     (c.fits_item.ensures c.if-not-fits_item.false
     c.args.case.now.geometry c.args.store.now.parts c.requires.laid)
-
-pub weigh_record-requires-clause-keyed_part : goal.weigh_record-requires-clause-keyed_part
-weigh_record-requires-clause-keyed_part g c =
-    keyed-laid c.args.case.now.geometry c.args.catalog.now c.args.store.now.parts c.args.part.0
-    c.requires.laid c.requires.keyed_laid

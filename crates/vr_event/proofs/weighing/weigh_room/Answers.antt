@@ -1,28 +1,29 @@
-use Rattle.std.proofs.Common.{sym, subst}
+use Rattle.std.proofs.Common.{◌≢◌, ℕ, List, None, sym, subst}
+use Rattle.vr_catalog.specs.declared.entry.CatEntry.{CatEntry}
+use Rattle.vr_space.specs.declared.room.Room.TheVariants as rooms
 use Rattle.vr_types.specs.declared.reply.Refusal.{Refusal}
 use Rattle.vr_answer.specs.InHand.{whole}
 use Rattle.vr_event.specs.Lacking.{IfNoSpace, LacksRoomIn}
-use Rattle.vr_event.specs.Putting.{MayRefuse}
+use Rattle.vr_event.specs.Putting.{AreLaidBy, IsSpaceOf, MayRefuse}
+use Rattle.vr_store.specs.Store.{part_among}
 use Rattle.vr_store.specs.Room.{IsRoomAt}
 use Rattle.vr_store.specs.declared.no.LookNo.TheVariants.{Fault}
 use Rattle.vr_event.proofs.MetParts.{length-same, met-shapes, place-same, ready-same}
-use Rattle.vr_event.proofs.Lacks.{lacks-any, lacks-is, look-else}
+use Rattle.vr_event.proofs.Lacks.{lacks-any, look-else}
 use Rattle.vr_event.proofs.MetParts.{room-full, room-ready}
-use Rattle.vr_event.proofs.Weighs.{asks-change, fills, refuse-look}
+use Rattle.vr_event.proofs.Wanting.{lacks-area}
+use Rattle.vr_event.proofs.Weighs.{asks-change, before-room, refuse-look}
 use Rattle.vr_event.proofs.weighing.weigh_room.Goals as goal
 
 pub returns-in-Err-clause-may : goal.returns-in-Err-clause-may
-returns-in-Err-clause-may g c told state is at ready =
+returns-in-Err-clause-may g c told state is at space ready =
     let w = whole c.args.case.now state in
     subst (λ (r : Refusal). MayRefuse w r) (sym c.refusal_of.ensures)
     (refuse-look w (asks-change w w.request c.args.place ready.place_is) (Fault c.in-Err.fault))
 
 pub returns-in-Ok-Stage-clause-may : goal.returns-in-Ok-Stage-clause-may
-returns-in-Ok-Stage-clause-may g c told state is at ready =
-    let w = whole c.args.case.now state in
-    fills c.args.case.now state is c.requires.keyed
-    (asks-change w w.request c.args.place ready.place_is)
-    ready.unheld
+returns-in-Ok-Stage-clause-may g c told state is at space ready =
+    before-room (whole c.args.case.now state) ready.unheld
 
 pub returns-in-Ok-Stage-clause-fits : goal.returns-in-Ok-Stage-clause-fits
 returns-in-Ok-Stage-clause-fits g c =
@@ -68,13 +69,24 @@ returns-in-Ok-NoSpace-clause-opens g c told =
     c.in-Ok-NoSpace.field-0-is (c.in-Ok-NoSpace.ensures.still told)))
 
 pub returns-in-Ok-NoSpace-clause-may : goal.returns-in-Ok-NoSpace-clause-may
-returns-in-Ok-NoSpace-clause-may g c told state is at ready =
-    let image = (g.B.Blocks.seen c.args.blocks.now).cur in
+returns-in-Ok-NoSpace-clause-may g c told state is at space ready =
+    let w = whole c.args.case.now state in
+    let store = c.args.store.now in
+    let now = g.B.Blocks.seen c.args.blocks.now in
+    let base = c.requires.base in
     c.crowded.ensures.may state is at
-    (lacks-is c.args.store.now image c.args.part.0 c.args.place c.args.length c.in-Ok-NoSpace.need
-    c.in-Ok-NoSpace.free c.requires.at.laid
-    (subst (IsRoomAt c.args.store.now image c.args.part.0 c.args.place c.args.length)
-    c.in-Ok-NoSpace.field-0-is (c.in-Ok-NoSpace.ensures.answer told)) c.requires.keyed_part) ready
+    (lacks-area w store now c.requires.set (g.met.B.Blocks.cur_may c.args.blocks.now told)
+    (c.requires.stands told)
+    (subst (λ (entries : List CatEntry). AreLaidBy c.args.case.now.geometry entries store.parts)
+    is.file.catalog c.requires.laid)
+    (subst (λ (n : ℕ). IsSpaceOf store n w) base space) c.args.place ready.place_is
+    (asks-change w w.request c.args.place ready.place_is) ready.unheld
+    (subst (λ (n : ℕ). part_among store.parts n ≢ None) base c.requires.at.laid) c.args.length
+    c.in-Ok-NoSpace.need c.in-Ok-NoSpace.free
+    (subst (λ (n : ℕ). IsRoomAt store now.cur n c.args.place c.args.length
+    (rooms.NoSpace c.in-Ok-NoSpace.need c.in-Ok-NoSpace.free)) base
+    (subst (IsRoomAt store now.cur c.args.part.0 c.args.place c.args.length)
+    c.in-Ok-NoSpace.field-0-is (c.in-Ok-NoSpace.ensures.answer told)))) ready
 
 pub returns-in-Ok-NoSpace-clause-lacks : goal.returns-in-Ok-NoSpace-clause-lacks
 returns-in-Ok-NoSpace-clause-lacks g c told =

@@ -2,4 +2,4 @@ use Rattle.vr_format.proofs.NewVolume.{none-stand}
 use Rattle.vr_format.proofs.clusters.write_cluster.Goals as goal
 
 pub write_part-requires-clause-records : goal.write_part-requires-clause-records
-write_part-requires-clause-records g c = none-stand c.cluster_layout-layout.result
+write_part-requires-clause-records g c = none-stand c.layout_of-layout.result

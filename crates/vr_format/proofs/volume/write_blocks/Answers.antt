@@ -6,7 +6,7 @@ use Rattle.vr_space.specs.Part.{KeyedShape, StandsFor}
 use Rattle.vr_mount.specs.Touched.{Anything}
 use Rattle.vr_types.proofs.CallerLemmas.{touches-then}
 use Rattle.vr_format.specs.Formatted.{IsFormatted, IsWritten}
-use Rattle.vr_format.specs.Planned.{AreEmpty, InClusters, catalog_keyed, content_of}
+use Rattle.vr_format.specs.Planned.{AreNew, InClusters, catalog_keyed, content_of}
 use Rattle.vr_format.proofs.Steps.{all-made, in-catalog, in-clusters, in-start, on-ok}
 use Rattle.vr_format.proofs.Steps.{touches-more}
 use Rattle.vr_format.proofs.volume.write_blocks.Goals as goal
@@ -23,9 +23,9 @@ returns-clause-formatted g c told =
     let last : Seen = B.seen c.write_clusters.new.device in
     let layout : c.catalog_layout-layout.result ≡ catalog_keyed geometry =
     c.catalog_layout-layout.ensures in
-    on-ok c.write_clusters.result (AreEmpty geometry clusters (length clusters) last.cur)
+    on-ok c.write_clusters.result (AreNew geometry clusters (length clusters) last.cur)
     (IsFormatted geometry c.args.number entries last.cur)
-    (λ empty. all-made geometry c.args.number entries clusters first second third last
+    (λ new. all-made geometry c.args.number entries clusters first second third last
     c.requires.planned c.requires.allowed (record {
       header = c.in_ok-write_start.ensures.header told;
       log = c.in_ok-write_start.ensures.log told;
@@ -33,12 +33,12 @@ returns-clause-formatted g c told =
           layout (c.in_ok-write_part.ensures.stands told);
       to_third = subst (λ (k : Keyed). Touches (InArea k) Anything second third)
           layout (c.write_part.ensures.after told);
-      empty = empty;
+      new = new;
       to_last = c.write_clusters.ensures.after told;
     })
     ((g.met.D.BlockDevice.cur_may c.write_clusters.new.device told).length_is
     ∙ c.write_clusters.ensures.shape.count))
-    (c.write_clusters.ensures.empty told)
+    (c.write_clusters.ensures.new told)
 
 pub returns-clause-after : goal.returns-clause-after
 returns-clause-after g c told =

@@ -1,6 +1,9 @@
-use Rattle.std.proofs.Common.{◌≡◌, ◌∙◌, ap, map, subst, sym}
+use Rattle.std.proofs.Common.{◌≡◌, ◌∙◌, List, ap, map, subst, sym}
 use Rattle.vr_attach.specs.Owning.{owner_of}
 use Rattle.vr_event.specs.Opening.{IsOpened, owned_in}
+use Rattle.vr_event.specs.Volume.{OwnLaid}
+use Rattle.vr_types.specs.Geometry.{area_count}
+use Rattle.vr_catalog.specs.declared.entry.CatEntry.{CatEntry}
 use Rattle.vr_history.specs.State.{opening_state}
 use Rattle.vr_job.specs.Going.{HasRun}
 use Rattle.vr_job.specs.Opened.{IsReady, laid_now}
@@ -37,7 +40,7 @@ returns-clause-whole g c =
     (ready g c).laid
 
 pub returns-clause-run : goal.returns-clause-run
-returns-clause-run g c told contents catalog opened =
+returns-clause-run g c told contents catalog unlaid opened =
     let is = ready g c in
     let t = taken g c in
     let b = boxed g c in
@@ -45,7 +48,11 @@ returns-clause-run g c told contents catalog opened =
     let of-taken = subst (λ (r : Ready). IsOpened c.args.number (owner_of r.log.geometry r.space)
     r.log (map laid_now r.parts.items) contents now) (sym (same g c)) opened in
     let held = c.new.ensures.held told contents (same-catalog g c ∙ catalog) is.clusters
-    is.geometry_is is.records is.sound is.owners.count is.owned of-taken in
+    is.geometry_is is.records is.sound (is.set.areas ∙ ap area_count is.geometry_is) is.owned
+    (subst (λ (entries : List CatEntry). OwnLaid t.geometry entries t.space)
+    (sym (same-catalog g c))
+    (subst (λ (r : Ready). OwnLaid r.geometry b.catalog.value r.space) (sym (same g c)) unlaid))
+    of-taken in
     let whole = c.new.ensures.whole is.clusters is.set is.geometry_is is.laid in
     let run = opening-run g.B.Blocks.seen g.B.Blocks.faults
     (opening_state contents (owned_in t.space)) c.new.result

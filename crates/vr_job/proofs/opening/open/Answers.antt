@@ -10,6 +10,7 @@ use Rattle.vr_mount.specs.Areas.{AreOwners}
 use Rattle.vr_recover.specs.Opening.{IsVolume}
 use Rattle.vr_volume.specs.Volume.{Recovers}
 use Rattle.vr_job.specs.Going.{HasRun}
+use Rattle.vr_job.proofs.Readying.{own-laid}
 use Rattle.vr_job.proofs.opening.open.Goals as goal
 
 pub returns-in-Ok-clause-held : goal.returns-in-Ok-clause-held
@@ -21,15 +22,23 @@ returns-in-Ok-clause-held g c told =
       volume_is = subst (λ (geometry : Geometry). IsVolume c.args.number geometry from.0
           (g.B.Blocks.seen c.args.blocks)) (sym c.made.ensures.geometry) from.1.volume;
       catalog_is = c.made.ensures.catalog ∙ from.1.catalog_is;
-      owners_are = subst (λ (geometry : Geometry). AreOwners geometry c.made.result.file.catalog
-          c.in-Ok.found.value.space) (sym c.made.ensures.geometry)
+      owners_are = subst (λ (blocks : g.row.B.Denot). AreOwners c.made.result.file.geometry
+          c.made.result.file.catalog (g.B.Blocks.seen blocks).cur c.in-Ok.found.value.space)
+          (sym c.made.ensures.blocks)
+          (subst (λ (geometry : Geometry). AreOwners geometry c.made.result.file.catalog
+          (g.B.Blocks.seen c.open_parts.new.blocks).cur c.in-Ok.found.value.space)
+          (sym c.made.ensures.geometry)
           (subst (λ (entries : List CatEntry). AreOwners c.in-Ok.found.value.geometry entries
-          c.in-Ok.found.value.space) (sym c.made.ensures.catalog) c.in-Ok.ensures.ready.owners);
+          (g.B.Blocks.seen c.open_parts.new.blocks).cur c.in-Ok.found.value.space)
+          (sym c.made.ensures.catalog) from.1.owners_are));
       run = subst (λ (blocks : g.row.B.Denot). HasRun g.B.Blocks.seen
           g.B.Blocks.faults (opening_state from.0 (owned_in c.in-Ok.found.value.space)) blocks
           c.made.result)
           (sym c.made.ensures.blocks)
-          (c.made.ensures.run told from.0 from.1.catalog_is from.1.opened);
+          (c.made.ensures.run told from.0 from.1.catalog_is
+          (own-laid c.in-Ok.found.value.geometry c.in-Ok.found.value.catalog.value
+          (g.B.Blocks.seen c.open_parts.new.blocks).cur c.in-Ok.found.value.space from.1.owners_are)
+          from.1.opened);
     }
 
 pub returns-in-Ok-clause-any_moment : goal.returns-in-Ok-clause-any_moment

@@ -1,18 +1,20 @@
-use Rattle.std.proofs.Common.{List, refl, sym, ap, subst}
+use Rattle.std.proofs.Common.{◌≡◌, ◌++◌, ℕ, List, map, refl, sym, ap, subst, ◌∙◌, drop, length, take}
 use Rattle.std.specs.Prelude.{All}
+use Rattle.std.proofs.lemmas.List.{take_at}
 use Rattle.std.proofs.lemmas.Result.{err_from_is_err_and}
 use Rattle.vr_types.specs.Image.{Image}
 use Rattle.vr_types.proofs.CallerLemmas.{keeps-none, keeps-then}
-use Rattle.vr_keyed.specs.Owned.{Owned}
 use Rattle.vr_log.specs.LogNow.{LogNow}
-use Rattle.vr_space.specs.Keyed.{Keyed}
-use Rattle.vr_space.specs.Part.{IsOn, KeyedShape}
+use Rattle.vr_part.specs.Any.{shape_any}
+use Rattle.vr_part.specs.declared.any.AnyPart.{AnyPart}
+use Rattle.vr_space.specs.Part.{IsOn, Shape}
 use Rattle.vr_volume.specs.PutBack.{images_of}
-use Rattle.vr_recover.specs.Found.{AllStand, AreOff, HasRoomOf, IsBackNo, IsFound}
-use Rattle.vr_recover.specs.Found.{IsPlanned, ShowsOnly}
+use Rattle.vr_recover.specs.Found.{AllStand, AreKnown, AreOff, HasRoomOf, IsBackNo, IsFound}
+use Rattle.vr_recover.specs.Found.{IsPlanned, MayGoBack, ShowsOnly}
 use Rattle.vr_recover.proofs.Attaching.{not-if, of-still}
-use Rattle.vr_recover.proofs.Refusals.{all-layouts, all-parts, back-refused, layouts-on, log-long}
-use Rattle.vr_recover.proofs.Refusals.{image-refused, layouts-stand, mount-refused, off-live}
+use Rattle.vr_recover.proofs.Owning.{known-know, owners-reached}
+use Rattle.vr_recover.proofs.Refusals.{back-refused, image-refused, log-long, mount-refused, off-live}
+use Rattle.vr_recover.proofs.Refusals.{shapes-on, shapes-stand}
 use Rattle.vr_recover.proofs.finding.find.Goals as goal
 
 pub returns-then-not-are_off-clause-keeps : goal.returns-then-not-are_off-clause-keeps
@@ -31,8 +33,8 @@ returns-then-not-are_off-clause-refused g c told number header spelled =
     (off-live c.args.begun.now.log.records content.records
     (ap (λ (l : LogNow). l.records) c.requires.log) off))
 
-pub returns-in_err-catalog-clause-refused : goal.returns-in_err-catalog-clause-refused
-returns-in_err-catalog-clause-refused g c told number header spelled =
+pub returns-in_err-mounted-clause-refused : goal.returns-in_err-mounted-clause-refused
+returns-in_err-mounted-clause-refused g c told number header spelled =
     let geometry = c.args.geometry.now in
     let content = c.args.begun.now.content in
     let a = g.B.Blocks.seen c.args.blocks.now in
@@ -43,33 +45,43 @@ returns-in_err-catalog-clause-refused g c told number header spelled =
     (sym (ap (λ (l : LogNow). l.records) c.requires.log)) (c.if-not-are_off.ensures.0 refl) in
     let p = err_from_is_err_and c.from_residual.result c.from_residual.ensures.1 in
     rw (p.1, p.2) (mount-refused number geometry a c.requires.allowed c.requires.shape header
-    content long spelled off c.in_err-catalog.field-0.0 (c.in_err-catalog.ensures.damaged told))
+    content long spelled off c.in_err-mounted.field-0.0 (c.in_err-mounted.ensures.damaged told))
 
 pub images_to_undo-requires-clause-on : goal.images_to_undo-requires-clause-on
 images_to_undo-requires-clause-on g c =
     let geometry = c.args.geometry.now in
     let now = g.B.Blocks.seen c.mount.new.blocks in
-    let mounted = c.in_ok-catalog.ensures.mounted in
-    all-parts (λ (part : Keyed). IsOn (KeyedShape part) now) c.mount.new.laid.parts.items
-    c.mount.new.laid.layouts.items mounted.row.layouts_are
-    (layouts-on geometry c.in_ok-catalog.catalog.value c.mount.new.laid.layouts.items now
+    let parts : List AnyPart = c.mount.new.parts.items in
+    let mounted = c.in_ok-mounted.ensures.mounted in
+    subst (λ (ps : List AnyPart). All (λ (shape : Shape). IsOn shape now) (map shape_any ps))
+    (sym c.deref_mut.ensures.value)
+    (shapes-on geometry c.in_ok-mounted.mounted.catalog.value (map shape_any parts) now
+    c.requires.allowed
     (of-still g.B.Blocks.tells geometry (g.B.Blocks.seen c.args.blocks.now) now
-    c.mount.ensures.keeps c.requires.shape) mounted.shapes mounted.distinct mounted.on)
+    c.mount.ensures.keeps c.requires.shape) mounted.may mounted.shapes)
 
 pub images_to_undo-requires-clause-stand : goal.images_to_undo-requires-clause-stand
 images_to_undo-requires-clause-stand g c told =
-    subst (AllStand c.mount.new.laid.layouts.items) (sym (c.mount.ensures.keeps.content told))
-    (c.in_ok-catalog.ensures.stand told)
+    let cur = (g.B.Blocks.seen c.mount.new.blocks).cur in
+    subst (λ (ps : List AnyPart). AllStand (map shape_any ps) cur) (sym c.deref_mut.ensures.value)
+    (subst (AllStand (map shape_any c.mount.new.parts.items))
+    (sym (c.mount.ensures.keeps.content told)) (c.in_ok-mounted.ensures.stand told))
+
+pub images_to_undo-requires-clause-known : goal.images_to_undo-requires-clause-known
+images_to_undo-requires-clause-known g c told =
+    let cur = (g.B.Blocks.seen c.mount.new.blocks).cur in
+    subst (λ (ps : List AnyPart). AreKnown ps cur) (sym c.deref_mut.ensures.value)
+    (subst (AreKnown c.mount.new.parts.items) (sym (c.mount.ensures.keeps.content told))
+    (c.in_ok-mounted.ensures.known told))
 
 pub returns-in_err-undo-clause-refused : goal.returns-in_err-undo-clause-refused
 returns-in_err-undo-clause-refused g c told number header spelled =
     let geometry = c.args.geometry.now in
     let content = c.args.begun.now.content in
     let a = g.B.Blocks.seen c.args.blocks.now in
-    let b = g.B.Blocks.seen c.mount.new.blocks in
-    let layouts = c.mount.new.laid.layouts.items in
-    let parts = c.mount.new.laid.parts.items in
-    let mounted = c.in_ok-catalog.ensures.mounted in
+    let shapes = map shape_any c.mount.new.parts.items in
+    let entries = c.in_ok-mounted.mounted.catalog.value in
+    let mounted = c.in_ok-mounted.ensures.mounted in
     let long = log-long geometry a c.requires.allowed c.requires.shape
     (g.met.B.Blocks.cur_may c.args.blocks.now told)
     (λ n block below may. g.met.B.Blocks.sized c.args.blocks.now n block told below may) in
@@ -78,32 +90,41 @@ returns-in_err-undo-clause-refused g c told number header spelled =
     let p = err_from_is_err_and c.from_residual-in_err-undo.result
     c.from_residual-in_err-undo.ensures.1 in
     rw (p.1, p.2) (back-refused number geometry a c.requires.allowed c.requires.shape header
-    content long spelled off c.in_ok-catalog.catalog.value (c.in_ok-catalog.ensures.entries told)
-    mounted.distinct
-    (layouts-stand geometry c.in_ok-catalog.catalog.value layouts a.cur
-    mounted.shapes (c.in_ok-catalog.ensures.stand told)) layouts mounted.shapes parts
-    mounted.row.layouts_are c.in_err-undo.field-0.0
-    (subst (λ (image : Image). ShowsOnly (IsBackNo (images_of content.records) layouts parts image)
+    content long spelled off entries (c.in_ok-mounted.ensures.entries told) mounted.may.distinct
+    (shapes-stand geometry entries shapes a.cur mounted.shapes
+    (c.in_ok-mounted.ensures.stand told)) shapes mounted.shapes c.in_err-undo.field-0.0
+    (subst (λ (image : Image). ShowsOnly (IsBackNo (images_of content.records) shapes image)
     c.in_err-undo.field-0.0) (c.mount.ensures.keeps.content told)
-    (c.in_err-undo.ensures.damaged told)))
+    (subst (λ (ps : List AnyPart). ShowsOnly (IsBackNo (images_of content.records)
+    (map shape_any ps) (g.B.Blocks.seen c.mount.new.blocks).cur) c.in_err-undo.field-0.0)
+    c.deref_mut.ensures.value (c.in_err-undo.ensures.damaged told))))
+
+-- what was lent of a list is that list again, where it stayed as it was
+lent-back : (lent all : List AnyPart) (n : ℕ) → lent ≡ all → n ≡ length all
+    → take n (lent ++ drop (length lent) all) ≡ all
+lent-back lent all n same long = take_at lent (drop (length lent) all) n
+    (ap (λ (parts : List AnyPart). length parts) same ∙ sym long) ∙ same
 
 pub returns-clause-planned : goal.returns-clause-planned
 returns-clause-planned g c =
     let geometry = c.args.geometry.now in
     let content = c.args.begun.now.content in
-    let mounted = c.in_ok-catalog.ensures.mounted in
-    subst (IsPlanned geometry content c.in_ok-catalog.catalog.value)
-    (sym c.images_to_undo.ensures.layouts)
+    let mounted = c.in_ok-mounted.ensures.mounted in
+    let parts : List AnyPart = c.mount.new.parts.items in
+    subst (λ (ps : List AnyPart). IsPlanned geometry content c.in_ok-mounted.mounted.catalog.value
+    (map shape_any ps))
+    (sym (lent-back c.images_to_undo.new.parts parts c.mount.new.parts.len
+    (c.images_to_undo.ensures.same ∙ c.deref_mut.ensures.value) c.mount.new.parts.ok.0))
     (record {
-      shapes = mounted.shapes;
-      distinct = mounted.distinct;
+      shapes_are = mounted.shapes;
+      may = mounted.may;
       apart = mounted.apart;
-      on = mounted.on;
       clusters = mounted.clusters;
       off = off-live content.records c.args.begun.now.log.records
           (sym (ap (λ (l : LogNow). l.records) c.requires.log))
           (c.if-not-are_off.ensures.0 refl);
-      back = c.in_ok-undo.ensures.back;
+      back = subst (λ (ps : List AnyPart). MayGoBack (images_of content.records) (map shape_any ps))
+          c.deref_mut.ensures.value c.in_ok-undo.ensures.back;
     })
 
 pub returns-clause-found : goal.returns-clause-found
@@ -111,20 +132,27 @@ returns-clause-found g c told number header spelled =
     let geometry = c.args.geometry.now in
     let content = c.args.begun.now.content in
     let images = images_of content.records in
-    let mounted = c.in_ok-catalog.ensures.mounted in
-    let cur = (g.B.Blocks.seen c.args.blocks.now).cur in
-    subst (λ (ls : List Keyed). IsFound geometry number content c.in_ok-catalog.catalog.value ls cur)
-    (sym c.images_to_undo.ensures.layouts)
+    let mounted = c.in_ok-mounted.ensures.mounted in
+    let entries = c.in_ok-mounted.mounted.catalog.value in
+    let owners = c.in_ok-mounted.mounted.space in
+    let parts : List AnyPart = c.mount.new.parts.items in
+    let a = g.B.Blocks.seen c.args.blocks.now in
+    subst (λ (ps : List AnyPart). IsFound geometry number content entries (map shape_any ps) owners
+    a.cur)
+    (sym (lent-back c.images_to_undo.new.parts parts c.mount.new.parts.len
+    (c.images_to_undo.ensures.same ∙ c.deref_mut.ensures.value) c.mount.new.parts.ok.0))
     (record {
       header = header;
       spelled = spelled;
-      entries_are = c.in_ok-catalog.ensures.entries told;
-      stand = c.in_ok-catalog.ensures.stand told;
-      rooms = all-layouts (HasRoomOf images cur) c.mount.new.laid.parts.items
-          c.mount.new.laid.layouts.items mounted.row.layouts_are
-          (subst (λ (image : Image). All (λ (keyed : Owned). HasRoomOf images image keyed.part)
-          c.mount.new.laid.parts.items) (c.mount.ensures.keeps.content told)
+      entries_are = c.in_ok-mounted.ensures.entries told;
+      stand = c.in_ok-mounted.ensures.stand told;
+      rooms = subst (λ (image : Image). All (HasRoomOf images image) (map shape_any parts))
+          (c.mount.ensures.keeps.content told)
+          (subst (λ (ps : List AnyPart). All (HasRoomOf images
+          (g.B.Blocks.seen c.mount.new.blocks).cur) (map shape_any ps)) c.deref_mut.ensures.value
           (c.in_ok-undo.ensures.room told));
+      owned = owners-reached geometry entries parts owners mounted.may.distinct mounted.shapes
+          mounted.owned a (known-know parts a (c.in_ok-mounted.ensures.known told));
     })
 
 pub returns-clause-keeps : goal.returns-clause-keeps

@@ -1,9 +1,10 @@
-use Rattle.std.proofs.Common.{sym, subst}
+use Rattle.std.proofs.Common.{map, sym, subst}
 use Rattle.vr_types.specs.Image.{Image}
 use Rattle.vr_types.proofs.CallerLemmas.{guards-then}
 use Rattle.vr_volume.specs.Volume.{Recovers}
 use Rattle.vr_undo.specs.Records.{images_in}
-use Rattle.vr_recover.specs.Found.{IsFound}
+use Rattle.vr_part.specs.Any.{shape_any}
+use Rattle.vr_recover.specs.Found.{AreKnown, IsFound}
 use Rattle.vr_recover.proofs.OpenLemmas.{forced-guards, handed-out, opened-by}
 use Rattle.vr_recover.proofs.Recovery.{found-recovers, recovered}
 use Rattle.vr_recover.proofs.open.open_log.Goals as goal
@@ -21,8 +22,8 @@ restore-requires-clause-found g c told =
     let header = c.requires.header told in (
       header.0,
       subst (IsFound c.args.geometry.now header.0 c.args.begun.now.content
-          c.in_ok-found.found.catalog.value c.find.new.laid.layouts.items)
-          (sym (c.find.ensures.keeps.content told))
+          c.in_ok-found.found.catalog.value (map shape_any c.find.new.parts.items)
+          c.in_ok-found.found.space) (sym (c.find.ensures.keeps.content told))
           (c.in_ok-found.ensures.found told header.0 header.1 (c.requires.spelled told)),
     )
 
@@ -40,26 +41,31 @@ returns-in_err-restore-clause-any_moment g c told number contents is =
     (subst (λ (i : Image). Recovers c.args.geometry.now number i contents)
     (sym (c.find.ensures.keeps.content told)) is))
 
+-- so are the parts as they were attached
+pub restore-requires-clause-known : goal.restore-requires-clause-known
+restore-requires-clause-known g c told =
+    subst (AreKnown c.find.new.parts.items) (sym (c.find.ensures.keeps.content told))
+    (c.in_ok-found.ensures.known told)
+
 pub returns-clause-handed : goal.returns-clause-handed
 returns-clause-handed g c =
     let did = c.in_ok-restore.ensures in
     handed-out c.args.geometry.now c.args.begun.now.content c.in_ok-found.found.catalog.value
-    c.find.new.laid.layouts.items c.in_ok-found.ensures.planned c.find.new.laid.parts.items
-    c.restore.new.laid.parts.items c.find.new.laid.numbers.items c.in_ok-found.ensures.row
-    did.shapes c.restore.new.begun.log c.in_ok-found.found.space
-    (g.B.Blocks.seen c.restore.new.blocks) c.requires.allowed did.shape did.geometry did.sound
-    did.forced did.records did.generation did.split c.in_ok-found.ensures.owners
+    c.find.new.parts.items c.restore.new.parts.items c.requires.allowed
+    c.in_ok-found.ensures.planned did.shapes did.areas c.in_ok-found.found.space
+    c.in_ok-found.ensures.owners c.restore.new.begun.log (g.B.Blocks.seen c.restore.new.blocks)
+    did.shape did.geometry did.sound did.forced did.records did.generation did.split
 
 pub returns-clause-opened : goal.returns-clause-opened
 returns-clause-opened g c told number header =
     let did = c.in_ok-restore.ensures in
     let a = g.B.Blocks.seen c.args.blocks.now in
     opened-by c.args.geometry.now c.args.begun.now.content c.in_ok-found.found.catalog.value
-    c.find.new.laid.layouts.items c.in_ok-found.ensures.planned c.find.new.laid.parts.items
-    c.restore.new.laid.parts.items c.find.new.laid.numbers.items c.in_ok-found.ensures.row
-    did.shapes number c.restore.new.begun.log c.in_ok-found.found.space
+    c.find.new.parts.items c.restore.new.parts.items c.requires.allowed
+    c.in_ok-found.ensures.planned did.shapes did.areas c.in_ok-found.found.space
+    c.in_ok-found.ensures.owners number c.restore.new.begun.log
     (images_in c.in_ok-found.found.undo.value) a (g.B.Blocks.seen c.restore.new.blocks)
-    c.requires.allowed c.requires.shape (c.requires.forced told)
+    c.requires.shape (c.requires.forced told)
     (c.in_ok-found.ensures.found told number header (c.requires.spelled told))
     (λ contents is. did.undone told number contents
     (subst (λ (i : Image). Recovers c.args.geometry.now number i contents)
@@ -85,13 +91,15 @@ returns-in_err-restore-clause-unwritten g c told number header none =
     let geometry = c.args.geometry.now in
     let content = c.args.begun.now.content in
     let entries = c.in_ok-found.found.catalog.value in
-    let layouts = c.find.new.laid.layouts.items in
+    let shapes = map shape_any c.find.new.parts.items in
+    let owners = c.in_ok-found.found.space in
     let cur = (g.B.Blocks.seen c.args.blocks.now).cur in
     let found = c.in_ok-found.ensures.found told number header (c.requires.spelled told) in
     let planned = c.in_ok-found.ensures.planned in
-    absurd (none geometry (recovered geometry content entries layouts planned number cur found)
-    (record {
+    absurd (none geometry
+    (recovered geometry content entries shapes planned number owners cur found) (record {
       allowed = c.requires.allowed;
       shape = c.requires.shape;
-      recovers = found-recovers geometry content entries layouts planned number cur found;
+      recovers = found-recovers geometry content entries shapes planned number owners cur found
+          c.requires.allowed;
     }))

@@ -6,20 +6,12 @@ use Rattle.vr_types.proofs.CallerLemmas.{keeps-then}
 use Rattle.vr_attach.specs.Header.{header_block}
 use Rattle.vr_recover.specs.Opening.{IsOpened}
 use Rattle.vr_recover.specs.declared.begun.Begun.{Begun}
-use Rattle.vr_recover.specs.declared.laid.Laid.{Laid}
 use Rattle.vr_recover.proofs.OpenLemmas.{left-guards, left-then, none-then, opened-before}
 use Rattle.vr_recover.proofs.OpenLemmas.{refused-before}
 use Rattle.vr_recover.proofs.open.open_numbered.Goals as goal
 
 pub returns-in_err-begun-clause-any_moment : goal.returns-in_err-begun-clause-any_moment
 returns-in_err-begun-clause-any_moment g c told geometry contents is =
-    left-guards g.B.Blocks.tells geometry c.args.number contents
-    (g.B.Blocks.seen c.args.blocks.now) (g.B.Blocks.seen c.start.new.blocks) told
-    (λ image there. g.met.B.Blocks.images_may c.args.blocks.now image told there)
-    c.start.ensures.keeps
-
-pub returns-in_err-laid-clause-any_moment : goal.returns-in_err-laid-clause-any_moment
-returns-in_err-laid-clause-any_moment g c told geometry contents is =
     left-guards g.B.Blocks.tells geometry c.args.number contents
     (g.B.Blocks.seen c.args.blocks.now) (g.B.Blocks.seen c.start.new.blocks) told
     (λ image there. g.met.B.Blocks.images_may c.args.blocks.now image told there)
@@ -72,21 +64,17 @@ returns-clause-opened g c told =
     let a = g.B.Blocks.seen c.args.blocks.now in
     let b = g.B.Blocks.seen c.start.new.blocks in
     let call = c.start.ensures.keeps in
-    subst (λ (parts : Laid). IsOpened c.args.number geometry c.in_ok-found.found.catalog.value
-    parts.parts.items c.into_inner-log.result.log c.in_ok-found.found.space a
-    (g.B.Blocks.seen c.open_log.new.blocks))
-    (sym c.into_inner-parts.ensures)
-    (subst (λ (begun : Begun). IsOpened c.args.number geometry c.in_ok-found.found.catalog.value
-    c.open_log.new.laid.parts.items begun.log c.in_ok-found.found.space a
+    subst (λ (begun : Begun). IsOpened c.args.number geometry c.in_ok-found.found.catalog.value
+    c.open_log.new.parts.items begun.log c.in_ok-found.found.space a
     (g.B.Blocks.seen c.open_log.new.blocks))
     (sym c.into_inner-log.ensures)
     (opened-before a b call.count_same call.size_same (call.content told) c.args.number geometry
-    c.in_ok-found.found.catalog.value c.open_log.new.laid.parts.items c.open_log.new.begun.log
+    c.in_ok-found.found.catalog.value c.open_log.new.parts.items c.open_log.new.begun.log
     c.in_ok-found.found.space (g.B.Blocks.seen c.open_log.new.blocks)
     (c.in_ok-found.ensures.opened told c.args.number
     (ap (λ (i : Image). block_at i 0) (call.content told)
     ∙ c.in_ok-begun.ensures.header told
-    ∙ ap (λ (g : Geometry). header_block g c.args.number) (sym same)))))
+    ∙ ap (λ (g : Geometry). header_block g c.args.number) (sym same))))
 
 pub returns-clause-any_moment : goal.returns-clause-any_moment
 returns-clause-any_moment g c told =

@@ -5,7 +5,7 @@ use Rattle.vr_attach.specs.Owning.{IsPastLog, owner_of}
 use Rattle.vr_log.specs.LogNow.{LogNow}
 use Rattle.vr_undo.specs.Records.{images_in}
 use Rattle.vr_undo.specs.declared.record.KeptRecord.{KeptRecord}
-use Rattle.vr_mount.proofs.CallerLemmas.{areas-own}
+use Rattle.vr_attach.proofs.CallerLemmas.{owner-past-log}
 use Rattle.vr_recover.specs.Found.{IsPartReady}
 use Rattle.vr_recover.proofs.Clearing.{IsCleared, cleared-guards, then-moments, then-ready}
 use Rattle.vr_recover.proofs.Clearing.{then-settled, undoable}
@@ -27,20 +27,20 @@ returns-in_err-clear-clause-any_moment g c told number contents is =
 pub undo-requires-clause-undoable : goal.undo-requires-clause-undoable
 undo-requires-clause-undoable g c =
     undoable c.args.geometry.now c.args.begun.now.content c.args.found.now.catalog.value
-    c.args.laid.now.layouts.items c.requires.planned c.args.laid.now.parts.items
-    c.args.laid.now.numbers.items c.requires.row c.args.begun.now.log
-    (images_in c.deref.result.now) (g.B.Blocks.seen c.clear.new.blocks) c.clear.ensures.shape
-    c.requires.log (ap images_in c.deref.ensures ∙ c.requires.kept)
+    c.args.parts.now.items c.requires.planned c.requires.allowed c.args.begun.now.log
+    (images_in c.deref.result.now) (g.B.Blocks.seen c.clear.new.blocks) c.requires.split
+    c.clear.ensures.shape c.requires.log (ap images_in c.deref.ensures ∙ c.requires.kept)
 
 pub undo-requires-clause-ready : goal.undo-requires-clause-ready
 undo-requires-clause-ready g c told =
     let geometry = c.args.geometry.now in
     let content = c.args.begun.now.content in
     let entries = c.args.found.now.catalog.value in
-    let layouts = c.args.laid.now.layouts.items in
+    let parts = c.args.parts.now.items in
+    let areas = c.args.found.now.space in
     let a = g.B.Blocks.seen c.args.blocks.now in
     let b = g.B.Blocks.seen c.clear.new.blocks in
-    let cleared : IsCleared geometry content entries layouts a b = record {
+    let cleared : IsCleared geometry content entries parts areas a b = record {
       allowed = c.requires.allowed;
       of = c.requires.shape;
       of_then = c.clear.ensures.shape;
@@ -54,16 +54,16 @@ undo-requires-clause-ready g c told =
           (λ n block below may. g.met.B.Blocks.sized c.clear.new.blocks n block told below may);
       number = (c.requires.found told).0;
       found = (c.requires.found told).1;
+      known = c.requires.known told;
       spelled_then = c.clear.ensures.spelled told;
       call = c.clear.ensures.moments told;
       stands = c.in_ok-clear.ensures.stands told;
     } in
-    let owners = owner_of geometry c.args.found.now.space in
-    let own = areas-own geometry entries c.args.found.now.space c.requires.owners in (
+    let owners = owner_of geometry areas in (
       owners,
-      subst (λ (l : LogNow). IsPastLog l.geometry owners) (sym c.requires.log) own.past,
-      then-ready geometry content entries layouts c.requires.planned c.args.laid.now.parts.items
-          c.args.laid.now.numbers.items c.requires.row a b cleared owners own
+      subst (λ (l : LogNow). IsPastLog l.geometry owners) (sym c.requires.log)
+          (owner-past-log geometry areas),
+      then-ready geometry content entries parts c.requires.planned areas a b cleared
           (images_in c.deref.result.now) (ap images_in c.deref.ensures ∙ c.requires.kept),
     )
 
@@ -72,10 +72,11 @@ returns-clause-any_moment g c told number contents is =
     let geometry = c.args.geometry.now in
     let content = c.args.begun.now.content in
     let entries = c.args.found.now.catalog.value in
-    let layouts = c.args.laid.now.layouts.items in
+    let parts = c.args.parts.now.items in
+    let areas = c.args.found.now.space in
     let a = g.B.Blocks.seen c.args.blocks.now in
     let b = g.B.Blocks.seen c.clear.new.blocks in
-    let cleared : IsCleared geometry content entries layouts a b = record {
+    let cleared : IsCleared geometry content entries parts areas a b = record {
       allowed = c.requires.allowed;
       of = c.requires.shape;
       of_then = c.clear.ensures.shape;
@@ -89,26 +90,25 @@ returns-clause-any_moment g c told number contents is =
           (λ n block below may. g.met.B.Blocks.sized c.clear.new.blocks n block told below may);
       number = (c.requires.found told).0;
       found = (c.requires.found told).1;
+      known = c.requires.known told;
       spelled_then = c.clear.ensures.spelled told;
       call = c.clear.ensures.moments told;
       stands = c.in_ok-clear.ensures.stands told;
     } in
-    let owners = owner_of geometry c.args.found.now.space in
-    let own = areas-own geometry entries c.args.found.now.space c.requires.owners in
-    then-moments geometry content entries layouts c.requires.planned c.args.laid.now.parts.items
-    c.args.laid.now.numbers.items c.requires.row a b cleared owners own number contents
+    then-moments geometry content entries parts c.requires.planned areas a b cleared number contents
     c.args.begun.now.log (g.B.Blocks.seen c.undo.new.blocks) c.requires.log is
-    (c.undo.ensures.any_moment told number owners contents)
+    (c.undo.ensures.any_moment told number (owner_of geometry areas) contents)
 
 pub returns-clause-undone : goal.returns-clause-undone
 returns-clause-undone g c told =
     let geometry = c.args.geometry.now in
     let content = c.args.begun.now.content in
     let entries = c.args.found.now.catalog.value in
-    let layouts = c.args.laid.now.layouts.items in
+    let parts = c.args.parts.now.items in
+    let areas = c.args.found.now.space in
     let a = g.B.Blocks.seen c.args.blocks.now in
     let b = g.B.Blocks.seen c.clear.new.blocks in
-    let cleared : IsCleared geometry content entries layouts a b = record {
+    let cleared : IsCleared geometry content entries parts areas a b = record {
       allowed = c.requires.allowed;
       of = c.requires.shape;
       of_then = c.clear.ensures.shape;
@@ -122,6 +122,7 @@ returns-clause-undone g c told =
           (λ n block below may. g.met.B.Blocks.sized c.clear.new.blocks n block told below may);
       number = (c.requires.found told).0;
       found = (c.requires.found told).1;
+      known = c.requires.known told;
       spelled_then = c.clear.ensures.spelled told;
       call = c.clear.ensures.moments told;
       stands = c.in_ok-clear.ensures.stands told;
@@ -129,23 +130,21 @@ returns-clause-undone g c told =
     let low : c.args.begun.now.log.generation + 1 < 2 ^ 64 =
     subst (λ (l : LogNow). l.generation + 1 < 2 ^ 64) (sym c.requires.log)
     (omega (arith, c.requires.young.young)) in
-    let owners = owner_of geometry c.args.found.now.space in
-    let own = areas-own geometry entries c.args.found.now.space c.requires.owners in
     on_ok_weaker c.undo.result
-    (λ undone number contents is. undone number owners contents
-    (then-settled geometry content entries layouts c.requires.planned c.args.laid.now.parts.items
-    c.args.laid.now.numbers.items c.requires.row a b cleared owners own number contents
-    c.args.begun.now.log c.requires.log is)) (c.undo.ensures.undone told low)
+    (λ undone number contents is. undone number (owner_of geometry areas) contents
+    (then-settled geometry content entries parts c.requires.planned areas a b cleared number
+    contents c.args.begun.now.log c.requires.log is)) (c.undo.ensures.undone told low)
 
 pub returns-clause-ready : goal.returns-clause-ready
 returns-clause-ready g c told =
     let geometry = c.args.geometry.now in
     let content = c.args.begun.now.content in
     let entries = c.args.found.now.catalog.value in
-    let layouts = c.args.laid.now.layouts.items in
+    let parts = c.args.parts.now.items in
+    let areas = c.args.found.now.space in
     let a = g.B.Blocks.seen c.args.blocks.now in
     let b = g.B.Blocks.seen c.clear.new.blocks in
-    let cleared : IsCleared geometry content entries layouts a b = record {
+    let cleared : IsCleared geometry content entries parts areas a b = record {
       allowed = c.requires.allowed;
       of = c.requires.shape;
       of_then = c.clear.ensures.shape;
@@ -159,19 +158,19 @@ returns-clause-ready g c told =
           (λ n block below may. g.met.B.Blocks.sized c.clear.new.blocks n block told below may);
       number = (c.requires.found told).0;
       found = (c.requires.found told).1;
+      known = c.requires.known told;
       spelled_then = c.clear.ensures.spelled told;
       call = c.clear.ensures.moments told;
       stands = c.in_ok-clear.ensures.stands told;
     } in
-    let owners = owner_of geometry c.args.found.now.space in
-    let own = areas-own geometry entries c.args.found.now.space c.requires.owners in
+    let owners = owner_of geometry areas in
     subst (λ (undo : List KeptRecord). OnOk c.undo.result
     (All (IsPartReady owners (images_in undo) (g.B.Blocks.seen c.undo.new.blocks))
-    c.undo.new.laid.parts.items)) c.deref.ensures
+    c.undo.new.parts.items)) c.deref.ensures
     (on_ok_weaker c.undo.result
     (λ ready. ready owners
-    (subst (λ (l : LogNow). IsPastLog l.geometry owners) (sym c.requires.log) own.past)
-    (then-ready geometry content entries layouts c.requires.planned c.args.laid.now.parts.items
-    c.args.laid.now.numbers.items c.requires.row a b cleared owners own
+    (subst (λ (l : LogNow). IsPastLog l.geometry owners) (sym c.requires.log)
+    (owner-past-log geometry areas))
+    (then-ready geometry content entries parts c.requires.planned areas a b cleared
     (images_in c.deref.result.now) (ap images_in c.deref.ensures ∙ c.requires.kept)))
     (c.undo.ensures.ready told))

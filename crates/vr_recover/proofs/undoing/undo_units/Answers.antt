@@ -1,5 +1,6 @@
 use Rattle.std.proofs.Common.{get_or}
 use Rattle.vr_types.proofs.CallerLemmas.{guards-then, guards-weaken}
+use Rattle.vr_part.specs.Any.{known_any, shape_any}
 use Rattle.vr_space.specs.Part.{part_no}
 use Rattle.vr_volume.specs.Safe.{IsSafeImage}
 use Rattle.vr_volume.specs.Volume.{Recovers}
@@ -78,11 +79,11 @@ pub returns-clause-ready : goal.returns-clause-ready
 returns-clause-ready g c told owners past all k d below =
     let geometry = c.args.log.now.geometry in
     let part = get_or c.put_back_all.new.parts k d in
-    let shape = g.P.Part.shape part in
+    let shape = shape_any part in
     let b = g.B.Blocks.seen c.put_back_all.new.blocks in
     let e = g.B.Blocks.seen c.end_all.new.blocks in
     ready-stays shape owners b e
     (stays-part geometry shape owners Anything b e past (c.end_all.ensures.touches told))
-    (g.P.Part.known part) (g.K.Kept.kept c.args.kept.now (part_no shape))
+    (known_any part) (g.K.Kept.kept c.args.kept.now (part_no shape))
     (g.met.B.Blocks.cur_may c.put_back_all.new.blocks told)
     (c.in_ok-put_back_all.ensures.ready told owners all k d below)

@@ -29,6 +29,7 @@ loop-rec-init g c =
     record {
       shape = refl;
       split = refl;
+      areas = refl;
       count = refl;
       size = refl;
       faults = refl;
@@ -101,6 +102,7 @@ loop-rec-preserved g c =
     record {
       shape = c.put_record.ensures.shape ∙ same;
       split = c.put_record.ensures.split ∙ c.loop-rec.invariant.split;
+      areas = c.put_record.ensures.areas ∙ c.loop-rec.invariant.areas;
       count = c.put_record.ensures.count ∙ c.loop-rec.invariant.count;
       size = c.put_record.ensures.size ∙ c.loop-rec.invariant.size;
       faults = c.in_ok-put_record.ensures.cause.ok ∙ c.loop-rec.invariant.faults;

@@ -67,7 +67,7 @@ returns-in_ok-set_forced-clause-back g c told content item =
     (sym c.if-is_live.ensures) c.args.rec.now c.in-Before.is))
     (one-back shape content image c.in-Before.old a b
     (subst (λ (found : Option (List ℕ)). SetsOne shape c.in-Before.place found a.cur b.cur)
-    c.bytes_of.ensures (c.in_ok-set_forced.ensures.set told))
+    c.bytes_of.ensures.given (c.in_ok-set_forced.ensures.set told))
     refl mine
     (live-has live c.in-Before.unit c.in-Before.owner c.in-Before.place c.in-Before.old
     (sym c.if-is_live.ensures) c.args.rec.now c.in-Before.is (IsItemIn shape content) item)

@@ -1,4 +1,4 @@
-use Rattle.std.proofs.Common.{◌≡◌, ◌≢◌, ◌∙◌, ◌<◌, ◌+◌, ℕ, List, Some, None, ap, arith}
+use Rattle.std.proofs.Common.{◌≡◌, ◌≢◌, ◌∙◌, ◌<◌, ℕ, List, Some, ap, arith}
 use Rattle.std.proofs.Common.{IsTrue, get_or, length, map, refl, subst, sym, take}
 use Rattle.std.specs.Prelude.{All, slice_get}
 use Rattle.std.specs.Option.{option_map}
@@ -9,6 +9,8 @@ use Rattle.std.proofs.Math.Seq.{map-set_same}
 use Rattle.vr_types.specs.Regions.{Touches}
 use Rattle.vr_types.specs.declared.unit.PartNo.{PartNo}
 use Rattle.vr_types.proofs.CallerLemmas.{guards-start, guards-then}
+use Rattle.vr_part.specs.Any.{known_any, shape_any}
+use Rattle.vr_part.specs.declared.any.AnyPart.{AnyPart}
 use Rattle.vr_space.specs.Owners.{Owners}
 use Rattle.vr_space.specs.Part.{InPart, IsOn, IsSound, Shape, part_no}
 use Rattle.vr_space.proofs.CallerLemmas.{StaysPart, on-still, rest-sound}
@@ -18,6 +20,7 @@ use Rattle.vr_volume.specs.Safe.{IsSafeImage}
 use Rattle.vr_volume.proofs.Recovering.{each_image_is_safe}
 use Rattle.vr_volume.proofs.Rested.{stands-part, stays-apart}
 use Rattle.vr_mount.specs.Touched.{Anything}
+use Rattle.vr_recover.specs.Opening.{HasNoSplit}
 use Rattle.vr_recover.specs.Undone.{FitsPart, HasContent, IsAllFirm, IsReady}
 use Rattle.vr_recover.specs.Undone.{alike}
 use Rattle.vr_recover.proofs.PartsBack.{all-at, all-before, all-others, all-parts, all-safe, all-set}
@@ -30,9 +33,9 @@ pub loop-part-init : goal.loop-part-init
 loop-part-init g c =
     let a = g.B.Blocks.seen c.args.blocks.now in
     record {
-      at = refl;
       shapes = refl;
       split = c.requires.split;
+      areas = refl;
       count = refl;
       size = refl;
       faults = refl;
@@ -56,46 +59,27 @@ shape-here : {X : Type 0} (f : X → Shape) (parts : List X) (shapes : List Shap
 shape-here f parts shapes at d same below =
     read-off f parts shapes at (get_or parts at d) d same below refl
 
--- and its number
-number-here : (shapes : List Shape) (numbers : List PartNo) (at index : ℕ) (shape : Shape)
-    (d : PartNo) → map part_no shapes ≡ numbers → index ≡ at → slice_get shapes at ≡ Some shape
-    → part_no shape ≡ get_or numbers index d
-number-here shapes numbers at index shape d same equal is =
-    sym (get_or_from_slice_get numbers index (part_no shape) d
-    (ap (slice_get numbers) equal ∙ ap (λ (l : List PartNo). slice_get l at) (sym same)
-    ∙ slice_get-map part_no shapes at ∙ ap (option_map part_no) is))
-
 pub put_back-requires-clause-on : goal.put_back-requires-clause-on
 put_back-requires-clause-on g c =
     let a = g.B.Blocks.seen c.args.blocks.now in
     let b = g.B.Blocks.seen c.loop-part.blocks in
-    let shapes = map g.P.Part.shape c.args.parts.now in
-    let shape = g.P.Part.shape (get_or c.loop-part.parts c.loop-part.part-index c.part-item.result)
+    let shapes = map shape_any c.args.parts.now in
+    let shape = shape_any (get_or c.loop-part.parts c.loop-part.part-index c.part-item.result)
     in
     on-still shape a b
     (all-at (λ (s : Shape). IsOn s a) shapes c.loop-part.part-index shape
-    (shape-here g.P.Part.shape c.loop-part.parts shapes c.loop-part.part-index c.part-item.result
+    (shape-here shape_any c.loop-part.parts shapes c.loop-part.part-index c.part-item.result
     c.loop-part.invariant.shapes
     (omega (arith, c.loop-part-test.true, c.loop-part.auto.parts))) c.requires.on)
     c.loop-part.invariant.count c.loop-part.invariant.size
 
-pub put_back-requires-clause-number : goal.put_back-requires-clause-number
-put_back-requires-clause-number g c =
-    let shapes = map g.P.Part.shape c.args.parts.now in
-    number-here shapes c.args.numbers.now c.loop-part.part-index c.loop-part.at
-    (g.P.Part.shape (get_or c.loop-part.parts c.loop-part.part-index c.part-item.result)) _
-    c.requires.numbers c.loop-part.invariant.at
-    (shape-here g.P.Part.shape c.loop-part.parts shapes c.loop-part.part-index c.part-item.result
-    c.loop-part.invariant.shapes
-    (omega (arith, c.loop-part-test.true, c.loop-part.auto.parts)))
-
 pub put_back-requires-clause-fits : goal.put_back-requires-clause-fits
 put_back-requires-clause-fits g c =
-    let shapes = map g.P.Part.shape c.args.parts.now in
+    let shapes = map shape_any c.args.parts.now in
     all-at (λ (s : Shape). All (FitsPart s) (images_of c.args.log.now.records)) shapes
     c.loop-part.part-index
-    (g.P.Part.shape (get_or c.loop-part.parts c.loop-part.part-index c.part-item.result))
-    (shape-here g.P.Part.shape c.loop-part.parts shapes c.loop-part.part-index c.part-item.result
+    (shape_any (get_or c.loop-part.parts c.loop-part.part-index c.part-item.result))
+    (shape-here shape_any c.loop-part.parts shapes c.loop-part.part-index c.part-item.result
     c.loop-part.invariant.shapes
     (omega (arith, c.loop-part-test.true, c.loop-part.auto.parts))) c.requires.fits
 
@@ -104,41 +88,44 @@ put_back-requires-clause-ready g c told =
     let part = get_or c.loop-part.parts c.loop-part.part-index c.part-item.result in
     let first = c.requires.ready told in (
       first.0,
-      subst (λ (no : PartNo). IsReady (g.P.Part.shape part) first.0 (g.P.Part.known part)
+      subst (λ (no : PartNo). IsReady (shape_any part) first.0 (known_any part)
           (g.K.Kept.kept c.args.kept.now no) (g.B.Blocks.seen c.loop-part.blocks))
-          (put_back-requires-clause-number g c)
+          (sym c.number-number.ensures)
           (c.loop-part.invariant.ready told first.0 first.2 c.loop-part.part-index
           c.part-item.result (omega (arith, c.loop-part-test.true, c.loop-part.auto.parts))),
     )
 
 pub returns-in_err-put_back-clause-shapes : goal.returns-in_err-put_back-clause-shapes
 returns-in_err-put_back-clause-shapes g c =
-    map-set_same g.P.Part.shape c.loop-part.parts c.loop-part.part-index c.put_back.new.part
+    map-set_same shape_any c.loop-part.parts c.loop-part.part-index c.put_back.new.part
     c.part-item.result c.put_back.ensures.shape
     ∙ c.loop-part.invariant.shapes
+
+pub returns-in_err-put_back-clause-areas : goal.returns-in_err-put_back-clause-areas
+returns-in_err-put_back-clause-areas g c =
+    map-set_same (λ (part : AnyPart). (known_any part).areas) c.loop-part.parts
+    c.loop-part.part-index c.put_back.new.part c.part-item.result c.put_back.ensures.areas
+    ∙ c.loop-part.invariant.areas
 
 pub returns-in_err-put_back-clause-safe : goal.returns-in_err-put_back-clause-safe
 returns-in_err-put_back-clause-safe g c told geometry member owners contents safe opened =
     let B = g.B.Blocks in
     let log = c.args.log.now in
     let kept = g.K.Kept.kept c.args.kept.now in
-    let shapes = map g.P.Part.shape c.args.parts.now in
+    let shapes = map shape_any c.args.parts.now in
     let parts = c.loop-part.parts in
     let index = c.loop-part.part-index in
-    let shape = g.P.Part.shape (get_or parts index c.part-item.result) in
-    let zero : PartNo = record { 0 = 0 } in
-    let number : PartNo = get_or c.args.numbers.now c.loop-part.at zero in
+    let shape = shape_any (get_or parts index c.part-item.result) in
+    let number : PartNo = c.number-number.result in
     let a = B.seen c.args.blocks.now in
     let b = B.seen c.loop-part.blocks in
     let d = B.seen c.put_back.new.blocks in
     let within : index < length parts =
     omega (arith, c.loop-part-test.true, c.loop-part.auto.parts) in
     let is : slice_get shapes index ≡ Some shape =
-    shape-here g.P.Part.shape parts shapes index c.part-item.result c.loop-part.invariant.shapes
+    shape-here shape_any parts shapes index c.part-item.result c.loop-part.invariant.shapes
     within in
-    let numbered : number ≡ part_no shape =
-    sym (number-here shapes c.args.numbers.now index c.loop-part.at shape zero c.requires.numbers
-    c.loop-part.invariant.at is) in
+    let numbered : number ≡ part_no shape = c.number-number.ensures in
     let before = c.loop-part.invariant.safe told geometry member owners contents safe opened in
     let call = c.put_back.ensures.safe told geometry member owners (alike contents) before.1
     (laid-opened geometry log contents kept shapes index shape number opened is c.requires.kept
@@ -158,79 +145,76 @@ loop-part-preserved g c =
     let B = g.B.Blocks in
     let log = c.args.log.now in
     let kept = g.K.Kept.kept c.args.kept.now in
-    let shapes = map g.P.Part.shape c.args.parts.now in
+    let shapes = map shape_any c.args.parts.now in
     let parts = c.loop-part.parts in
     let index = c.loop-part.part-index in
-    let shape = g.P.Part.shape (get_or parts index c.part-item.result) in
-    let zero : PartNo = record { 0 = 0 } in
-    let number : PartNo = get_or c.args.numbers.now c.loop-part.at zero in
+    let shape = shape_any (get_or parts index c.part-item.result) in
+    let number : PartNo = c.number-number.result in
     let a = B.seen c.args.blocks.now in
     let b = B.seen c.loop-part.blocks in
     let d = B.seen c.put_back.new.blocks in
     let within : index < length parts =
     omega (arith, c.loop-part-test.true, c.loop-part.auto.parts) in
     let is : slice_get shapes index ≡ Some shape =
-    shape-here g.P.Part.shape parts shapes index c.part-item.result c.loop-part.invariant.shapes
+    shape-here shape_any parts shapes index c.part-item.result c.loop-part.invariant.shapes
     within in
-    let numbered : number ≡ part_no shape =
-    sym (number-here shapes c.args.numbers.now index c.loop-part.at shape zero c.requires.numbers
-    c.loop-part.invariant.at is) in
+    let numbered : number ≡ part_no shape = c.number-number.ensures in
     let new = c.put_back.new.part in
     let first : IsTrue B.tells → Owners = λ told. (c.requires.ready told).0 in
     let sounds : (told : IsTrue B.tells) → All (λ (s : Shape). IsSound s (first told) b) shapes =
     λ told. subst (All (λ (s : Shape). IsSound s (first told) b)) c.loop-part.invariant.shapes
-    (All-map (λ (s : Shape). IsSound s (first told) b) g.P.Part.shape parts
-    (All-weaker (λ part. IsReady (g.P.Part.shape part) (first told) (g.P.Part.known part)
-    (kept (part_no (g.P.Part.shape part))) b)
-    (λ part. IsSound (g.P.Part.shape part) (first told) b)
-    (λ part ready. rest-sound (g.P.Part.shape part) (first told) b ready.rests) parts
+    (All-map (λ (s : Shape). IsSound s (first told) b) shape_any parts
+    (All-weaker (λ part. IsReady (shape_any part) (first told) (known_any part)
+    (kept (part_no (shape_any part))) b)
+    (λ part. IsSound (shape_any part) (first told) b)
+    (λ part ready. rest-sound (shape_any part) (first told) b ready.rests) parts
     (c.loop-part.invariant.ready told (first told) (c.requires.ready told).2))) in
     let here : IsTrue B.tells → (owners : Owners)
-    → All (λ part. IsReady (g.P.Part.shape part) owners (g.P.Part.known part)
-    (kept (part_no (g.P.Part.shape part))) a) c.args.parts.now
-    → IsReady shape owners (g.P.Part.known (get_or parts index c.part-item.result)) (kept number)
+    → All (λ part. IsReady (shape_any part) owners (known_any part)
+    (kept (part_no (shape_any part))) a) c.args.parts.now
+    → IsReady shape owners (known_any (get_or parts index c.part-item.result)) (kept number)
     b =
     λ told owners all. subst (λ (no : PartNo). IsReady shape owners
-    (g.P.Part.known (get_or parts index c.part-item.result)) (kept no) b) (sym numbered)
+    (known_any (get_or parts index c.part-item.result)) (kept no) b) (sym numbered)
     (c.loop-part.invariant.ready told owners all index c.part-item.result within) in
     let touches : IsTrue B.tells → (owners : Owners)
-    → All (λ part. IsReady (g.P.Part.shape part) owners (g.P.Part.known part)
-    (kept (part_no (g.P.Part.shape part))) a) c.args.parts.now
+    → All (λ part. IsReady (shape_any part) owners (known_any part)
+    (kept (part_no (shape_any part))) a) c.args.parts.now
     → Touches (InPart shape owners) Anything b d =
     λ told owners all. c.put_back.ensures.touches told owners (here told owners all) in
     let stays : IsTrue B.tells → (owners : Owners)
-    → All (λ part. IsReady (g.P.Part.shape part) owners (g.P.Part.known part)
-    (kept (part_no (g.P.Part.shape part))) a) c.args.parts.now
+    → All (λ part. IsReady (shape_any part) owners (known_any part)
+    (kept (part_no (shape_any part))) a) c.args.parts.now
     → (other : ℕ) (there : Shape) → slice_get shapes other ≡ Some there
     → other ≢ index → StaysPart there owners b d =
     λ told owners all other there at off. stays-apart shape there owners Anything b d
     (c.requires.apart other index there shape at is off) (touches told owners all) in
     record {
-      at = ap (λ (n : ℕ). n + 1) c.loop-part.invariant.at;
-      shapes = map-set_same g.P.Part.shape parts index new c.part-item.result
+      shapes = map-set_same shape_any parts index new c.part-item.result
           c.put_back.ensures.shape ∙ c.loop-part.invariant.shapes;
-      split = all-set (λ part. (g.P.Part.known part).split ≡ None)
-          (λ part. (g.P.Part.known part).split ≡ None) parts index new
+      split = all-set HasNoSplit HasNoSplit parts index new
           (c.put_back.ensures.split
           ∙ c.loop-part.invariant.split index c.part-item.result within)
           (λ other part at off same. same) c.loop-part.invariant.split;
+      areas = map-set_same (λ (part : AnyPart). (known_any part).areas) parts index new
+          c.part-item.result c.put_back.ensures.areas ∙ c.loop-part.invariant.areas;
       count = c.put_back.ensures.count ∙ c.loop-part.invariant.count;
       size = c.put_back.ensures.size ∙ c.loop-part.invariant.size;
       faults = c.in_ok-put_back.ensures.cause.ok ∙ c.loop-part.invariant.faults;
       ready = λ told owners all. all-set
-          (λ part. IsReady (g.P.Part.shape part) owners (g.P.Part.known part)
-          (kept (part_no (g.P.Part.shape part))) b)
-          (λ part. IsReady (g.P.Part.shape part) owners (g.P.Part.known part)
-          (kept (part_no (g.P.Part.shape part))) d)
+          (λ part. IsReady (shape_any part) owners (known_any part)
+          (kept (part_no (shape_any part))) b)
+          (λ part. IsReady (shape_any part) owners (known_any part)
+          (kept (part_no (shape_any part))) d)
           parts index new
-          (subst (λ (s : Shape). IsReady s owners (g.P.Part.known new) (kept (part_no s)) d)
+          (subst (λ (s : Shape). IsReady s owners (known_any new) (kept (part_no s)) d)
           (sym c.put_back.ensures.shape)
-          (subst (λ (no : PartNo). IsReady shape owners (g.P.Part.known new) (kept no) d) numbered
+          (subst (λ (no : PartNo). IsReady shape owners (known_any new) (kept no) d) numbered
           (c.in_ok-put_back.ensures.ready told owners (here told owners all))))
-          (λ other part at off ready. ready-stays (g.P.Part.shape part) owners b d
-          (stays told owners all other (g.P.Part.shape part)
-          (shape-at g.P.Part.shape parts shapes other part c.loop-part.invariant.shapes at) off)
-          (g.P.Part.known part) (kept (part_no (g.P.Part.shape part)))
+          (λ other part at off ready. ready-stays (shape_any part) owners b d
+          (stays told owners all other (shape_any part)
+          (shape-at shape_any parts shapes other part c.loop-part.invariant.shapes at) off)
+          (known_any part) (kept (part_no (shape_any part)))
           (g.met.B.Blocks.cur_may c.loop-part.blocks told) ready)
           (c.loop-part.invariant.ready told owners all);
       safe = λ told geometry member owners contents safe opened.
@@ -295,7 +279,7 @@ loop-part-preserved g c =
 pub returns-clause-all : goal.returns-clause-all
 returns-clause-all g c told geometry member owners contents safe opened firm covered =
     let log = c.args.log.now in
-    let shapes = map g.P.Part.shape c.args.parts.now in
+    let shapes = map shape_any c.args.parts.now in
     let b = g.B.Blocks.seen c.loop-part.blocks in
     let done = c.loop-part.invariant.all told geometry member owners contents safe opened firm in
     let is-safe = c.loop-part.invariant.safe told geometry member owners contents safe opened in
@@ -305,4 +289,4 @@ returns-clause-all g c told geometry member owners contents safe opened firm cov
     opened covered
     (subst (All (λ (s : Shape). HasContent s (contents (part_no s).0) b))
     (take_all c.loop-part.part-index shapes
-    (omega (arith, c.loop-part-test.false, length-map c.args.parts.now g.P.Part.shape))) done.1)
+    (omega (arith, c.loop-part-test.false, length-map c.args.parts.now shape_any))) done.1)

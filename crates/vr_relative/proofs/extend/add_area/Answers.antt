@@ -1,7 +1,7 @@
-use Rattle.std.proofs.Common.{◌≡◌, List, Option, Some, sym, ap, ◌∙◌}
+use Rattle.std.proofs.Common.{◌≡◌, Some, sym}
 use Rattle.vr_types.specs.Space.{least_free}
-use Rattle.vr_types.specs.declared.unit.PartNo.{PartNo}
 use Rattle.vr_relative.proofs.AddArea.{claim-differs, nothing-done, nothing-may}
+use Rattle.vr_relative.proofs.MoreDue.{due-free, due-taken}
 use Rattle.vr_relative.proofs.extend.add_area.Goals as goal
 
 pub returns-in_default-clause-may : goal.returns-in_default-clause-may
@@ -42,3 +42,17 @@ returns-clause-done g c told quiet =
     sym c.in-Some.ensures.least in
     c.in_ok-link_area.ensures.done told c.args.space.now c.mark.new.self least
     (claim-differs c.args.space.now c.mark.new.self c.in-Some.area.0 _ least c.mark.ensures) quiet
+
+-- ---- where it is due
+
+pub returns-in_default-clause-more : goal.returns-in_default-clause-more
+returns-in_default-clause-more g c told due =
+    absurd (due-free c.args.chain.now c.args.space.now (g.B.Blocks.seen c.args.blocks.now)
+    c.requires.whole due (sym c.in_default.ensures.least))
+
+pub returns-then-not-takes-clause-more : goal.returns-then-not-takes-clause-more
+returns-then-not-takes-clause-more g c told due =
+    let taken = due-taken c.args.chain.now c.args.space.now (g.B.Blocks.seen c.args.blocks.now)
+    c.in-Some.area.0 (g.met.B.Blocks.cur_may c.args.blocks.now told) (c.requires.chain told) due
+    (sym c.in-Some.ensures.least) in
+    absurd (taken.apart (c.takes.ensures.has (cc) taken.there taken.room))

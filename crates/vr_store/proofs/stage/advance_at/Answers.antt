@@ -1,11 +1,12 @@
-use Rattle.std.proofs.Common.{refl, sym, ap, subst, map}
+use Rattle.std.proofs.Common.{refl, sym, ap, subst, map, inl}
 use Rattle.std.proofs.Common.{set, List, Option, None, rules, IsTrue}
 use Rattle.vr_types.specs.declared.unit.PartNo.{PartNo}
 use Rattle.vr_types.specs.Space.{free_count}
-use Rattle.std.specs.Prelude.{IfOk}
+use Rattle.std.specs.Prelude.{IfOk, IfSome}
 use Rattle.vr_types.specs.Moments.{Guards}
 use Rattle.vr_volume.specs.Safe.{IsSafeImage}
-use Rattle.vr_space.specs.Part.{IsLengthOf, IsPlaceOf, IsStageOf, OwnersAfter, Shape, part_no}
+use Rattle.vr_space.specs.Part.{HasMore, IsLengthOf, IsPlaceOf, IsStageOf, OwnersAfter, Shape}
+use Rattle.vr_space.specs.Part.{part_no}
 use Rattle.vr_space.proofs.CallerLemmas.{room-stage}
 use Rattle.vr_attach.specs.Owning.{claimed_by, owner_of}
 use Rattle.vr_undo.specs.Records.{images_in}
@@ -14,10 +15,11 @@ use Rattle.vr_volume.specs.PutBack.{lengths_kept}
 use Rattle.vr_volume.specs.Rests.{IsPartAtRest}
 use Rattle.vr_volume.proofs.Rested.{laid-rest}
 use Rattle.vr_store.specs.Parts.{but_split}
-use Rattle.vr_store.specs.Store.{IsStored, StoreNow, owners_of, part_now, store_of}
+use Rattle.vr_store.specs.Store.{IsStored, PartNow, StoreNow, owners_of, part_among, part_now}
+use Rattle.vr_store.specs.Store.{store_of}
 use Rattle.vr_store.proofs.Kept.{err-as}
-use Rattle.vr_store.proofs.PartsAt.{laid-at, laid-found, none-laid, only-split, part-split}
-use Rattle.vr_store.proofs.Recorded.{at-shape, number-at, part-number-at, rested-at, set-at}
+use Rattle.vr_store.proofs.PartsAt.{found-new, laid-at, laid-found, none-laid, only-split, part-split}
+use Rattle.vr_store.proofs.Recorded.{at-part, at-shape, number-at, part-number-at, rested-at, set-at}
 use Rattle.vr_store.proofs.Recorded.{shape-at}
 use Rattle.vr_store.proofs.Rooms.{due-at, room-at}
 use Rattle.vr_store.proofs.Worked.{set-worked, stored-met, stored-worked}
@@ -91,7 +93,11 @@ returns-in_err-kind-in-Some g c =
       kind = λ told. shape-at (λ (s : Shape). IfOk c.from_residual.result (IsStageOf s)) store.parts
           number before at.found (search rules);
       set = set-worked store number before after parts space at same a b
-          c.do_stage.ensures.count c.do_stage.ensures.size c.requires.set;
+          c.do_stage.ensures.count c.do_stage.ensures.size
+          (inl (
+            c.in_err-kind-in-Some.ensures.chain_stays,
+            c.in_err-kind-in-Some.ensures.owners_stay,
+          )) c.requires.set;
       stored = search rules;
       moments = λ told volume state stored.
           subst (λ (owner : PartNo). Guards a b (IsSafeImage store.log.geometry volume
@@ -115,6 +121,7 @@ returns-in_err-kind-in-Some g c =
                 (g.met.B.Blocks.cur_may c.args.blocks.now told) store number before after parts
                 at same volume state c.requires.set stored (kept.1 told)),
           ));
+      more = search rules;
       parts = only-split number before after store.parts parts at refl same;
       cause = search rules;
     }
@@ -163,7 +170,7 @@ returns g c =
           at.found (kind told);
       owners_stay = search rules;
       set = set-worked store number before after parts space at same a b
-          c.do_stage.ensures.count c.do_stage.ensures.size c.requires.set;
+          c.do_stage.ensures.count c.do_stage.ensures.size done.ensures.chain c.requires.set;
       stored = λ told volume state stored.
           let mine = rested-at store a c.requires.set volume state number before at.found stored in
           let rest = done.ensures.at_rest told volume store.log images state stored.volume mine
@@ -189,6 +196,16 @@ returns g c =
           stored.volume before.shape before.known
           (rested-at store a c.requires.set volume state number before at.found stored) _ refl)).0;
       unread = search rules;
+      more = λ told.
+          let stands = c.requires.stands told in
+          at-part (λ (one : PartNow). IfSome (part_among parts number)
+          (λ (later : PartNow). HasMore one.shape one.known later.known)) store.parts number before
+          at.found
+          (at-part (λ (later : PartNow). HasMore before.shape before.known later.known) parts number
+          after (found-new number before after store.parts parts at refl)
+          (done.ensures.more told stands.number store.log images stands.state stands.stored.volume
+          (rested-at store a c.requires.set stands.number stands.state number before at.found
+          stands.stored) c.requires.set.areas));
       parts = only-split number before after store.parts parts at refl same;
       cause = search rules;
     }

@@ -1,15 +1,15 @@
-use Rattle.std.proofs.Common.{◌≡◌, Option, refl, ap, ◌∙◌, map, set, None}
+use Rattle.std.proofs.Common.{◌≡◌, refl, ap, inl, map, set, None}
 use Rattle.std.proofs.Common.{IsTrue}
 use Rattle.std.proofs.lemmas.Result.{IfOk-weaker}
 use Rattle.vr_space.specs.Known.{HasMet, places_met}
 use Rattle.vr_space.specs.Met.{met_next}
 use Rattle.vr_space.specs.Part.{IsLengthOf, IsPlaceOf, Shape, part_no}
-use Rattle.vr_space.specs.Split.{SplitNow}
 use Rattle.vr_space.specs.declared.room.Room.{Room}
 use Rattle.vr_store.specs.Parts.{but_split}
 use Rattle.vr_store.specs.Room.{IsRoomAt}
 use Rattle.vr_store.specs.Store.{PartNow, StoreNow, changed_by, part_now, store_of}
 use Rattle.vr_store.proofs.PartsAt.{found-new, laid-at, laid-found, none-laid, only-met, part-split}
+use Rattle.vr_store.proofs.PartsAt.{same-met}
 use Rattle.vr_store.proofs.Recorded.{at-part, at-shape, number-at, rested-at, set-at, stand-at}
 use Rattle.vr_store.proofs.Rooms.{met-first, room-at, room-still, room_by}
 use Rattle.vr_store.proofs.Worked.{set-worked, stored-met}
@@ -108,15 +108,15 @@ returns g c =
           (met-first before.known after.known place is))
           c.room.ensures.met;
       set = set-worked store number before after parts store.space at same a b
-          c.room.ensures.keeps.count_same c.room.ensures.keeps.size_same c.requires.set;
+          c.room.ensures.keeps.count_same c.room.ensures.keeps.size_same
+          (inl (c.room.ensures.areas, refl)) c.requires.set;
       stored = λ told volume state stored. stored-met tells told a b c.room.ensures.keeps
           (g.met.B.Blocks.cur_may c.args.blocks.now told) store number before after parts
           at same volume state c.requires.set stored
           (c.room.ensures.knows told);
       parts = only-met number before after store.parts parts at refl
-          (ap (λ (s : Shape). part-split laid.number s after.known.split) c.room.ensures.shape
-          ∙ ap (λ (s : Option SplitNow). part-split laid.number before.shape s)
-          c.room.ensures.split);
+          (same-met laid.number before.shape after.shape before.known after.known
+          c.room.ensures.shape c.room.ensures.split c.room.ensures.areas);
       keeps = c.room.ensures.keeps;
       cause = c.room.ensures.cause;
     }

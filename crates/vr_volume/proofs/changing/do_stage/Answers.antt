@@ -1,9 +1,13 @@
+use Rattle.std.proofs.Common.{refl}
 use Rattle.vr_types.specs.Space.{free_count}
 use Rattle.vr_space.specs.Part.{Nothing, part_no}
 use Rattle.vr_attach.specs.Owning.{claimed_by, owner_of}
 use Rattle.vr_attach.proofs.CallerLemmas.{owner-past-log}
+use Rattle.vr_volume.specs.Committed.{committed_by}
+use Rattle.vr_volume.specs.PutBack.{lengths_kept}
 use Rattle.vr_volume.proofs.Calls.{nothing-safe, part-after, part-guards, quiet-safe, safe-grows}
-use Rattle.vr_volume.proofs.Stages.{may-claim, stage-areas, stage-other, stage-other-due}
+use Rattle.vr_volume.proofs.Rested.{laid-rest}
+use Rattle.vr_volume.proofs.Stages.{all-owners, may-claim, stage-areas, stage-other, stage-other-due}
 use Rattle.vr_volume.proofs.Stages.{stage-rest}
 use Rattle.vr_volume.proofs.changing.do_stage.Goals as goal
 
@@ -114,3 +118,21 @@ returns-clause-others_due g c told number log images state other met before part
     c.in_ok-kind.kind c.args.space.now c.advance.new.space (c.requires.knows told).way
     (done.stage told) done.owners)
     other met apart others
+
+pub returns-clause-more : goal.returns-clause-more
+returns-clause-more g c told number log images state rest part count =
+    let B = g.B.Blocks in
+    let shape = g.P.Part.shape c.args.part.now in
+    let a = B.seen c.args.blocks.now in
+    let areas = c.args.space.now in
+    let owners = owner_of log.geometry areas in
+    let kept = lengths_kept images (part_no shape).0 in
+    let left = g.met.B.Blocks.cur_may c.args.blocks.now told in
+    let laid = laid-rest log.geometry number owners log images state a rest shape
+    (g.P.Part.known c.args.part.now) part kept refl in
+    c.in_ok-kind.ensures.more told
+    (all-owners log.geometry number log (committed_by state) shape kept a left laid areas rest.safe
+    count)
+    owners (owner_of log.geometry (claimed_by (part_no shape) areas))
+    (may-claim log.geometry number log (committed_by state) shape kept a left laid areas rest.safe)
+    part.rests

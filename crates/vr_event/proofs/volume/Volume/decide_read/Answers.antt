@@ -1,10 +1,14 @@
 use Rattle.std.proofs.Common.{◌≡◌, ap, subst, sym, ◌∙◌}
+use Rattle.std.specs.List.Sorted.{IsPermutation}
 use Rattle.vr_types.specs.Space.{free_count}
+use Rattle.vr_answer.specs.Here.{base_here}
 use Rattle.vr_history.specs.Step.{case_of}
 use Rattle.vr_record_file.specs.Now.{FileNow, state_now}
 use Rattle.vr_event.specs.Getting.{IsAsked, MayEnd}
 use Rattle.vr_store.specs.Store.{IsStored, StoreNow}
-use Rattle.vr_event.specs.Volume.{IsHeld, VolumeNow}
+use Rattle.vr_event.specs.Opening.{owned_in}
+use Rattle.vr_event.specs.Volume.{IsHeld, IsWhole, OwnLaid, VolumeNow}
+use Rattle.vr_event.proofs.SpaceHeld.{space-held}
 use Rattle.vr_store.proofs.CallerLemmas.{stored-keeps}
 use Rattle.vr_event.specs.Cause.{HasReplyCause, reply_of}
 use Rattle.vr_event.proofs.volume.Volume.decide_read.Goals as goal
@@ -24,6 +28,10 @@ returns-clause-held g c told opening held =
     record {
       file = then.file;
       free = ap (λ (s : StoreNow). free_count s.space) c.decide.ensures.same ∙ then.free;
+      owned = subst (λ (s : StoreNow). IsPermutation (owned_in s.space)
+          (state_now opening before.file).owned) same then.owned;
+      unlaid = λ going. subst (λ (s : StoreNow). OwnLaid before.file.geometry before.file.catalog
+          s.space) same (then.unlaid going);
       stored = λ going. subst (λ (s : StoreNow). IsStored before.number s
           (state_now opening before.file) (seen c.decide.new.blocks)) same
           (stored-keeps g.B.Blocks.tells told (seen before.blocks) (seen c.decide.new.blocks)
@@ -47,10 +55,13 @@ returns-clause-ends g c told opening held asked =
     let mine = subst (λ (f : FileNow). IsAsked opening f c.args.unit c.args.request.now)
     (sym of-file) asked in
     let going = ap (λ (f : FileNow). f.stopped) of-file ∙ c.requires.going in
+    let whole : IsWhole seen before = subst (IsWhole seen) (sym c.self.view_is) c.requires.whole in
     subst (λ (f : FileNow). MayEnd (case_of f.geometry (state_now opening f) c.args.unit
     c.args.request.now) c.decide.result) of-file
     (c.decide.ensures.ends told before.number opening then.file going (then.stored going)
-    mine.of_deck mine.read then.free mine.unrefused)
+    mine.of_deck mine.read
+    (space-held seen opening before whole then going c.args.unit c.args.request.now
+    (base_here c.args.request.now)) mine.unrefused)
 
 pub returns-clause-cause : goal.returns-clause-cause
 returns-clause-cause g c =

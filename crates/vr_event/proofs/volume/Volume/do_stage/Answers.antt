@@ -5,11 +5,11 @@ use Rattle.vr_types.specs.declared.fault.DeviceFault.TheVariants.{Read, Write}
 use Rattle.vr_types.specs.declared.reply.Refusal.TheVariants.{NoSpace, ReadFault, WriteFault}
 use Rattle.vr_types.specs.declared.reply.Reply.TheVariants.{Refused}
 use Rattle.vr_history.specs.Step.{case_of}
-use Rattle.vr_history.specs.declared.entry.What.TheVariants.{Split}
-use Rattle.vr_record_file.specs.Now.{FileNow, state_now, with_event}
+use Rattle.vr_record_file.specs.Now.{FileNow, state_now}
 use Rattle.vr_volume.specs.Crashes.{RecoversTo}
 use Rattle.vr_event.specs.Acting.{IsActed}
-use Rattle.vr_event.specs.Putting.{IsChanging}
+use Rattle.vr_event.specs.Getting.{IsEntered}
+use Rattle.vr_event.specs.Putting.{IsChanging, IsKeyedIn}
 use Rattle.vr_attach.specs.Owning.{claimed_by, owner_of}
 use Rattle.vr_store.specs.Store.{StoreNow, part_among}
 use Rattle.vr_event.specs.Volume.{IsHeld, IsWhole, VolumeNow}
@@ -19,34 +19,16 @@ use Rattle.vr_event.proofs.Acted.{failed-for}
 use Rattle.vr_event.proofs.Causes.{entered-refused}
 use Rattle.vr_event.proofs.Entering.{held-refused}
 use Rattle.vr_store.proofs.CallerLemmas.{shapes-same}
-use Rattle.vr_event.proofs.KeyedParts.{keyed-parts, takes-none}
 use Rattle.vr_event.proofs.Recovering.{owned-recovers}
-use Rattle.vr_event.proofs.Replied.{not-failed, not-same, not-split, replied-over}
+use Rattle.vr_event.proofs.Acts.{acted-again}
+use Rattle.vr_event.proofs.Replied.{not-failed, replied-over}
+use Rattle.vr_event.proofs.Staged.{geometry-staged, not-staged, owners-claimed, shape-some}
+use Rattle.vr_event.proofs.Staged.{staged-of, state-unclaimed, stepped-entered, taken-none}
+use Rattle.vr_event.proofs.Staged.{takes-none}
 use Rattle.vr_event.proofs.UnitEnded.{held-stopped}
 use Rattle.vr_event.proofs.Weighs.{refuse-look}
-use Rattle.vr_event.proofs.Wholes.{held-moved, held-split, may-changing, state-split, whole-of}
+use Rattle.vr_event.proofs.Wholes.{held-moved, may-changing, whole-of}
 use Rattle.vr_event.proofs.volume.Volume.do_stage.Goals as goal
-
-pub returns-in-Ok-CiSwitch-clause-moments : goal.returns-in-Ok-CiSwitch-clause-moments
-returns-in-Ok-CiSwitch-clause-moments g c told opening held =
-    let seen = g.B.Blocks.seen in
-    let before : VolumeNow g.row.B.Denot = record {
-      blocks = c.self.inside.blocks;
-      number = c.self.inside.number;
-      store = c.self.inside.store;
-      file = c.self.inside.file;
-    } in
-    let goes : before.file.stopped ≡ None =
-    ap (λ (v : VolumeNow g.row.B.Denot). v.file.stopped) c.self.view_is ∙ c.requires.going in
-    let was : IsHeld seen opening before =
-    subst (IsHeld seen opening) (sym c.self.view_is) held in
-    let b = seen c.advance.new.blocks in
-    subst (λ (v : VolumeNow g.row.B.Denot). Guards (seen v.blocks) b
-    (RecoversTo v.store.log.geometry v.number (state_now opening v.file) [])) c.self.view_is
-    (owned-recovers before.number before.store (state_now opening before.file) (seen before.blocks)
-    b (owner_of before.store.log.geometry (claimed_by c.args.part before.store.space))
-    (was.stored goes) (c.advance.ensures.moments told before.number
-    (state_now opening before.file) (was.stored goes)))
 
 pub returns-in-Ok-clause-moments : goal.returns-in-Ok-clause-moments
 returns-in-Ok-clause-moments g c told opening held =
@@ -61,13 +43,119 @@ returns-in-Ok-clause-moments g c told opening held =
     ap (λ (v : VolumeNow g.row.B.Denot). v.file.stopped) c.self.view_is ∙ c.requires.going in
     let was : IsHeld seen opening before =
     subst (IsHeld seen opening) (sym c.self.view_is) held in
-    let b = seen c.advance.new.blocks in
-    subst (λ (v : VolumeNow g.row.B.Denot). Guards (seen v.blocks) b
+    let state = state_now opening before.file in
+    subst (λ (v : VolumeNow g.row.B.Denot). Guards (seen v.blocks)
+    (seen c.enter_stage.new.self.blocks)
     (RecoversTo v.store.log.geometry v.number (state_now opening v.file) [])) c.self.view_is
-    (owned-recovers before.number before.store (state_now opening before.file) (seen before.blocks)
-    b (owner_of before.store.log.geometry (claimed_by c.args.part before.store.space))
-    (was.stored goes) (c.advance.ensures.moments told before.number
-    (state_now opening before.file) (was.stored goes)))
+    (subst (λ (b : g.row.B.Denot). Guards (seen before.blocks) (seen b)
+    (RecoversTo before.store.log.geometry before.number state [])) (sym c.enter_stage.ensures.blocks)
+    (owned-recovers before.number before.store state (seen before.blocks)
+    (seen c.advance.new.blocks)
+    (owner_of before.store.log.geometry (claimed_by c.args.part before.store.space))
+    (was.stored goes)
+    (c.advance.ensures.moments told before.number state (was.stored goes))))
+
+pub returns-in-Ok-clause-whole : goal.returns-in-Ok-clause-whole
+returns-in-Ok-clause-whole g c =
+    let seen = g.B.Blocks.seen in
+    let before : VolumeNow g.row.B.Denot = record {
+      blocks = c.self.inside.blocks;
+      number = c.self.inside.number;
+      store = c.self.inside.store;
+      file = c.self.inside.file;
+    } in
+    let goes : before.file.stopped ≡ None =
+    ap (λ (v : VolumeNow g.row.B.Denot). v.file.stopped) c.self.view_is ∙ c.requires.going in
+    let whole : IsWhole seen before = subst (IsWhole seen) (sym c.self.view_is) c.requires.whole in
+    c.enter_stage.ensures.whole
+    (whole-of seen before c.advance.new.self c.advance.new.blocks before.file whole (λ going. goes)
+    refl refl
+    (λ going. ap (λ (s : StoreNow). s.log.geometry) c.advance.ensures.rest)
+    (λ going. shapes-same c.advance.new.self.parts before.store.parts
+    c.advance.ensures.parts.parts)
+    (λ going. c.advance.ensures.set))
+
+pub returns-in-Ok-clause-held : goal.returns-in-Ok-clause-held
+returns-in-Ok-clause-held g c told opening held asked =
+    let seen = g.B.Blocks.seen in
+    let before : VolumeNow g.row.B.Denot = record {
+      blocks = c.self.inside.blocks;
+      number = c.self.inside.number;
+      store = c.self.inside.store;
+      file = c.self.inside.file;
+    } in
+    let was : IsHeld seen opening before =
+    subst (IsHeld seen opening) (sym c.self.view_is) held in
+    let goes : before.file.stopped ≡ None =
+    ap (λ (v : VolumeNow g.row.B.Denot). v.file.stopped) c.self.view_is ∙ c.requires.going in
+    let whole : IsWhole seen before = subst (IsWhole seen) (sym c.self.view_is) c.requires.whole in
+    let laid : part_among before.store.parts c.args.part.0 ≢ None =
+    subst (λ (v : VolumeNow g.row.B.Denot). part_among v.store.parts c.args.part.0 ≢ None)
+    (sym c.self.view_is) c.requires.at.laid in
+    c.enter_stage.ensures.held told opening before.store.space
+    (staged-of seen opening before c.advance.new.self c.advance.new.blocks c.args.part
+    c.area_taken-taken.result whole goes was
+    (shape-some before.store.parts c.args.part.0 laid)
+    (c.area_taken-taken.ensures c.args.part before.store.space c.advance.new.self.space
+    c.least_free-least.ensures c.free_areas-free.ensures c.free_areas.ensures
+    (owners-claimed c.args.part c.in-Ok.kind before.store.space c.advance.new.self.space
+    c.in-Ok.ensures.owners))
+    (c.in-Ok.ensures.stored told before.number (state_now opening before.file) (was.stored goes)))
+
+pub returns-in-Ok-clause-again : goal.returns-in-Ok-clause-again
+returns-in-Ok-clause-again g c told keyed opening =
+    let seen = g.B.Blocks.seen in
+    let before : VolumeNow g.row.B.Denot = record {
+      blocks = c.self.inside.blocks;
+      number = c.self.inside.number;
+      store = c.self.inside.store;
+      file = c.self.inside.file;
+    } in
+    let laid : part_among before.store.parts c.args.part.0 ≢ None =
+    subst (λ (v : VolumeNow g.row.B.Denot). part_among v.store.parts c.args.part.0 ≢ None)
+    (sym c.self.view_is) c.requires.at.laid in
+    let mine : IsKeyedIn before.store.parts c.args.part.0 =
+    subst (λ (v : VolumeNow g.row.B.Denot). IsKeyedIn v.store.parts c.args.part.0)
+    (sym c.self.view_is) keyed in
+    let of-file : before.file ≡ c.args.self.now.file =
+    ap (λ (v : VolumeNow g.row.B.Denot). v.file) c.self.view_is in
+    let space : c.advance.new.self.space ≡ before.store.space =
+    takes-none before.store.parts c.args.part before.store.space c.advance.new.self.space laid mine
+    c.in-Ok.kind (c.in-Ok.ensures.kind told) c.in-Ok.ensures.owners in
+    let taken : c.area_taken-taken.result ≡ None =
+    taken-none c.args.part before.store.space c.advance.new.self.space c.area_taken-taken.result
+    (c.area_taken-taken.ensures c.args.part before.store.space c.advance.new.self.space
+    c.least_free-least.ensures c.free_areas-free.ensures c.free_areas.ensures (inl space)) space in (
+      subst (λ (f : FileNow). c.enter_stage.new.self.file.geometry ≡ f.geometry) of-file
+          (geometry-staged c.args.after c.args.unit c.args.part before.file
+          c.enter_stage.new.self.file _ _ c.enter_stage.ensures.leaves),
+      subst (λ (f : FileNow). state_now opening c.enter_stage.new.self.file
+          ≡ state_now opening f) of-file
+          (state-unclaimed c.args.after c.args.unit c.args.part before.file
+          c.enter_stage.new.self.file opening _ _ taken c.enter_stage.ensures.leaves),
+    )
+
+pub returns-in-Ok-clause-acted : goal.returns-in-Ok-clause-acted
+returns-in-Ok-clause-acted g c =
+    let faults = g.B.Blocks.faults in
+    let cause = c.in-Ok.ensures.cause in
+    subst (λ (v : VolumeNow g.row.B.Denot). IsActed (faults v.blocks)
+    (faults c.enter_stage.new.self.blocks) (acts.Again c.args.request) c.args.after c.args.unit
+    c.args.line c.args.request v.file c.enter_stage.new.self.file) c.self.view_is
+    (subst (λ (b : g.row.B.Denot). IsActed (faults c.self.inside.blocks) (faults b)
+    (acts.Again c.args.request) c.args.after c.args.unit c.args.line c.args.request
+    c.self.inside.file c.enter_stage.new.self.file) (sym c.enter_stage.ensures.blocks)
+    (acted-again cause.reads cause.writes
+    (stepped-entered c.args.after c.args.unit c.args.part c.self.inside.file
+    c.enter_stage.new.self.file c.args.request _ _ c.enter_stage.ensures.leaves)))
+
+pub returns-in-Ok-clause-lacks : goal.returns-in-Ok-clause-lacks
+returns-in-Ok-clause-lacks g c entered need free is =
+    let of-file = ap (λ (v : VolumeNow g.row.B.Denot). v.file) c.self.view_is in
+    not-staged c.args.after c.args.unit c.args.part c.self.inside.file c.enter_stage.new.self.file
+    c.args.line c.args.request _ _ c.enter_stage.ensures.leaves
+    (subst (λ (f : FileNow). IsEntered c.args.after c.args.unit c.args.line c.args.request f
+    c.enter_stage.new.self.file) (sym of-file) entered)
 
 pub returns-in-Err-Read-clause-moments : goal.returns-in-Err-Read-clause-moments
 returns-in-Err-Read-clause-moments g c told opening held =
@@ -111,44 +199,6 @@ returns-in-Err-Write-clause-moments g c told opening held =
     (was.stored goes) (c.advance.ensures.moments told before.number
     (state_now opening before.file) (was.stored goes)))
 
-pub returns-in-Ok-CiSwitch-clause-whole : goal.returns-in-Ok-CiSwitch-clause-whole
-returns-in-Ok-CiSwitch-clause-whole g c =
-    let seen = g.B.Blocks.seen in
-    let before : VolumeNow g.row.B.Denot = record {
-      blocks = c.self.inside.blocks;
-      number = c.self.inside.number;
-      store = c.self.inside.store;
-      file = c.self.inside.file;
-    } in
-    let goes : before.file.stopped ≡ None =
-    ap (λ (v : VolumeNow g.row.B.Denot). v.file.stopped) c.self.view_is ∙ c.requires.going in
-    let whole : IsWhole seen before = subst (IsWhole seen) (sym c.self.view_is) c.requires.whole in
-    whole-of seen before c.advance.new.self c.advance.new.blocks c.split.new.self whole (λ going. goes)
-    (ap (λ (f : FileNow). f.geometry) c.split.ensures.leaves) (ap (λ (f : FileNow). f.catalog) c.split.ensures.leaves)
-    (λ going. ap (λ (s : StoreNow). s.log.geometry) c.advance.ensures.rest)
-    (λ going. shapes-same c.advance.new.self.parts before.store.parts
-    c.advance.ensures.parts.parts)
-    (λ going. c.advance.ensures.set)
-
-pub returns-in-Ok-clause-whole : goal.returns-in-Ok-clause-whole
-returns-in-Ok-clause-whole g c =
-    let seen = g.B.Blocks.seen in
-    let before : VolumeNow g.row.B.Denot = record {
-      blocks = c.self.inside.blocks;
-      number = c.self.inside.number;
-      store = c.self.inside.store;
-      file = c.self.inside.file;
-    } in
-    let goes : before.file.stopped ≡ None =
-    ap (λ (v : VolumeNow g.row.B.Denot). v.file.stopped) c.self.view_is ∙ c.requires.going in
-    let whole : IsWhole seen before = subst (IsWhole seen) (sym c.self.view_is) c.requires.whole in
-    whole-of seen before c.advance.new.self c.advance.new.blocks before.file whole (λ going. goes)
-    refl refl
-    (λ going. ap (λ (s : StoreNow). s.log.geometry) c.advance.ensures.rest)
-    (λ going. shapes-same c.advance.new.self.parts before.store.parts
-    c.advance.ensures.parts.parts)
-    (λ going. c.advance.ensures.set)
-
 pub returns-in-Err-Read-clause-whole : goal.returns-in-Err-Read-clause-whole
 returns-in-Err-Read-clause-whole g c =
     let seen = g.B.Blocks.seen in
@@ -186,85 +236,6 @@ returns-in-Err-Write-clause-whole g c =
     (λ going. shapes-same c.advance.new.self.parts before.store.parts
     c.advance.ensures.parts.parts)
     (λ going. c.advance.ensures.set)
-
-pub returns-in-Ok-CiSwitch-clause-held : goal.returns-in-Ok-CiSwitch-clause-held
-returns-in-Ok-CiSwitch-clause-held g c told opening held asked =
-    let seen = g.B.Blocks.seen in
-    let before : VolumeNow g.row.B.Denot = record {
-      blocks = c.self.inside.blocks;
-      number = c.self.inside.number;
-      store = c.self.inside.store;
-      file = c.self.inside.file;
-    } in
-    let was : IsHeld seen opening before =
-    subst (IsHeld seen opening) (sym c.self.view_is) held in
-    let goes : before.file.stopped ≡ None =
-    ap (λ (v : VolumeNow g.row.B.Denot). v.file.stopped) c.self.view_is ∙ c.requires.going in
-    let whole : IsWhole seen before = subst (IsWhole seen) (sym c.self.view_is) c.requires.whole in
-    let laid : part_among before.store.parts c.args.part.0 ≢ None =
-    subst (λ (v : VolumeNow g.row.B.Denot). part_among v.store.parts c.args.part.0 ≢ None)
-    (sym c.self.view_is) c.requires.at.laid in
-    let moved = held-moved seen opening before c.advance.new.self c.advance.new.blocks
-    (takes-none before.store.parts c.args.part before.store.space c.advance.new.self.space laid
-    (keyed-parts seen before whole goes c.args.part.0) c.in-Ok-CiSwitch.field-0
-    (c.in-Ok-CiSwitch.ensures.kind told) c.in-Ok-CiSwitch.ensures.owners)
-    (λ going. c.in-Ok-CiSwitch.ensures.stored told before.number (state_now opening before.file)
-    (was.stored going)) was in
-    held-split seen opening (record before {
-      blocks = c.advance.new.blocks;
-      store = c.advance.new.self;
-    }) c.split.new.self c.args.after c.args.unit c.args.part c.split.ensures.leaves moved
-    (c.split.ensures.state opening was.file)
-
-pub returns-in-Ok-clause-held : goal.returns-in-Ok-clause-held
-returns-in-Ok-clause-held g c told opening held asked =
-    let seen = g.B.Blocks.seen in
-    let before : VolumeNow g.row.B.Denot = record {
-      blocks = c.self.inside.blocks;
-      number = c.self.inside.number;
-      store = c.self.inside.store;
-      file = c.self.inside.file;
-    } in
-    let was : IsHeld seen opening before =
-    subst (IsHeld seen opening) (sym c.self.view_is) held in
-    let goes : before.file.stopped ≡ None =
-    ap (λ (v : VolumeNow g.row.B.Denot). v.file.stopped) c.self.view_is ∙ c.requires.going in
-    let whole : IsWhole seen before = subst (IsWhole seen) (sym c.self.view_is) c.requires.whole in
-    let laid : part_among before.store.parts c.args.part.0 ≢ None =
-    subst (λ (v : VolumeNow g.row.B.Denot). part_among v.store.parts c.args.part.0 ≢ None)
-    (sym c.self.view_is) c.requires.at.laid in
-    let moved = held-moved seen opening before c.advance.new.self c.advance.new.blocks
-    (takes-none before.store.parts c.args.part before.store.space c.advance.new.self.space laid
-    (keyed-parts seen before whole goes c.args.part.0) c.in-Ok.field-0 (c.in-Ok.ensures.kind told)
-    c.in-Ok.ensures.owners)
-    (λ going. c.in-Ok.ensures.stored told before.number (state_now opening before.file)
-    (was.stored going)) was in
-    moved
-
-pub returns-in-Ok-CiSwitch-clause-again : goal.returns-in-Ok-CiSwitch-clause-again
-returns-in-Ok-CiSwitch-clause-again g c opening =
-    let seen = g.B.Blocks.seen in
-    let before : VolumeNow g.row.B.Denot = record {
-      blocks = c.self.inside.blocks;
-      number = c.self.inside.number;
-      store = c.self.inside.store;
-      file = c.self.inside.file;
-    } in
-    let of-file : before.file ≡ c.args.self.now.file =
-    ap (λ (v : VolumeNow g.row.B.Denot). v.file) c.self.view_is in (
-      subst (λ (f : FileNow). c.split.new.self.geometry ≡ f.geometry) of-file
-          (ap (λ (f : FileNow). f.geometry) c.split.ensures.leaves),
-      subst (λ (f : FileNow). state_now opening c.split.new.self ≡ state_now opening f) of-file
-          (state-split opening before.file c.split.new.self c.args.after c.args.unit c.args.part
-          c.split.ensures.leaves),
-    )
-
-pub returns-in-Ok-clause-again : goal.returns-in-Ok-clause-again
-returns-in-Ok-clause-again g c opening =
-    let of-file = ap (λ (v : VolumeNow g.row.B.Denot). v.file) c.self.view_is in (
-      ap (λ (f : FileNow). f.geometry) of-file,
-      ap (λ (f : FileNow). state_now opening f) of-file,
-    )
 
 pub returns-in-Err-Read-clause-held : goal.returns-in-Err-Read-clause-held
 returns-in-Err-Read-clause-held g c told opening held asked =
@@ -347,19 +318,6 @@ returns-in-Err-Write-clause-acted g c =
         cause.write (ap (λ (f : DeviceFault). Err f) c.in-Err-Write.field-0-is),
       ));
     })
-
-pub returns-in-Ok-CiSwitch-clause-lacks : goal.returns-in-Ok-CiSwitch-clause-lacks
-returns-in-Ok-CiSwitch-clause-lacks g c entered need free is =
-    let of-file = ap (λ (v : VolumeNow g.row.B.Denot). v.file) c.self.view_is in
-    not-split c.args.after c.args.unit c.args.line c.args.request c.args.self.now.file
-    c.split.new.self entered c.args.part
-    (subst (λ (f : FileNow). c.split.new.self
-    ≡ with_event c.args.after c.args.unit 0 (Split c.args.part) f) of-file c.split.ensures.leaves)
-
-pub returns-in-Ok-clause-lacks : goal.returns-in-Ok-clause-lacks
-returns-in-Ok-clause-lacks g c entered need free is =
-    not-same c.args.after c.args.unit c.args.line c.args.request c.args.self.now.file
-    c.self.inside.file entered (ap (λ (v : VolumeNow g.row.B.Denot). v.file) c.self.view_is)
 
 pub returns-in-Err-Read-clause-lacks : goal.returns-in-Err-Read-clause-lacks
 returns-in-Err-Read-clause-lacks g c entered need free is =

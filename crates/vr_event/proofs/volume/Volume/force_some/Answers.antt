@@ -1,11 +1,11 @@
 use Rattle.std.proofs.Common.{[], ◌∙◌, ap, subst, sym}
 use Rattle.vr_types.specs.Moments.{Guards}
-use Rattle.vr_types.specs.Space.{free_count}
 use Rattle.vr_record_file.specs.Now.{state_now}
 use Rattle.vr_volume.specs.Crashes.{RecoversTo}
 use Rattle.vr_store.specs.Store.{StoreNow}
 use Rattle.vr_event.specs.Volume.{IsHeld, VolumeNow}
 use Rattle.vr_event.proofs.Recovers.{recovers-safe}
+use Rattle.vr_event.proofs.Wholes.{held-moved}
 use Rattle.vr_event.proofs.volume.Volume.force_some.Goals as goal
 
 pub returns-clause-held : goal.returns-clause-held
@@ -19,12 +19,10 @@ returns-clause-held g c told opening held =
     } in
     let then : IsHeld seen opening before =
     subst (IsHeld seen opening) (sym c.self.view_is) held in
-    record {
-      file = then.file;
-      free = ap (λ (s : StoreNow). free_count s.space) c.force_some.ensures.rest ∙ then.free;
-      stored = λ going. c.force_some.ensures.stored told before.number
-          (state_now opening before.file) (then.stored going);
-    }
+    held-moved seen opening before c.force_some.new.self c.force_some.new.blocks
+    (ap (λ (s : StoreNow). s.space) c.force_some.ensures.rest)
+    (λ going. c.force_some.ensures.stored told before.number (state_now opening before.file)
+    (then.stored going)) then
 
 pub returns-clause-moments : goal.returns-clause-moments
 returns-clause-moments g c told opening held =

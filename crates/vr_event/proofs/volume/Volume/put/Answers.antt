@@ -232,6 +232,7 @@ returns-in-Ok-clause-held g c told opening held ready asked =
     c.change.new.self mid c.put_at_place.new.store c.put_at_place.new.blocks c.args.after c.args.line
     (ap (λ (f : FileNow). f.entries) c.put_at_place.ensures.file)
     (ap (λ (f : FileNow). f.geometry) c.put_at_place.ensures.file)
+    (ap (λ (f : FileNow). f.catalog) c.put_at_place.ensures.file)
     c.change.ensures.leaves c.put_at_place.ensures.space
     (c.change.ensures.state opening before.file.locks place done.feedback done.shown done.bytes
     (subst (IsStateOf opening) (sym back) was.file)

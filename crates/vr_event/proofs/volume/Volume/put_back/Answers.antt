@@ -3,16 +3,15 @@ use Rattle.vr_types.specs.Moments.{Guards}
 use Rattle.vr_history.specs.State.{State}
 use Rattle.vr_history.specs.Step.{IsLastKept, puts_back}
 use Rattle.vr_undo.specs.Records.{image_of}
-use Rattle.vr_answer.specs.Scope.{AreKeyedClusters}
-use Rattle.vr_record_file.proofs.Resting.{keyed_now}
 use Rattle.vr_record_file.specs.Now.{FileNow, state_now}
 use Rattle.vr_volume.specs.Crashes.{RecoversTo}
 use Rattle.vr_event.specs.EndedFile.{IsEnding}
 use Rattle.vr_store.specs.Store.{StoreNow}
-use Rattle.vr_event.specs.Volume.{IsHeld, VolumeNow}
+use Rattle.vr_event.specs.Volume.{AreServedClusters, IsHeld, VolumeNow}
 use Rattle.vr_event.proofs.Asking.{write-asked}
 use Rattle.vr_store.proofs.CallerLemmas.{last-state}
 use Rattle.vr_event.proofs.Recovers.{recovers-safe}
+use Rattle.vr_event.proofs.Served.{served_now}
 use Rattle.vr_event.proofs.Stepped.{held-at, held-undone, known-with, undone-in}
 use Rattle.vr_event.proofs.volume.Volume.put_back.Goals as goal
 
@@ -47,9 +46,9 @@ returns-in-Ok-clause-held g c told opening held ending =
     c.enter_undone.ensures.leaves (ap (λ (s : StoreNow). s.space) c.put_last.ensures.rest) going was
     (c.enter_undone.ensures.state opening was.file kept)
     (c.in-Ok.ensures.back told before.number state (puts_back unit state) stored mine.current
-    (undone-in state unit image (keyed_now opening before.file was.file
-    (subst (λ (v : VolumeNow g.row.B.Denot). AreKeyedClusters v.file.catalog) (sym c.self.view_is)
-    c.requires.whole.keyed)) last)))
+    (undone-in state unit image (served_now opening before.file was.file
+    (subst (λ (v : VolumeNow g.row.B.Denot). AreServedClusters v.file.catalog) (sym c.self.view_is)
+    c.requires.whole.served)) last)))
 
 pub returns-in-Ok-clause-moments : goal.returns-in-Ok-clause-moments
 returns-in-Ok-clause-moments g c told opening held ending =

@@ -1,18 +1,23 @@
-use Rattle.std.proofs.Common.{None, ap, subst, sym, ◌∙◌, ◌≡◌, ◌≢◌, []}
+use Rattle.std.proofs.Common.{None, ap, subst, sym, ◌∙◌, ◌≡◌, []}
 use Rattle.vr_types.specs.Moments.{Guards}
 use Rattle.vr_record_file.specs.Now.{FileNow, state_now}
 use Rattle.vr_volume.specs.Crashes.{RecoversTo}
+use Rattle.vr_event.specs.Acting.{IsActed}
 use Rattle.vr_event.specs.EndedFile.{IsEnding}
-use Rattle.vr_store.specs.LastImage.{last_claimed, last_of_unit}
+use Rattle.vr_event.specs.declared.act.Act.TheVariants as acts
+use Rattle.vr_store.specs.LastImage.{last_claimed}
 use Rattle.vr_event.specs.Volume.{IsHeld, IsWhole, VolumeNow}
 use Rattle.vr_event.proofs.Asking.{read-asked, write-asked}
-use Rattle.vr_event.proofs.KeyedParts.{back-none, keyed-parts}
+use Rattle.vr_event.proofs.Acts.{acted-again}
 use Rattle.vr_event.proofs.Recovering.{owned-recovers}
-use Rattle.vr_event.proofs.Stepped.{held-split, held-with, known-with}
+use Rattle.vr_event.proofs.Staged.{last-claimed, last-laid, last-shape, staged-of}
+use Rattle.vr_event.proofs.Staged.{stepped-entered}
+use Rattle.vr_event.proofs.Stepped.{known-with}
+use Rattle.vr_event.proofs.Wholes.{held-moved}
 use Rattle.vr_event.proofs.volume.Volume.stage_back.Goals as goal
 
-pub returns-in-Ok-None-clause-held : goal.returns-in-Ok-None-clause-held
-returns-in-Ok-None-clause-held g c told opening held ending =
+pub returns-in-Ok-clause-held : goal.returns-in-Ok-clause-held
+returns-in-Ok-clause-held g c told opening held ending =
     let seen = g.B.Blocks.seen in
     let before : VolumeNow g.row.B.Denot = record {
       blocks = c.self.inside.blocks;
@@ -25,17 +30,21 @@ returns-in-Ok-None-clause-held g c told opening held ending =
     let going : before.file.stopped ≡ None =
     ap (λ (v : VolumeNow g.row.B.Denot). v.file.stopped) c.self.view_is ∙ c.requires.going in
     let whole : IsWhole seen before = subst (IsWhole seen) (sym c.self.view_is) c.requires.whole in
-    let some : last_of_unit before.store c.args.unit ≢ None =
-    subst (λ (v : VolumeNow g.row.B.Denot). last_of_unit v.store c.args.unit ≢ None)
-    (sym c.self.view_is) c.requires.some in
-    held-with seen opening before c.advance_last.new.self c.advance_last.new.blocks
-    (back-none before.store (seen before.blocks) c.args.unit c.advance_last.new.self.space some
-    (whole.set going) (keyed-parts seen before whole going) (c.in-Ok-None.ensures.owners told))
-    (λ on. c.in-Ok-None.ensures.stored told before.number (state_now opening before.file)
-    (was.stored on)) was
+    let there = last-shape before.store (seen before.blocks) c.args.unit (whole.set going) in
+    let claimed = last-claimed before.store c.args.unit c.last_part.result c.in-Some.part
+    c.advance_last.new.self.space c.in-Some.is c.last_part.ensures there
+    (c.in-Ok.ensures.owners told) in
+    c.enter_stage.ensures.held told opening before.store.space
+    (staged-of seen opening before c.advance_last.new.self c.advance_last.new.blocks c.in-Some.part
+    c.area_taken-taken.result whole going was
+    (last-laid before.store c.args.unit c.last_part.result c.in-Some.part c.in-Some.is
+    c.last_part.ensures there)
+    (c.area_taken-taken.ensures c.in-Some.part before.store.space c.advance_last.new.self.space
+    c.least_free-least.ensures c.free_areas-free.ensures c.free_areas.ensures claimed)
+    (c.in-Ok.ensures.stored told before.number (state_now opening before.file) (was.stored going)))
 
-pub returns-in-Ok-None-clause-moments : goal.returns-in-Ok-None-clause-moments
-returns-in-Ok-None-clause-moments g c told opening held =
+pub returns-in-Ok-clause-moments : goal.returns-in-Ok-clause-moments
+returns-in-Ok-clause-moments g c told opening held =
     let seen = g.B.Blocks.seen in
     let before : VolumeNow g.row.B.Denot = record {
       blocks = c.self.inside.blocks;
@@ -49,63 +58,28 @@ returns-in-Ok-None-clause-moments g c told opening held =
     ap (λ (v : VolumeNow g.row.B.Denot). v.file.stopped) c.self.view_is ∙ c.requires.going in
     let state = state_now opening before.file in
     let stored = was.stored going in
-    subst (λ (v : VolumeNow g.row.B.Denot). Guards (seen v.blocks) (seen c.advance_last.new.blocks)
+    subst (λ (v : VolumeNow g.row.B.Denot). Guards (seen v.blocks)
+    (seen c.enter_stage.new.self.blocks)
     (RecoversTo v.store.log.geometry v.number (state_now opening v.file) [])) c.self.view_is
+    (subst (λ (b : g.row.B.Denot). Guards (seen before.blocks) (seen b)
+    (RecoversTo before.store.log.geometry before.number state [])) (sym c.enter_stage.ensures.blocks)
     (owned-recovers before.number before.store state (seen before.blocks)
     (seen c.advance_last.new.blocks) (last_claimed before.store c.args.unit) stored
-    (c.advance_last.ensures.moments told before.number state stored))
+    (c.advance_last.ensures.moments told before.number state stored)))
 
-pub returns-in-Ok-Some-clause-held : goal.returns-in-Ok-Some-clause-held
-returns-in-Ok-Some-clause-held g c told opening held ending =
-    let seen = g.B.Blocks.seen in
-    let before : VolumeNow g.row.B.Denot = record {
-      blocks = c.self.inside.blocks;
-      number = c.self.inside.number;
-      store = c.self.inside.store;
-      file = c.self.inside.file;
-    } in
-    let was : IsHeld seen opening before =
-    subst (IsHeld seen opening) (sym c.self.view_is) held in
-    let mid : VolumeNow g.row.B.Denot =
-    record before { blocks = c.advance_last.new.blocks; store = c.advance_last.new.self } in
-    let mine : IsEnding opening before.file c.args.unit c.args.request =
-    subst (λ (f : FileNow). IsEnding opening f c.args.unit c.args.request)
-    (sym (ap (λ (v : VolumeNow g.row.B.Denot). v.file) c.self.view_is)) ending in
-    let going : before.file.stopped ≡ None =
-    ap (λ (v : VolumeNow g.row.B.Denot). v.file.stopped) c.self.view_is ∙ c.requires.going in
-    let whole : IsWhole seen before = subst (IsWhole seen) (sym c.self.view_is) c.requires.whole in
-    let some : last_of_unit before.store c.args.unit ≢ None =
-    subst (λ (v : VolumeNow g.row.B.Denot). last_of_unit v.store c.args.unit ≢ None)
-    (sym c.self.view_is) c.requires.some in
-    let then : IsHeld seen opening mid =
-    held-with seen opening before c.advance_last.new.self c.advance_last.new.blocks
-    (back-none before.store (seen before.blocks) c.args.unit c.advance_last.new.self.space some
-    (whole.set going) (keyed-parts seen before whole going) (c.in-Ok-Some.ensures.owners told))
-    (λ on. c.in-Ok-Some.ensures.stored told before.number (state_now opening before.file)
-    (was.stored on)) was in
-    held-split seen opening mid c.split.new.self c.args.after c.args.unit c.in-Ok-Some.part
-    c.split.ensures.leaves then (c.split.ensures.state opening then.file)
-
-pub returns-in-Ok-Some-clause-moments : goal.returns-in-Ok-Some-clause-moments
-returns-in-Ok-Some-clause-moments g c told opening held =
-    let seen = g.B.Blocks.seen in
-    let before : VolumeNow g.row.B.Denot = record {
-      blocks = c.self.inside.blocks;
-      number = c.self.inside.number;
-      store = c.self.inside.store;
-      file = c.self.inside.file;
-    } in
-    let was : IsHeld seen opening before =
-    subst (IsHeld seen opening) (sym c.self.view_is) held in
-    let going : before.file.stopped ≡ None =
-    ap (λ (v : VolumeNow g.row.B.Denot). v.file.stopped) c.self.view_is ∙ c.requires.going in
-    let state = state_now opening before.file in
-    let stored = was.stored going in
-    subst (λ (v : VolumeNow g.row.B.Denot). Guards (seen v.blocks) (seen c.advance_last.new.blocks)
-    (RecoversTo v.store.log.geometry v.number (state_now opening v.file) [])) c.self.view_is
-    (owned-recovers before.number before.store state (seen before.blocks)
-    (seen c.advance_last.new.blocks) (last_claimed before.store c.args.unit) stored
-    (c.advance_last.ensures.moments told before.number state stored))
+pub returns-in-Ok-clause-acted : goal.returns-in-Ok-clause-acted
+returns-in-Ok-clause-acted g c =
+    let faults = g.B.Blocks.faults in
+    let cause = c.in-Ok.ensures.cause in
+    subst (λ (v : VolumeNow g.row.B.Denot). IsActed (faults v.blocks)
+    (faults c.enter_stage.new.self.blocks) (acts.Again c.args.request) c.args.after c.args.unit
+    c.args.line c.args.request v.file c.enter_stage.new.self.file) c.self.view_is
+    (subst (λ (b : g.row.B.Denot). IsActed (faults c.self.inside.blocks) (faults b)
+    (acts.Again c.args.request) c.args.after c.args.unit c.args.line c.args.request
+    c.self.inside.file c.enter_stage.new.self.file) (sym c.enter_stage.ensures.blocks)
+    (acted-again cause.reads cause.writes
+    (stepped-entered c.args.after c.args.unit c.in-Some.part c.self.inside.file
+    c.enter_stage.new.self.file c.args.request _ _ c.enter_stage.ensures.leaves)))
 
 pub returns-in-Err-Read-clause-held : goal.returns-in-Err-Read-clause-held
 returns-in-Err-Read-clause-held g c told opening held ending =
@@ -124,7 +98,7 @@ returns-in-Err-Read-clause-held g c told opening held ending =
     subst (λ (f : FileNow). IsEnding opening f c.args.unit c.args.request)
     (sym (ap (λ (v : VolumeNow g.row.B.Denot). v.file) c.self.view_is)) ending in
     c.refuse_read.ensures.held told opening
-    (held-with seen opening before c.advance_last.new.self c.advance_last.new.blocks
+    (held-moved seen opening before c.advance_last.new.self c.advance_last.new.blocks
     c.in-Err-Read.ensures.owners_stay
     (λ on. c.in-Err-Read.ensures.unread c.in-Err-Read.field-0-is told before.number (state_now opening before.file)
     (was.stored on)) was)

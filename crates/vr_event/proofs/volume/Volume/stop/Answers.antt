@@ -2,9 +2,8 @@ use Rattle.std.proofs.Common.{ap, subst, sym, ◌∙◌}
 use Rattle.std.proofs.lemmas.Option.{none-some}
 use Rattle.vr_types.specs.declared.reply.Refusal.TheVariants.{WriteFault}
 use Rattle.vr_types.specs.declared.reply.Reply.TheVariants.{Refused}
-use Rattle.vr_answer.specs.Scope.{AreKeyedClusters}
 use Rattle.vr_record_file.specs.Now.{FileNow, MayBeAsked}
-use Rattle.vr_event.specs.Volume.{IsFileHeld, VolumeNow}
+use Rattle.vr_event.specs.Volume.{AreServedClusters, IsFileHeld, VolumeNow}
 use Rattle.vr_event.proofs.Entries.{held-known}
 use Rattle.vr_event.proofs.Wholes.{whole-stopped}
 use Rattle.vr_event.proofs.volume.Volume.stop.Goals as goal
@@ -25,18 +24,18 @@ returns-clause-held g c told opening known asked =
     (sym (ap (λ (v : VolumeNow g.row.B.Denot). v.file) c.self.view_is)) asked))
 
 pub returns-clause-whole : goal.returns-clause-whole
-returns-clause-whole g c keyed =
+returns-clause-whole g c served =
     let old : FileNow = c.self.inside.file in
     let new : FileNow = c.fail_write.new.self in
-    let before : AreKeyedClusters old.catalog =
-    subst (λ (v : VolumeNow g.row.B.Denot). AreKeyedClusters v.file.catalog) (sym c.self.view_is)
-    keyed in
+    let before : AreServedClusters old.catalog =
+    subst (λ (v : VolumeNow g.row.B.Denot). AreServedClusters v.file.catalog) (sym c.self.view_is)
+    served in
     whole-stopped g.B.Blocks.seen (record {
       blocks = c.self.inside.blocks;
       number = c.self.inside.number;
       store = c.self.inside.store;
       file = new;
-    }) (subst AreKeyedClusters (sym (ap (λ (f : FileNow). f.catalog)
+    }) (subst AreServedClusters (sym (ap (λ (f : FileNow). f.catalog)
     c.fail_write.ensures.leaves)) before)
     (λ going. none-some _ (sym going ∙ ap (λ (f : FileNow). f.stopped)
     c.fail_write.ensures.leaves))

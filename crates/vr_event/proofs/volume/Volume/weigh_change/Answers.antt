@@ -9,6 +9,7 @@ use Rattle.vr_event.specs.Putting.{MayWeigh}
 use Rattle.vr_store.specs.Store.{StoreNow}
 use Rattle.vr_event.specs.Volume.{IsHeld, IsWhole, VolumeNow}
 use Rattle.vr_event.proofs.MetParts.{met-shapes}
+use Rattle.vr_event.proofs.SpaceHeld.{space-held}
 use Rattle.vr_event.proofs.Wholes.{held-moved, whole-of}
 use Rattle.vr_event.proofs.volume.Volume.weigh_change.Goals as goal
 
@@ -26,9 +27,11 @@ returns-clause-may g c told opening held =
     let of-file : before.file ≡ c.args.self.now.file =
     ap (λ (v : VolumeNow g.row.B.Denot). v.file) c.self.view_is in
     let going = ap (λ (f : FileNow). f.stopped) of-file ∙ c.requires.going in
+    let whole : IsWhole seen before = subst (IsWhole seen) (sym c.self.view_is) c.requires.whole in
     subst (λ (f : FileNow). MayWeigh (case_of f.geometry (state_now opening f) c.args.unit
     c.args.request.now) c.weigh.result) of-file
-    (c.weigh.ensures.may told before.number opening was.file going (was.stored going) was.free)
+    (c.weigh.ensures.may told before.number opening was.file going (was.stored going)
+    (space-held seen opening before whole was going c.args.unit c.args.request.now c.args.part.0))
 
 pub returns-clause-held : goal.returns-clause-held
 returns-clause-held g c told opening held =
@@ -77,6 +80,7 @@ returns-clause-lacks g c told opening held none place at =
     subst (IsHeld seen opening) (sym c.self.view_is) held in
     let going = ap (λ (v : VolumeNow g.row.B.Denot). v.file.stopped) c.self.view_is
     ∙ c.requires.going in
+    let whole : IsWhole seen before = subst (IsWhole seen) (sym c.self.view_is) c.requires.whole in
     subst (λ (v : VolumeNow g.row.B.Denot).
     first_of (file_refusals (case_of v.file.geometry (state_now opening v.file) c.args.unit
     request)) ≡ None
@@ -85,4 +89,5 @@ returns-clause-lacks g c told opening held none place at =
     → IfLacks (LacksRoomIn v.store (seen v.blocks).cur c.args.part.0 place request) c.weigh.result)
     c.self.view_is
     (λ none at. c.weigh.ensures.lacks told before.number opening was.file going (was.stored going)
-    was.free none place at) none at
+    (space-held seen opening before whole was going c.args.unit request c.args.part.0) none place at)
+    none at

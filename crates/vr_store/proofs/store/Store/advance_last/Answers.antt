@@ -12,6 +12,7 @@ use Rattle.vr_types.specs.Moments.{Guards}
 use Rattle.vr_volume.specs.Committed.{committed_by}
 use Rattle.vr_volume.specs.Safe.{IsSafeImage}
 use Rattle.vr_undo.specs.Records.{befores_of, image_of}
+use Rattle.vr_store.specs.Parts.{HasMoreAt}
 use Rattle.vr_store.specs.Store.{IsFitImage, IsSet, IsStored, StoreNow, part_now, shape_among}
 use Rattle.vr_store.specs.Store.{store_of}
 use Rattle.vr_store.proofs.Kept.{err-as}
@@ -154,3 +155,17 @@ returns-clause-owners g c told =
     c.last.ensures)
     (advanced before.part done.kind store.space new (shape_among store.parts before.part.0)
     (done.ensures.kind told) done.ensures.owners))
+
+pub returns-clause-more : goal.returns-clause-more
+returns-clause-more g c told =
+    let inside = c.self.inside in
+    let store : StoreNow = store_of g.P.Part.shape g.P.Part.known inside.log inside.undo
+    inside.parts.items inside.changed.items inside.space in
+    let new = map (part_now g.P.Part.shape g.P.Part.known) c.advance_at.new.parts.items in
+    subst (λ (s : StoreNow). OnLast s c.args.unit (λ (image : BeforeImage).
+    HasMoreAt image.part s.parts new)) c.self.view_is
+    (on-last store c.args.unit (image_of c.args.unit c.in-Some.before.now)
+    (λ (image : BeforeImage). HasMoreAt image.part store.parts new)
+    (last-lent c.args.unit (befores_of inside.undo) c.last.result c.in-Some.before c.in-Some.is
+    c.last.ensures)
+    (c.in_ok-kind-in-Some.ensures.more told))

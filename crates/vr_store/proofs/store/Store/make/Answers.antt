@@ -1,11 +1,10 @@
 use Rattle.std.proofs.Common.{◌≡◌, ◌≢◌, ◌<◌, ℕ, Option, None, Result, Ok, Err, IfErr, IsTrue}
-use Rattle.std.proofs.Common.{refl, sym, ap, subst, ◌∙◌, map, set}
+use Rattle.std.proofs.Common.{refl, sym, ap, subst, inl, ◌∙◌, map, set}
 use Rattle.std.specs.Prelude.{All, IfSome}
 use Rattle.std.specs.Result.{IsErrAnd}
 use Rattle.vr_types.specs.Moments.{Guards}
 use Rattle.vr_space.specs.Known.{HasMet}
 use Rattle.vr_space.specs.Part.{CanSet, IsGiven, IsPlaceOf, Shape, given}
-use Rattle.vr_space.specs.Split.{SplitNow}
 use Rattle.vr_attach.proofs.CallerLemmas.{owner-past-log}
 use Rattle.vr_log.specs.Live.{live_in}
 use Rattle.vr_log.specs.declared.no.LogNo.{LogNo}
@@ -20,6 +19,7 @@ use Rattle.vr_store.specs.Store.{ChangedBy, IsSet, PartNow, StoreNow, changed_by
 use Rattle.vr_store.specs.Store.{owners_of, part_now, shape_among}
 use Rattle.vr_store.proofs.Fits.{ends-before, idle-made}
 use Rattle.vr_store.proofs.PartsAt.{laid-at, laid-found, none-laid, only-met, part-split}
+use Rattle.vr_store.proofs.PartsAt.{same-met}
 use Rattle.vr_store.proofs.ReadyParts.{change, kept, made-state, rested, room-to, to-any, to-set}
 use Rattle.vr_store.proofs.Recorded.{at-shape, number-at, set-at}
 use Rattle.vr_store.proofs.StoredAfter.{set-logged, stored-made}
@@ -283,7 +283,7 @@ returns-clause-set g c =
     (sym ensured.count) (c.set_at.ensures.each is-set.changed))
     (set-worked v number before now parts v.space at
     (ap (λ (s : Shape). part-split laid.number s None) ensured.part)
-    a b ensured.count ensured.size is-set)
+    a b ensured.count ensured.size (inl (ensured.areas, refl)) is-set)
 
 pub returns-clause-parts : goal.returns-clause-parts
 returns-clause-parts g c =
@@ -325,8 +325,8 @@ returns-clause-parts g c =
     let ensured = c.in_ok-set_at-in-Some.ensures in
     subst (λ (s : StoreNow). OnlyMet number s.parts parts) c.self.view_is
     (only-met number before now v.parts parts at refl
-    (ap (λ (s : Shape). part-split laid.number s (known c.set_at.new.part).split) ensured.part
-    ∙ ap (λ (s : Option SplitNow). part-split laid.number (shape laid.part) s) ensured.split))
+    (same-met laid.number before.shape now.shape before.known now.known ensured.part ensured.split
+    ensured.areas))
 
 err-as : (result : Result (Unit {0}) LogNo) (cause : LogNo) (P : LogNo → Type 0)
     → IsErrAnd result (λ answer. answer ≡ cause) → P cause → IfErr result P

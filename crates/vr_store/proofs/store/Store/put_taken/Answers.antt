@@ -1,11 +1,10 @@
 use Rattle.std.proofs.Common.{◌<◌, ℕ, Option, None, IsTrue, refl, sym, ap, subst, map, set}
-use Rattle.std.proofs.Common.{◌∙◌}
+use Rattle.std.proofs.Common.{inl}
 use Rattle.std.specs.Prelude.{All, IfSome}
 use Rattle.std.proofs.lemmas.Result.{on_ok_weaker}
 use Rattle.vr_types.specs.Moments.{Guards}
 use Rattle.vr_space.specs.Known.{HasMet}
 use Rattle.vr_space.specs.Part.{CanSet, IsGiven, IsPlaceOf, Shape, given}
-use Rattle.vr_space.specs.Split.{SplitNow}
 use Rattle.vr_undo.specs.Records.{images_in}
 use Rattle.vr_volume.specs.Committed.{committed_by}
 use Rattle.vr_volume.specs.PutBack.{lengths_kept}
@@ -18,6 +17,7 @@ use Rattle.vr_store.specs.Store.{ChangedBy, IsSet, PartNow, StoreNow, changed_by
 use Rattle.vr_store.specs.Store.{owners_of, part_now, shape_among}
 use Rattle.vr_store.proofs.PutBack.{stored-taken, taken-part, to-back}
 use Rattle.vr_store.proofs.PartsAt.{laid-at, laid-found, none-laid, only-met, part-split}
+use Rattle.vr_store.proofs.PartsAt.{same-met}
 use Rattle.vr_store.proofs.Recorded.{at-shape, number-at, set-at}
 use Rattle.vr_store.proofs.StoredAfter.{set-logged}
 use Rattle.vr_store.proofs.Worked.{set-worked}
@@ -346,7 +346,7 @@ returns-clause-set g c =
     (subst (λ (count : ℕ). All (λ (by : ChangedBy). All (λ n. n < count) by.blocks) changed)
     (sym c.set_back.ensures.count) (c.set_back.ensures.each is-set.changed))
     (set-worked v number before now parts v.space at same a b c.set_back.ensures.count
-    c.set_back.ensures.size is-set)
+    c.set_back.ensures.size (inl (c.set_back.ensures.areas, refl)) is-set)
 
 pub returns-clause-parts : goal.returns-clause-parts
 returns-clause-parts g c =
@@ -385,10 +385,8 @@ returns-clause-parts g c =
     let same = ap (λ (s : Shape). part-split laid.number s None) c.set_back.ensures.part in
     subst (λ (s : StoreNow). OnlyMet number s.parts parts) c.self.view_is
     (only-met number before now v.parts parts at refl
-    (ap (λ (s : Shape). part-split laid.number s (known c.set_back.new.part).split)
-    c.set_back.ensures.part
-    ∙ ap (λ (s : Option SplitNow). part-split laid.number (shape laid.part) s)
-    c.set_back.ensures.split))
+    (same-met laid.number before.shape now.shape before.known now.known c.set_back.ensures.part
+    c.set_back.ensures.split c.set_back.ensures.areas))
 
 pub returns-clause-reads : goal.returns-clause-reads
 returns-clause-reads g c asked =

@@ -1,0 +1,266 @@
+-- Which areas are another part's as the walk over the entries comes to one, and what is shown of its
+-- part by them.
+use Rattle.std.proofs.Common.{◌≡◌, ◌≢◌, ◌⊎◌, ⊎_elim, inl, inr, ℕ, zero, suc, ◌<◌, List, []}
+use Rattle.std.proofs.Common.{◌∷◌, Option, Some, None, refl, sym, ap, subst, ◌∙◌, arith}
+use Rattle.std.proofs.Common.{get_or, take}
+use Rattle.std.specs.Prelude.{Contains, nat_eq, slice_get}
+use Rattle.std.specs.List.{AllByRecursion, IsDistinct}
+use Rattle.std.specs.Option.{option_map}
+use Rattle.std.proofs.lemmas.Bool.Decides.{eqb_tells}
+use Rattle.std.proofs.lemmas.Option.{get_or_from_slice_get, slice_get-map}
+use Rattle.std.proofs.lemmas.Option.{slice_get_within}
+use Rattle.vr_types.specs.Geometry.{area_count, head_block}
+use Rattle.vr_types.specs.Image.{Image}
+use Rattle.vr_types.specs.Seen.{Seen}
+use Rattle.vr_types.specs.declared.geometry.Geometry.{Geometry}
+use Rattle.vr_types.specs.declared.unit.PartNo.{PartNo}
+use Rattle.vr_catalog.specs.Catalog.{parts_in}
+use Rattle.vr_catalog.specs.declared.entry.CatEntry.{CatEntry}
+use Rattle.vr_attach.specs.Chain.{IsChainShown, IsReachedBefore}
+use Rattle.vr_attach.specs.Laid.{HasArea, ReachesArea, shape_in, shape_of}
+use Rattle.vr_mount.specs.Areas.{BeginsWith, IsLaidIn}
+use Rattle.vr_part.specs.Any.{known_any, shape_any}
+use Rattle.vr_part.specs.Attached.{IsAnyShown, attached_known}
+use Rattle.vr_part.specs.declared.any.AnyPart.{AnyPart}
+use Rattle.vr_relative.specs.Walked.{IsTakenIn}
+use Rattle.vr_space.specs.Known.{Known}
+use Rattle.vr_space.specs.Part.{KeyedShape, RelativeShape, Shape, part_no}
+use Rattle.vr_space.specs.Rosters.{Numbered, areas_from, chain_of}
+use Rattle.vr_recover.specs.Found.{AreAdded, AreKnown, MayAdd}
+use Rattle.vr_recover.specs.Opening.{AsFirst, AsReached, IsEntryShown, IsHeldBy, IsTaken}
+use Rattle.vr_recover.proofs.Adding.{head-is, part-at, same-part}
+use Rattle.vr_recover.proofs.Shapes.{entry-laid, laid-there, shape-laid}
+
+some-is : {X : Type 0} {x y : X} → Some x ≡ Some y → x ≡ y
+some-is same = cc
+
+some-none : {X : Type 0} {x : X} → Some x ≡ None → ⊥
+some-none same = cc
+
+-- ---- the first area of a chain
+
+take-more : (k : ℕ) (xs : List ℕ) (x : ℕ) → Contains (take 1 xs) x → Contains (take (suc k) xs) x
+take-more k [] x has = absurd (omega (arith, has.1))
+take-more k (first ∷ xs) x has = (0, omega arith, at-first has.0 has.1 has.2)
+  where
+    at-first : (i : ℕ) → i < 1 → get_or (first ∷ []) i x ≡ x → first ≡ x
+    at-first zero below is = is
+    at-first (suc i) below is = absurd (omega (arith, below))
+
+begins-chain : (part : Numbered) (image : Image) (n : ℕ) → 0 < n
+    → Contains (take 1 (areas_from part image n part.first)) part.first
+begins-chain part image zero some = absurd (omega (arith, some))
+begins-chain part image (suc n) some = (0, omega arith, refl)
+
+-- ---- by which areas are taken
+
+module _ (part : Numbered) (image : Image) (Taken Other : ℕ → Type 0)
+    (to : (area : ℕ) → Taken area → Other area ⊎ Contains (take 1 (chain_of part image)) area)
+    (from : (area : ℕ) → Other area → Taken area) where
+  before-to : (at area : ℕ) → IsReachedBefore part Taken image at area
+      → IsReachedBefore part Other image at area
+  before-to at area before = ⊎_elim
+      (λ taken. ⊎_elim (λ other. inl other)
+      (λ first. inr (take-more at (chain_of part image) area first)) (to area taken))
+      (λ chained. inr chained) before
+
+  before-from : (at area : ℕ) → IsReachedBefore part Other image at area
+      → IsReachedBefore part Taken image at area
+  before-from at area before =
+      ⊎_elim (λ other. inl (from area other)) (λ chained. inr chained) before
+
+  chain-to : (block number : ℕ) → IsChainShown part Taken image block number
+      → IsChainShown part Other image block number
+  chain-to block number shown = record {
+    rule = shown.rule;
+    number_is = shown.number_is;
+    damaged = record {
+      at = shown.damaged.at;
+      area = shown.damaged.area;
+      is = shown.damaged.is;
+      walked = record {
+        sound = shown.damaged.walked.sound;
+        new = λ i area next below is leads before.
+            shown.damaged.walked.new i area next below is leads (before-from i next before);
+      };
+      shown = ⊎_elim (λ roster. inl roster)
+          (λ further. inr (⊎_elim (λ slots. inl slots)
+          (λ twice. inr (record {
+            sound = twice.sound;
+            next = twice.next;
+            leads = twice.leads;
+            before = before-to shown.damaged.at twice.next twice.before;
+            block = twice.block;
+            rule_is = twice.rule_is;
+          })) further)) shown.damaged.shown;
+    };
+  }
+
+-- ---- entries before one
+
+all-before : (P : ℕ → Type 0) (entries : List CatEntry) (n : ℕ)
+    → AllByRecursion P (parts_in entries) → AllByRecursion P (parts_in (take n entries))
+all-before P [] zero all = tt
+all-before P [] (suc n) all = tt
+all-before P (entry ∷ entries) zero all = tt
+all-before P (entry ∷ entries) (suc n) all = (all.0, all-before P entries n all.1)
+
+distinct-before : (entries : List CatEntry) (n : ℕ) → IsDistinct nat_eq (parts_in entries)
+    → IsDistinct nat_eq (parts_in (take n entries))
+unfolding IsDistinct
+distinct-before [] zero all = tt
+distinct-before [] (suc n) all = tt
+distinct-before (entry ∷ entries) zero all = tt
+distinct-before (entry ∷ entries) (suc n) all =
+    (all-before _ entries n all.0, distinct-before entries n all.1)
+
+-- those before one are told apart as all are
+pub told-before : (entries : List CatEntry) (n : ℕ) → IsDistinct nat_eq (0 ∷ parts_in entries)
+    → IsDistinct nat_eq (0 ∷ parts_in (take n entries))
+unfolding IsDistinct
+told-before entries n all = (all-before _ entries n all.0, distinct-before entries n all.1)
+
+-- ---- what the walk has marked
+
+-- what an attached part has, it reaches
+has-reaches : (geometry : Geometry) (shape : Shape) (image : Image) (area : ℕ)
+    → HasArea geometry shape (attached_known shape image) area
+    → ReachesArea geometry shape image area
+has-reaches geometry (KeyedShape part) image area has = has
+has-reaches geometry (RelativeShape part) image area has = has
+
+reaches-has : (geometry : Geometry) (shape : Shape) (image : Image) (area : ℕ)
+    → ReachesArea geometry shape image area
+    → HasArea geometry shape (attached_known shape image) area
+reaches-has geometry (KeyedShape part) image area reaches = reaches
+reaches-has geometry (RelativeShape part) image area reaches = reaches
+
+-- What is known of parts as they were attached: they have the areas that they reach.
+module _ (geometry : Geometry) (parts : List AnyPart) (image : Image) (known : AreKnown parts image)
+  where
+    known-at : (k : ℕ) (one : AnyPart) → slice_get parts k ≡ Some one
+        → known_any one ≡ attached_known (shape_any one) image
+    known-at k one there = subst (λ (p : AnyPart). known_any p ≡ attached_known (shape_any p) image)
+        (get_or_from_slice_get parts k one one there)
+        (known k one (slice_get_within parts k one there))
+
+    pub reached-of : (k : ℕ) (one : AnyPart) (area : ℕ) → slice_get parts k ≡ Some one
+        → HasArea geometry (shape_any one) (known_any one) area
+        → ReachesArea geometry (shape_any one) image area
+    reached-of k one area there has = has-reaches geometry (shape_any one) image area
+        (subst (λ (n : Known). HasArea geometry (shape_any one) n area) (known-at k one there) has)
+
+    pub has-of : (k : ℕ) (one : AnyPart) (area : ℕ) → slice_get parts k ≡ Some one
+        → ReachesArea geometry (shape_any one) image area
+        → HasArea geometry (shape_any one) (known_any one) area
+    has-of k one area there reaches =
+        subst (λ (n : Known). HasArea geometry (shape_any one) n area) (sym (known-at k one there))
+        (reaches-has geometry (shape_any one) image area reaches)
+
+module _ (geometry : Geometry) (entries : List CatEntry) (at : ℕ) (parts : List AnyPart)
+    (owners : List (Option PartNo)) (may : MayAdd geometry entries)
+    (added : AreAdded geometry entries at parts owners) (image : Image)
+    (known : AreKnown parts image) where
+  taken-marked : (part area : ℕ) → IsTaken geometry entries at image part area
+      → IsTakenIn owners area
+  taken-marked part area (AsFirst other differs laid) none =
+      some-none (sym (added.laid (record { 0 = other }) area laid) ∙ none)
+  taken-marked part area (AsReached reached) none =
+      let told = told-before entries at may.distinct in
+      let there = laid-there geometry (take at entries) told reached.other reached.shape
+      reached.laid in
+      let one = part-at parts there.0 reached.shape
+      (ap (λ (s : List Shape). slice_get s there.0) added.shapes ∙ there.1) in
+      let has : HasArea geometry (shape_any one.0) (known_any one.0) area =
+      has-of geometry parts image known there.0 one.0 area one.1
+      (subst (λ (s : Shape). ReachesArea geometry s image area) (sym one.2) reached.reaches) in
+      some-none (sym (subst (λ (p : AnyPart). HasArea geometry (shape_any p) (known_any p) area
+      → get_or owners area None ≡ Some (part_no (shape_any p)))
+      (get_or_from_slice_get parts there.0 one.0 one.0 one.1)
+      (added.owned there.0 one.0 (slice_get_within parts there.0 one.0 one.1) area) has) ∙ none)
+
+  module _ (entry : CatEntry)
+      (off : (k : ℕ) (one : AnyPart) → slice_get parts k ≡ Some one
+      → part_no (shape_any one) ≢ entry.part) where
+    -- what is marked is another part's, or its own first area
+    marked-taken : (area : ℕ) → IsTakenIn owners area
+        → IsTaken geometry entries at image entry.part.0 area
+        ⊎ IsLaidIn geometry entries entry.part.0 area
+    marked-taken area marked = by (get_or owners area None) refl
+      where
+        held : (owner : PartNo) → IsHeldBy geometry parts owner area
+            → IsTaken geometry entries at image entry.part.0 area
+        held owner of = AsReached (record {
+          other = (part_no (shape_any of.one)).0;
+          differs = λ same. off of.at of.one of.there
+              (same-part (part_no (shape_any of.one)) entry.part same);
+          shape = shape_any of.one;
+          laid = shape-laid geometry (take at entries) (told-before entries at may.distinct) of.at
+              (shape_any of.one)
+              (ap (λ (s : List Shape). slice_get s of.at) (sym added.shapes)
+              ∙ slice_get-map shape_any parts of.at ∙ ap (option_map shape_any) of.there);
+          reaches = reached-of geometry parts image known of.at of.one area of.there of.has;
+        })
+
+        first : (owner : PartNo) → IsLaidIn geometry entries owner.0 area
+            → IsTaken geometry entries at image entry.part.0 area
+            ⊎ IsLaidIn geometry entries entry.part.0 area
+        first owner laid = elim (eqb_tells owner.0 entry.part.0) [
+          | inl same ↦ inr (subst (λ (n : ℕ). IsLaidIn geometry entries n area) same.1 laid)
+          | inr differ ↦ inl (AsFirst owner.0 differ.1 laid)
+        ]
+
+        by : (o : Option PartNo) → get_or owners area None ≡ o
+            → IsTaken geometry entries at image entry.part.0 area
+            ⊎ IsLaidIn geometry entries entry.part.0 area
+        by None is = absurd (marked is)
+        by (Some owner) is = ⊎_elim (λ laid. first owner laid) (λ of. inl (held owner of))
+            (added.only owner area is)
+
+    -- its own first area begins its chain
+    first-begins : (shape : Shape) → shape_in geometry entries entry.part.0 ≡ Some shape
+        → 0 < area_count geometry → (part : Numbered) → shape ≡ RelativeShape part
+        → part.geometry ≡ geometry → (area : ℕ) → IsLaidIn geometry entries entry.part.0 area
+        → Contains (take 1 (chain_of part image)) area
+    first-begins shape laid some part is same area first =
+        let mine : first.shape ≡ RelativeShape part = some-is (sym first.laid ∙ laid) ∙ is in
+        let begins : head_block geometry part.first ≡ head_block geometry area =
+        subst (λ (g : Geometry). head_block g part.first ≡ head_block geometry area) same
+        (subst (BeginsWith (head_block geometry area)) mine first.begins) in
+        subst (Contains (take 1 (chain_of part image)))
+        (head-is geometry part.first area begins)
+        (begins-chain part image (area_count part.geometry)
+        (subst (λ (g : Geometry). 0 < area_count g) (sym same) some))
+
+    shown-by : (shape : Shape) → shape_in geometry entries entry.part.0 ≡ Some shape
+        → 0 < area_count geometry
+        → ((part : Numbered) → shape ≡ RelativeShape part → part.geometry ≡ geometry)
+        → (block rule : ℕ) → IsAnyShown geometry shape (IsTakenIn owners) image block rule
+        → IsAnyShown geometry shape (IsTaken geometry entries at image entry.part.0) image block
+        rule
+    shown-by (KeyedShape part) laid some same block rule shown = shown
+    shown-by (RelativeShape part) laid some same block rule shown = chain-to part image
+        (IsTakenIn owners) (IsTaken geometry entries at image entry.part.0)
+        (λ area marked. ⊎_elim (λ taken. inl taken)
+        (λ own. inr (first-begins (RelativeShape part) laid some part refl (same part refl) area
+        own))
+        (marked-taken area marked))
+        (λ area taken. taken-marked entry.part.0 area taken) block rule shown
+
+    -- so its part is shown
+    pub entry-shown : (now : Seen) → now.cur ≡ image → slice_get entries at ≡ Some entry
+        → (shape : Shape) → shape_of geometry entry ≡ Some shape → 0 < area_count geometry
+        → ((part : Numbered) → shape ≡ RelativeShape part → part.geometry ≡ geometry)
+        → (block rule : ℕ) → IsAnyShown geometry shape (IsTakenIn owners) image block rule
+        → IsEntryShown geometry entries now block rule
+    entry-shown now cur there shape laid some same block rule shown = record {
+      at = at;
+      entry = entry;
+      there = there;
+      shape = shape;
+      laid = laid;
+      shown = subst (λ (i : Image). IsAnyShown geometry shape
+          (IsTaken geometry entries at i entry.part.0) i block rule) (sym cur)
+          (shown-by shape (entry-laid geometry entries may.distinct at entry shape there laid) some
+          same block rule shown);
+    }
