@@ -13,7 +13,7 @@ use Rattle.vr_types.specs.Seen.{Seen}
 use Rattle.vr_types.specs.Space.{least_free}
 use Rattle.vr_types.specs.declared.geometry.Geometry.{Geometry}
 use Rattle.vr_types.specs.declared.unit.PartNo.{PartNo}
-use Rattle.vr_space.specs.Part.{InClaimed, IsClaimed, IsOn, KeyedShape, MayGrow, RelativeShape}
+use Rattle.vr_space.specs.Part.{InClaimed, IsClaimed, IsOn, KeyedShape, MayGrow, NumberedShape}
 use Rattle.vr_space.specs.Part.{Shape, part_no}
 use Rattle.vr_attach.specs.Laid.{IsInside}
 use Rattle.vr_attach.specs.Owning.{claimed_at, claimed_by, owner_of}
@@ -26,7 +26,7 @@ pub inside-on : (geometry : Geometry) (shape : Shape) (now : Seen) → now.count
     → now.size ≡ geometry.size → IsInside geometry shape → IsOn shape now
 inside-on geometry (KeyedShape part) now count size inside =
     (omega (arith, inside.0, count), size ∙ sym inside.1)
-inside-on geometry (RelativeShape part) now count size inside = record {
+inside-on geometry (NumberedShape part) now count size inside = record {
   part_is = inside.0;
   blocks = omega (arith, count, ap (λ (g : Geometry). g.blocks) inside.1);
   size = size ∙ sym (ap (λ (g : Geometry). g.size) inside.1);
@@ -37,7 +37,7 @@ claimed-inside : (geometry : Geometry) (shape : Shape) → IsInside geometry sha
     → InClaimed shape area n
     → (head_block geometry area ≤ n) × (n ≤ head_block geometry area + geometry.area)
 claimed-inside geometry (KeyedShape part) inside area n claims = absurd claims
-claimed-inside geometry (RelativeShape part) inside area n claims =
+claimed-inside geometry (NumberedShape part) inside area n claims =
     subst (λ (g : Geometry). (head_block g area ≤ n) × (n ≤ head_block g area + g.area)) inside.1
     (claims.from, claims.to)
 

@@ -20,10 +20,10 @@ use Rattle.vr_catalog.specs.Definition.{catalog_definition}
 use Rattle.vr_catalog.specs.declared.definition.Definition.{Definition}
 use Rattle.vr_catalog.specs.declared.entry.CatEntry.{CatEntry}
 use Rattle.vr_space.specs.Owners.{Owners}
-use Rattle.vr_space.specs.Part.{InFirstArea, InPart, KeyedShape, RelativeShape, Shape, StaysIn}
+use Rattle.vr_space.specs.Part.{InFirstArea, InPart, KeyedShape, NumberedShape, Shape, StaysIn}
 use Rattle.vr_space.specs.Part.{part_no}
 use Rattle.vr_space.specs.Rosters.{IsOf, IsOwnArea}
-use Rattle.vr_space.specs.Slots.{IsSlots}
+use Rattle.vr_space.specs.Numbered.{IsFilled}
 use Rattle.vr_space.proofs.CallerLemmas.{chain-here}
 use Rattle.vr_attach.specs.Laid.{AreApart, catalog_shape, keyed_shape, numbered_part}
 use Rattle.vr_attach.specs.Laid.{shape_by_kind, shape_from, shape_in, shape_of}
@@ -84,7 +84,7 @@ area-owned geometry areas area part owns n from to = area-owner geometry areas a
 abbrev pub IsOnAreas : Geometry → Shape → Type 0
 IsOnAreas geometry (KeyedShape part) = (area : ℕ) × (part.head ≡ head_block geometry area)
     × (part.area ≡ geometry.area)
-IsOnAreas geometry (RelativeShape part) = part.geometry ≡ geometry
+IsOnAreas geometry (NumberedShape part) = part.geometry ≡ geometry
 
 -- a shape of this number, on areas of the volume, which are past the log
 pub record IsLaidAs (geometry : Geometry) (part : ℕ) (shape : Shape) : Type 0 where
@@ -101,9 +101,9 @@ as-keyed geometry part area definition = record {
   areas = (area, refl, refl);
 }
 
--- and a relative one
+-- and an entry-sequenced or relative one
 as-numbered : (geometry : Geometry) (part area : ℕ) (definition : Definition)
-    → IsLaidAs geometry part (RelativeShape (numbered_part geometry part area definition))
+    → IsLaidAs geometry part (NumberedShape (numbered_part geometry part area definition))
 as-numbered geometry part area definition = record {
   number = refl;
   past = λ n inside. omega (arith, inside.from);
@@ -113,7 +113,7 @@ as-numbered geometry part area definition = record {
 as-kind : (geometry : Geometry) (part area : ℕ) (definition : Definition) (kind : Kind)
     → IfSome (shape_by_kind geometry part area definition kind) (IsLaidAs geometry part)
 as-kind geometry part area definition kinds.Keyed = as-keyed geometry part area definition
-as-kind geometry part area definition kinds.Entry = tt
+as-kind geometry part area definition kinds.Entry = as-numbered geometry part area definition
 as-kind geometry part area definition kinds.Relative = as-numbered geometry part area definition
 
 as-from : (geometry : Geometry) (part : ℕ) (area : Option AreaNo) (definition : Definition)
@@ -174,8 +174,8 @@ laid-as geometry entries part shape is =
 pub stays-owned : (shape : Shape) (owners : Owners) (image : Image) → StaysIn shape owners image
     → (n : ℕ) → InFirstArea shape n → InPart shape owners n
 stays-owned (KeyedShape part) owners image stays = stays
-stays-owned (RelativeShape part) owners image stays = (chain-here part (IsOwnArea part owners)
-    (IsSlots part) (IsOf image) (area_count part.geometry) part.first stays).owned
+stays-owned (NumberedShape part) owners image stays = (chain-here part (IsOwnArea part owners)
+    (IsFilled part) (IsOf image) (area_count part.geometry) part.first stays).owned
 
 -- So parts that stay in their own have no block of their first areas in common.
 pub owned-apart : (geometry : Geometry) (entries : List CatEntry) (owners : Owners) (image : Image)

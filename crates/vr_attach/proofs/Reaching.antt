@@ -12,11 +12,12 @@ use Rattle.vr_catalog.specs.declared.entry.CatEntry.{CatEntry}
 use Rattle.vr_space.specs.Keyed.{IsOwned, Keyed}
 use Rattle.vr_space.specs.Known.{Known}
 use Rattle.vr_space.specs.Owners.{Owners}
-use Rattle.vr_space.specs.Part.{KeyedShape, RelativeShape, Shape, Stands, StaysIn, part_no}
+use Rattle.vr_space.specs.Part.{KeyedShape, NumberedShape, Shape, Stands, StaysIn, part_no}
 use Rattle.vr_space.specs.Rosters.{Chains, IsChained, IsChainedBy, IsNextOf, IsOf}
 use Rattle.vr_space.specs.Rosters.{IsOwnArea, Numbered, after_next, areas_from, chain_of, roster_at}
 use Rattle.vr_space.specs.Rosters.{roster_block, used_of}
-use Rattle.vr_space.specs.Slots.{IsSlotMet, IsSlots}
+use Rattle.vr_space.specs.Numbered.{IsFilled}
+use Rattle.vr_space.specs.Numbered.{IsIntervalMet}
 use Rattle.vr_space.proofs.CallerLemmas.{are-chained, chain-less, chained-here}
 use Rattle.vr_attach.specs.Laid.{ReachesArea, shape_in}
 use Rattle.vr_attach.specs.Owning.{owner_of}
@@ -80,7 +81,7 @@ chain-owns : (part : Numbered) (Own : ℕ → Type 0) (Interval : Block → Type
 chain-owns part Own Interval image chain area among =
     All-contains Own (chain_of part image) area
     (are-chained part Own Interval image known chain
-    (record { areas = refl; used = refl; met = All-nil (IsSlotMet part image) })).own among
+    (record { areas = refl; used = refl })).own among
   where
     known : Known
     known = record {
@@ -88,6 +89,7 @@ chain-owns part Own Interval image chain area among =
       met = [];
       areas = chain_of part image;
       used = used_of part image;
+      tail = None;
     }
 
 -- ---- a part stays in its own
@@ -112,18 +114,18 @@ by-shape : (geometry : Geometry) (shape : Shape) (areas : List (Option PartNo)) 
     → StaysIn shape (owner_of geometry areas) image
 by-shape geometry (KeyedShape part) areas image on stands owns =
     keyed-owned geometry part areas on owns
-by-shape geometry (RelativeShape part) areas image on stands owns =
+by-shape geometry (NumberedShape part) areas image on stands owns =
     chain-less part (λ at. (at < area_count part.geometry) × Contains (chain_of part image) at)
-    (IsOwnArea part (owner_of geometry areas)) (IsSlots part) (IsOf image) (IsOf image)
+    (IsOwnArea part (owner_of geometry areas)) (IsFilled part) (IsOf image) (IsOf image)
     (λ at both. record {
       there = both.0;
-      owned = λ n inside. area-owned geometry areas at (part_no (RelativeShape part))
+      owned = λ n inside. area-owned geometry areas at (part_no (NumberedShape part))
           (owns at both.1) n
           (subst (λ (g : Geometry). head_block g at ≤ n) on inside.from)
           (subst (λ (g : Geometry). n ≤ head_block g at + g.area) on inside.to);
     })
     (λ at both n inside block may. may) (area_count part.geometry) part.first
-    (chain-among part (λ at. at < area_count part.geometry) (IsSlots part) image
+    (chain-among part (λ at. at < area_count part.geometry) (IsFilled part) image
     (area_count part.geometry) part.first stands.1.chain)
 
 -- A part that is laid stays in its own blocks where it stands for a content, and the areas that it
@@ -150,8 +152,8 @@ owned-by-shape : (geometry : Geometry) (shape : Shape) (owners : Owners) (image 
     → owners n ≡ Some (part_no shape).0
 owned-by-shape geometry (KeyedShape part) owners image area on stays reaches n from to =
     stays n (omega (arith, reaches, from), omega (arith, reaches, on.2, to))
-owned-by-shape geometry (RelativeShape part) owners image area on stays reaches n from to =
-    (chain-owns part (IsOwnArea part owners) (IsSlots part) image stays area reaches).owned n
+owned-by-shape geometry (NumberedShape part) owners image area on stays reaches n from to =
+    (chain-owns part (IsOwnArea part owners) (IsFilled part) image stays area reaches).owned n
     (record {
       from = subst (λ (g : Geometry). head_block g area ≤ n) (sym on) from;
       to = subst (λ (g : Geometry). n ≤ head_block g area + g.area) (sym on) to;

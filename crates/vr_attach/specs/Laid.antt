@@ -1,8 +1,8 @@
 -- Where the parts of a volume are on its blocks: the catalog, which is part 0, in area 0, a
--- key-sequenced cluster in the area that its entry names, and a relative one from that area on. No
--- entry-sequenced cluster is laid yet. The rules are this project's own.
+-- key-sequenced cluster in the area that its entry names, and an entry-sequenced or relative one
+-- from that area on. The rules are this project's own.
 use Rattle.std.specs.Prelude.{◌≡◌, ◌≢◌, ◌+◌, ◌<◌, ℕ, List, Option, Some, None, if◌then◌else◌, ◌==◌}
-use Rattle.std.specs.Prelude.{Contains}
+use Rattle.std.specs.Prelude.{Bool, true, false, Contains}
 use Rattle.std.specs.Option.{option_and_then}
 use Rattle.vr_types.specs.Content.{Content}
 use Rattle.vr_types.specs.Image.{Image}
@@ -17,7 +17,7 @@ use Rattle.vr_catalog.specs.declared.definition.Definition.{Definition}
 use Rattle.vr_catalog.specs.declared.entry.CatEntry.{CatEntry}
 use Rattle.vr_space.specs.Keyed.{Keyed}
 use Rattle.vr_space.specs.Known.{Known}
-use Rattle.vr_space.specs.Part.{Shape, KeyedShape, RelativeShape, InFirstArea}
+use Rattle.vr_space.specs.Part.{Shape, KeyedShape, NumberedShape, InFirstArea}
 use Rattle.vr_space.specs.Rosters.{IsNumbered, Numbered, chain_of}
 
 -- a keyed part of this definition, whose first area is this one
@@ -35,10 +35,21 @@ keyed_part geometry part area definition = record {
 abbrev pub keyed_shape : Geometry → ℕ → ℕ → Definition → Shape
 keyed_shape geometry part area definition = KeyedShape (keyed_part geometry part area definition)
 
--- a relative part of this definition, whose chain begins with this area
+-- whether a cluster of this kind is a relative one
+abbrev pub is_relative : Kind → Bool
+is_relative kinds.Keyed = false
+is_relative kinds.Entry = false
+is_relative kinds.Relative = true
+
+-- an entry-sequenced or relative part of this definition, whose chain begins with this area
 abbrev pub numbered_part : Geometry → ℕ → ℕ → Definition → Numbered
-numbered_part geometry part area definition =
-    record { part = part; first = area; geometry = geometry; most = definition.maximum }
+numbered_part geometry part area definition = record {
+  part = part;
+  first = area;
+  geometry = geometry;
+  most = definition.maximum;
+  relative = is_relative definition.kind;
+}
 
 abbrev pub catalog_shape : Geometry → Shape
 catalog_shape geometry = keyed_shape geometry 0 0 catalog_definition
@@ -46,9 +57,10 @@ catalog_shape geometry = keyed_shape geometry 0 0 catalog_definition
 abbrev pub shape_by_kind : Geometry → ℕ → ℕ → Definition → Kind → Option Shape
 shape_by_kind geometry part area definition kinds.Keyed =
     Some (keyed_shape geometry part area definition)
-shape_by_kind geometry part area definition kinds.Entry = None
+shape_by_kind geometry part area definition kinds.Entry =
+    Some (NumberedShape (numbered_part geometry part area definition))
 shape_by_kind geometry part area definition kinds.Relative =
-    Some (RelativeShape (numbered_part geometry part area definition))
+    Some (NumberedShape (numbered_part geometry part area definition))
 
 abbrev pub shape_from : Geometry → ℕ → Option AreaNo → Definition → Option Shape
 shape_from geometry part None definition = None
@@ -74,17 +86,17 @@ shape_by geometry catalog part = shape_in geometry (entries_in catalog) part
 abbrev pub IsInside : Geometry → Shape → Type 0
 IsInside geometry (KeyedShape part) =
     (part.head + part.area < geometry.blocks) × (part.size ≡ geometry.size)
-IsInside geometry (RelativeShape part) = IsNumbered part × (part.geometry ≡ geometry)
+IsInside geometry (NumberedShape part) = IsNumbered part × (part.geometry ≡ geometry)
 
--- a part reaches an area: a keyed one its own, a relative one those of its chain
+-- a part reaches an area: a keyed one its own, another those of its chain
 abbrev pub ReachesArea : Geometry → Shape → Image → ℕ → Type 0
 ReachesArea geometry (KeyedShape part) image area = part.head ≡ head_block geometry area
-ReachesArea geometry (RelativeShape part) image area = Contains (chain_of part image) area
+ReachesArea geometry (NumberedShape part) image area = Contains (chain_of part image) area
 
 -- by what it keeps in memory of its blocks
 abbrev pub HasArea : Geometry → Shape → Known → ℕ → Type 0
 HasArea geometry (KeyedShape part) known area = part.head ≡ head_block geometry area
-HasArea geometry (RelativeShape part) known area = Contains known.areas area
+HasArea geometry (NumberedShape part) known area = Contains known.areas area
 
 -- one of these parts other than this one reaches the area
 pub record IsReachedElsewhere (geometry : Geometry) (shapes : ℕ → Option Shape) (image : Image)

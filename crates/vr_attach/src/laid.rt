@@ -5,7 +5,7 @@ ghost use Rattle.vr_attach.specs.Laid.{keyed_part, numbered_part};
 
 use vr_catalog::Definition;
 use vr_space::{ChainLayout, Layout};
-use vr_types::{Geometry, PartNo};
+use vr_types::{Geometry, Kind, PartNo};
 
 /// Where a keyed part of this definition is, whose first area this is. A record of the maximum has
 /// room in an interval of its own.
@@ -26,8 +26,8 @@ pub fn layout_of(geometry: Geometry, part: PartNo, area: u32, definition: &Defin
     }
 }
 
-/// Where a relative part of this definition is, whose first area this is. A record has room in an
-/// interval.
+/// Where an entry-sequenced or relative part of this definition is, whose first area this is. A
+/// record has room in an interval.
 pub fn chain_layout_of(
     geometry: Geometry,
     part: PartNo,
@@ -45,5 +45,6 @@ pub fn chain_layout_of(
         first: area,
         geometry,
         most: definition.maximum as u16,
+        relative: definition.kind == Kind::Relative,
     }
 }

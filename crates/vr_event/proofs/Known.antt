@@ -29,6 +29,7 @@ use Rattle.vr_history.specs.RefusedFile.{is_catalog_changing, is_unknown, no_fil
 use Rattle.vr_history.specs.Replies.{first_of}
 use Rattle.vr_history.specs.State.{State}
 use Rattle.vr_history.specs.Step.{case_of}
+use Rattle.vr_attach.specs.Laid.{is_relative, numbered_part}
 use Rattle.vr_volume.specs.Laid.{catalog_shape, shape_by_kind, shape_from, shape_in, shape_of}
 use Rattle.vr_answer.specs.Here.{or_start}
 use Rattle.vr_answer.specs.InHand.{IsCaseOf, whole}
@@ -38,7 +39,7 @@ use Rattle.vr_answer.specs.Tried.{file_refusals}
 use Rattle.vr_answer.specs.declared.case.Case.{Case as CaseInHand}
 use Rattle.vr_answer.proofs.CallerLemmas.{opened_is}
 use Rattle.vr_space.proofs.CallerLemmas.{place-is}
-use Rattle.vr_event.specs.Getting.{IsRead, fits_in, is_place_by, is_place_for}
+use Rattle.vr_event.specs.Getting.{IsRead, fits_in, is_number, is_place_by, is_place_for}
 
 -- ---- a place that fits the definition of a part is one of its shape
 
@@ -46,12 +47,16 @@ module _ (geometry : Geometry) (place : List ℕ) where
   abbrev IsPlace : Shape → Type 0
   IsPlace shape = IsPlaceOf shape place
 
-  by_kind : (part area : ℕ) (definition : Definition) (kind : Kind)
+  by_kind : (part area : ℕ) (definition : Definition) (kind : Kind) → definition.kind ≡ kind
       → is_place_for kind place definition ≡ true
       → IfSome (shape_by_kind geometry part area definition kind) IsPlace
-  by_kind part area definition Keyed fits = eqb-true (length place) definition.key_length fits
-  by_kind part area definition Entry fits = tt
-  by_kind part area definition Relative fits = place-is place fits
+  by_kind part area definition Keyed same fits = eqb-true (length place) definition.key_length fits
+  by_kind part area definition Entry same fits =
+      place-is (numbered_part geometry part area definition) place
+      (ap (λ (relative : Bool). is_number relative place) (ap is_relative same) ∙ fits)
+  by_kind part area definition Relative same fits =
+      place-is (numbered_part geometry part area definition) place
+      (ap (λ (relative : Bool). is_number relative place) (ap is_relative same) ∙ fits)
 
   by_area : (part : ℕ) (area : Option AreaNo) (o : Option Definition)
       → option_map_or (is_place_by place) o false ≡ true
@@ -59,7 +64,7 @@ module _ (geometry : Geometry) (place : List ℕ) where
   by_area part area None fits = tt
   by_area part None (Some definition) fits = tt
   by_area part (Some area) (Some definition) fits =
-      by_kind part area.0 definition definition.kind fits
+      by_kind part area.0 definition definition.kind refl fits
 
   by_entry : (o : Option CatEntry)
       → option_map_or (is_place_by place) (option_and_then

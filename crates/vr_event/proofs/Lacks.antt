@@ -22,7 +22,7 @@ use Rattle.vr_types.specs.declared.request.Request.TheVariants.{EndReq, Commit, 
 use Rattle.vr_types.specs.declared.unit.Kind.TheVariants.{Keyed}
 use Rattle.vr_types.specs.declared.unit.StageKind.{StageKind}
 use Rattle.vr_space.specs.Known.{Known}
-use Rattle.vr_space.specs.Part.{KeyedShape, RelativeShape, Shape, room_of}
+use Rattle.vr_space.specs.Part.{KeyedShape, NumberedShape, Shape, room_of}
 use Rattle.vr_space.specs.Room.{Lengths}
 use Rattle.vr_space.specs.Split.{SplitNow, free_interval, keyed_fits, keyed_stage, room_after}
 use Rattle.vr_space.specs.Split.{room_by, room_by_split}
@@ -69,7 +69,7 @@ pub room-lacks : (shape : Shape) (known : Known) (image : Image) (free : ℕ) (k
     (place : List ℕ) (n need left : ℕ) → IsKeyedShape shape
     → room_of shape known image free kept place n ≡ answers.NoSpace need left
     → NoSpace need left ≡ lacks_area
-room-lacks (RelativeShape part) known image free kept place n need left keyed is = absurd keyed
+room-lacks (NumberedShape part) known image free kept place n need left keyed is = absurd keyed
 room-lacks (KeyedShape part) known image free kept place n need left keyed is =
     lacks-after (keyed_stage part known.split image place) (keyed_fits part image kept place n)
     known.split (free_interval part (block_at image part.head)) need left is

@@ -71,6 +71,7 @@ module _ (number : ℕ) (store : StoreNow) (old new : State) (now : Seen)
           room = rested.room;
           knows = rested.knows;
           reads = rested.reads;
+          firm = rested.firm;
         }) store.parts stored.parts;
     whole = stored.whole;
     befores = stored.befores;

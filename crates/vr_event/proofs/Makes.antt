@@ -8,10 +8,10 @@ use Rattle.std.specs.Option.{option_and_then, option_map, option_map_or, option_
 use Rattle.std.proofs.lemmas.Bool.{true≢false}
 use Rattle.std.proofs.lemmas.Bool.Decides.{nat_tests}
 use Rattle.std.proofs.lemmas.List.Elements.{All-cons, All-nil}
-use Rattle.vr_types.specs.Content.{Standing, item_at, record_at}
+use Rattle.vr_types.specs.Content.{Item, Standing, item_at}
 use Rattle.vr_types.specs.LogSpace.{IsLogFull, before_length, end_length, log_size}
 use Rattle.vr_types.specs.Locks.{conflict_on, first_conflict, same_unit}
-use Rattle.vr_types.specs.Seen.{Seen}
+use Rattle.vr_types.specs.Seen.{Left, Seen}
 use Rattle.vr_types.specs.declared.geometry.Geometry.{Geometry}
 use Rattle.vr_types.specs.declared.lock_name.LockName.{LockName}
 use Rattle.vr_types.specs.declared.lock_name.LockName.TheVariants.{Record}
@@ -26,6 +26,7 @@ use Rattle.vr_types.specs.declared.unit.Mode.{Mode}
 use Rattle.vr_types.specs.declared.unit.Mode.TheVariants.{Exclusive}
 use Rattle.vr_types.specs.declared.unit.PartNo.{PartNo}
 use Rattle.vr_types.specs.declared.unit.Unit.{Unit as UnitOfRecovery}
+use Rattle.vr_catalog.specs.declared.entry.CatEntry.{CatEntry}
 use Rattle.vr_log.specs.Live.{is_in, live_in, need_of, used_by}
 use Rattle.vr_log.specs.declared.record.LogRecord.TheVariants.{Before}
 use Rattle.vr_log.specs.Records.{record_bytes}
@@ -35,7 +36,7 @@ use Rattle.vr_history.specs.Change.{PairMove, old_record, place_changed, record_
 use Rattle.vr_history.specs.LogSpace.{Logging, base_logging, log_need, loggings_at, need_for}
 use Rattle.vr_history.specs.LogSpace.{new_loggings, pair_loggings}
 use Rattle.vr_history.specs.Names.{change_names, lock_names, mode_asked, record_name}
-use Rattle.vr_history.specs.Opened.{base_of}
+use Rattle.vr_history.specs.Opened.{base_of, catalog_of}
 use Rattle.vr_history.specs.RefusedFile.{refused_if}
 use Rattle.vr_history.specs.RefusedRecord.{absent, conflict_in, duplicate, gone}
 use Rattle.vr_history.specs.RefusedRecord.{has_record, held, held_by, key_changed, length_changed}
@@ -57,17 +58,16 @@ use Rattle.vr_record_file.specs.Now.{state_now, with_event}
 use Rattle.vr_record_file.proofs.Standing.{logged_in_the_way}
 use Rattle.vr_undo.specs.Records.{before_of, images_in, is_logged_in}
 use Rattle.vr_undo.proofs.CallerLemmas.{logged-at}
-use Rattle.vr_space.specs.Part.{record_read}
-use Rattle.vr_space.proofs.CallerLemmas.{item-read}
 use Rattle.vr_types.specs.Faults.{Faults}
 use Rattle.vr_event.specs.Cause.{HasReplyCause, IsEnteredFor}
 use Rattle.vr_store.specs.Change.{IsMadeOf, has_logged, need_with}
-use Rattle.vr_event.specs.Putting.{IsChange, IsReadyAt, IsReadyFor, IsToMake, need_at}
-use Rattle.vr_store.specs.Store.{IsStored, PartNow, StoreNow, part_among}
+use Rattle.vr_event.specs.Putting.{AreLaidBy, IsChange, IsReadyAt, IsReadyFor, IsToMake, need_at}
+use Rattle.vr_store.specs.Store.{IsStored, PartNow, StoreNow, left_among, part_among, shape_among}
 use Rattle.vr_event.specs.Volume.{IsHeld, IsWhole, VolumeNow}
-use Rattle.vr_store.proofs.CallerLemmas.{number-at, record-read, rested-at}
 use Rattle.vr_event.proofs.Areas.{owned-same, unlaid-same}
+use Rattle.vr_event.proofs.HeldItems.{item-held}
 use Rattle.vr_event.proofs.Weighs.{asks-change}
+use Rattle.vr_event.proofs.Withdrawing.{left-made}
 
 none-some : {X : Type 0} {x : X} → None ≡ Some x → ⊥
 none-some same = cc
@@ -356,22 +356,22 @@ module _ {B : Type 0} (seen : B → Seen) (opening : State) (volume : VolumeNow 
       (subst (λ (n : ℕ). IsLogFull volume.store.log.geometry
       (used_by volume.store.log.records) n) (sym need-is) full)))
 
-  pub to-make : (one : PartNow) → part_among volume.store.parts part.0 ≡ Some one
+  -- its parts are laid by the state
+  parts-laid : AreLaidBy volume.file.geometry (catalog_of state) volume.store.parts
+  parts-laid = subst (λ (entries : List CatEntry).
+      AreLaidBy volume.file.geometry entries volume.store.parts) is-held.file.now.catalog
+      (whole.laid going)
+
+  pub to-make : Left (seen volume.blocks) (seen volume.blocks).cur → (one : PartNow)
+      → part_among volume.store.parts part.0 ≡ Some one
       → IsToMake volume.number volume.store unit part place old state (seen volume.blocks)
-  to-make one found =
-      let set = whole.set going in
-      let found-there : record_read one.shape (seen volume.blocks).cur place ≡ old =
-      record-read volume.store (seen volume.blocks) set volume.number state part.0 one found stored
-      place
-      ∙ sym (ap (λ (n : ℕ). record_at (state.contents n) place) base) ∙ sym ready.at.old_is in
+  to-make left one found =
       record {
         stored = stored;
-        stands = ap (λ (o : Option (List ℕ)). option_map Standing o) (sym found-there)
-            ∙ sym (item-read one.shape (seen volume.blocks).cur place)
-            ∙ (rested-at volume.store (seen volume.blocks) set volume.number state part.0 one found
-            stored).reads place
-            ∙ ap (λ (n : ℕ). item_at (state.contents n) place)
-            (number-at volume.store (seen volume.blocks) set part.0 one found);
+        stands = subst (λ (n : ℕ). option_map Standing old ≡ item_at (state.contents n) place) base
+            (item-held case volume.store (seen volume.blocks) (whole.set going) left volume.number
+            stored parts-laid place old ready.at one
+            (ap (part_among volume.store.parts) base ∙ found));
         alone = subst (λ (n : ℕ). All (λ (logged : Logged). logged.part ≡ n
             → logged.place ≡ place → logged.unit ≡ unit) state.logged) base
             (alone-logged case place old clusters ready.at is-held.file.now.locked);
@@ -404,6 +404,24 @@ module _ {B : Type 0} (seen : B → Seen) (opening : State) (volume : VolumeNow 
     numbers = made.numbers;
   }
 
+  -- which is what the part leaves at the place
+  made-left : first_of (file_refusals case) ≡ None → (part_among volume.store.parts part.0 ≢ None)
+      → left_among volume.store.parts part.0 state place (new_record request)
+      ≡ option_map Standing (new_record request)
+  made-left none laid = of (part_among volume.store.parts part.0) refl
+    where
+      of : (found : Option PartNow) → part_among volume.store.parts part.0 ≡ found
+          → left_among volume.store.parts part.0 state place (new_record request)
+          ≡ option_map Standing (new_record request)
+      of None is = absurd (laid is)
+      of (Some one) is =
+          subst (λ (n : ℕ). left_among volume.store.parts n state place (new_record request)
+          ≡ option_map Standing (new_record request)) base
+          (left-made volume.file.geometry case volume.store.parts parts-laid none one.shape
+          (ap (shape_among volume.store.parts) base
+          ∙ ap (λ (o : Option PartNow). option_map (λ (p : PartNow). p.shape) o) is)
+          (asks-change case request place ready.at.place_is) place)
+
   -- the reply is that of a request that is done
   pub replied : IsDoneReply reply
   replied =
@@ -421,16 +439,20 @@ module _ {B : Type 0} (seen : B → Seen) (opening : State) (volume : VolumeNow 
       (change-ends case request (asks-change case request place ready.at.place_is))))
 
   -- a volume of which it was made is held by the state after it
-  pub held-put : (to file : FileNow) (store : StoreNow) (blocks : B) (after line : ℕ)
+  pub held-put : first_of (file_refusals case) ≡ None
+      → (part_among volume.store.parts part.0 ≢ None) → (to file : FileNow) (store : StoreNow)
+      (blocks : B) (after line : ℕ)
       → file.entries ≡ volume.file.entries → file.geometry ≡ volume.file.geometry
       → file.catalog ≡ volume.file.catalog
       → to ≡ with_event after unit line (Asked request reply) (lets_go unit.deck request file)
       → store.space ≡ volume.store.space → IsStateOf opening to
-      → ((next : State) → IsMadeOf unit part place (option_map Standing (new_record request))
+      → ((next : State) → IsMadeOf unit part place
+      (left_among volume.store.parts part.0 state place (new_record request))
       (need_at volume.store unit part place old) state next
       → IsStored volume.number store next (seen blocks))
       → IsHeld seen opening (record volume { blocks = blocks; store = store; file = to })
-  held-put to file store blocks after line entries geometries catalogs leaves space is stored-by =
+  held-put none laid to file store blocks after line entries geometries catalogs leaves space is
+      stored-by =
       let entry : Entry = entry_next file.entries after unit line (Asked request reply) in
       let done = replied in
       let next : State = after_asked case (Done done.feedback done.shown done.bytes) in
@@ -456,17 +478,21 @@ module _ {B : Type 0} (seen : B → Seen) (opening : State) (volume : VolumeNow 
             volume.store.space store.space geometry
             (ap (λ (f : FileNow). f.catalog) leaves ∙ catalogs) space (is-held.unlaid going);
         stored = λ on. subst (λ (s : State). IsStored volume.number store s (seen blocks))
-            (sym leads) (stored-by next (made-of next made));
+            (sym leads) (stored-by next
+            (subst (λ (item : Option Item). IsMadeOf unit part place item
+            (need_at volume.store unit part place old) state next)
+            (sym (made-left none laid)) (made-of next made)));
       }
 
-  pub to-make-laid : (part_among volume.store.parts part.0 ≢ None)
+  pub to-make-laid : Left (seen volume.blocks) (seen volume.blocks).cur
+      → (part_among volume.store.parts part.0 ≢ None)
       → IsToMake volume.number volume.store unit part place old state (seen volume.blocks)
-  to-make-laid laid = of (part_among volume.store.parts part.0) refl
+  to-make-laid left laid = of (part_among volume.store.parts part.0) refl
     where
       of : (found : Option PartNow) → part_among volume.store.parts part.0 ≡ found
           → IsToMake volume.number volume.store unit part place old state (seen volume.blocks)
       of None is = absurd (laid is)
-      of (Some one) is = to-make one is
+      of (Some one) is = to-make left one is
 
 -- ---- its entry
 

@@ -90,12 +90,12 @@ module _ (store : StoreNow) (image : Image) (part : ℕ) (place : List ℕ) wher
           record { no_stage = both.0; room = by_item item long both.1 }
         where
           by_item : (item : Option (List ℕ)) → IfSome item (λ (bytes : List ℕ). n ≡ length bytes)
-              → IsTrue (fits_at one.shape image kept place n)
+              → IsTrue (fits_at one.shape one.known image kept place n)
               → IfSome item (λ (bytes : List ℕ).
-              IsTrue (fits_at one.shape image kept place (length bytes)))
+              IsTrue (fits_at one.shape one.known image kept place (length bytes)))
           by_item None long fits = tt
           by_item (Some bytes) long fits =
-              subst (λ (m : ℕ). IsTrue (fits_at one.shape image kept place m)) long fits
+              subst (λ (m : ℕ). IsTrue (fits_at one.shape one.known image kept place m)) long fits
 
   pub room-full : (n need left : ℕ) → IsRoomAt store image part place n (NoSpace need left)
       → HasRoomAt store image part place None

@@ -107,6 +107,7 @@ module _ (number : ℕ) (log : LogNow) (parts : List PartNow) (contents : ℕ �
     knows = opened.knows;
     reads = λ place. opened.holds place (item_of part.shape now.cur place)
         (read-may left part opened place);
+    firm = λ place found none may. opened.holds place found may;
   }
 
   pub opened-stored : Left now now.cur

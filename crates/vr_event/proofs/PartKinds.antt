@@ -1,7 +1,7 @@
 -- The kind of a part is that of its cluster: of the part that the catalog lays, and of the data set
 -- that a request's file is on.
 use Rattle.std.proofs.Common.{◌≡◌, ◌==◌, ℕ, Bool, true, false, cond, IsTrue, List, [], ◌∷◌}
-use Rattle.std.proofs.Common.{Option, Some, None, refl, sym, subst, ◌∙◌}
+use Rattle.std.proofs.Common.{Option, Some, None, refl, sym, ap, subst, ◌∙◌, true≢false}
 use Rattle.std.specs.Prelude.{IfSome, find}
 use Rattle.std.specs.Option.{option_and_then, option_map_or}
 use Rattle.std.proofs.lemmas.Bool.{eqb-true}
@@ -16,7 +16,7 @@ use Rattle.vr_catalog.specs.Catalog.{Alternate, cluster_definition, definition_o
 use Rattle.vr_catalog.specs.Definition.{catalog_definition}
 use Rattle.vr_catalog.specs.declared.definition.Definition.{Definition}
 use Rattle.vr_catalog.specs.declared.entry.CatEntry.{CatEntry}
-use Rattle.vr_space.specs.Part.{KeyedShape, RelativeShape, Shape}
+use Rattle.vr_space.specs.Part.{KeyedShape, NumberedShape, Shape}
 use Rattle.vr_attach.specs.Laid.{catalog_shape, keyed_shape, numbered_part, shape_by_kind}
 use Rattle.vr_attach.specs.Laid.{shape_from, shape_in, shape_of}
 use Rattle.vr_history.specs.Case.{Case, file_of}
@@ -31,7 +31,7 @@ use Rattle.vr_event.specs.Putting.{AreLaidBy, IsKeyedIn, IsKeyedShape}
 
 abbrev pub IsOfKind : Geometry → ℕ → Definition → Shape → Type 0
 IsOfKind geometry part definition (KeyedShape keyed) = definition.kind ≡ Keyed
-IsOfKind geometry part definition (RelativeShape numbered) = (definition.kind ≡ Relative)
+IsOfKind geometry part definition (NumberedShape numbered) = (is_keyed definition.kind ≡ false)
     × ((area : ℕ) × (numbered ≡ numbered_part geometry part area definition))
 
 module _ (geometry : Geometry) where
@@ -40,10 +40,12 @@ module _ (geometry : Geometry) where
       → IsOfKind geometry part definition shape
   by-kind part area definition Keyed shape is there = subst (IsOfKind geometry part definition)
       (same_Some (keyed_shape geometry part area definition) shape there) is
-  by-kind part area definition Entry shape is there = absurd (none-some shape there)
+  by-kind part area definition Entry shape is there = subst (IsOfKind geometry part definition)
+      (same_Some (NumberedShape (numbered_part geometry part area definition)) shape there)
+      (ap is_keyed is, (area, refl))
   by-kind part area definition Relative shape is there = subst (IsOfKind geometry part definition)
-      (same_Some (RelativeShape (numbered_part geometry part area definition)) shape there)
-      (is, (area, refl))
+      (same_Some (NumberedShape (numbered_part geometry part area definition)) shape there)
+      (ap is_keyed is, (area, refl))
 
   by-area : (part : ℕ) (area : Option AreaNo) (definition : Definition) (shape : Shape)
       → shape_from geometry part area definition ≡ Some shape
@@ -108,6 +110,34 @@ of-kind geometry entries part definition shape is there =
     by-zero geometry part (part == 0) (entry_with_part entries part) definition shape
     (entry-numbered entries part) is there
 
+-- a part that is laid has a definition
+pub laid-defined : (geometry : Geometry) (entries : List CatEntry) (part : ℕ) (shape : Shape)
+    → shape_in geometry entries part ≡ Some shape
+    → (definition : Definition) × (definition_of entries part ≡ Some definition)
+laid-defined geometry entries part shape there =
+    by_zero (part == 0) (entry_with_part entries part) there
+  where
+    by_cluster : (area : Option AreaNo) (number : ℕ) (o : Option Definition)
+        → option_and_then (shape_from geometry number area) o ≡ Some shape
+        → (definition : Definition) × (o ≡ Some definition)
+    by_cluster area number None laid = absurd (none-some shape laid)
+    by_cluster area number (Some definition) laid = (definition, refl)
+
+    by_entry : (o : Option CatEntry) → option_and_then (shape_of geometry) o ≡ Some shape
+        → (definition : Definition) × (option_and_then
+        (λ (entry : CatEntry). cluster_definition entry.entry_kind entry) o ≡ Some definition)
+    by_entry None laid = absurd (none-some shape laid)
+    by_entry (Some entry) laid = by_cluster entry.first_area entry.part.0
+        (cluster_definition entry.entry_kind entry) laid
+
+    by_zero : (zero : Bool) (o : Option CatEntry)
+        → cond zero (Some (catalog_shape geometry)) (option_and_then (shape_of geometry) o)
+        ≡ Some shape
+        → (definition : Definition) × (cond zero (Some catalog_definition) (option_and_then
+        (λ (entry : CatEntry). cluster_definition entry.entry_kind entry) o) ≡ Some definition)
+    by_zero true o laid = (catalog_definition, refl)
+    by_zero false o laid = by_entry o laid
+
 -- ---- the data set that a file is on
 
 module _ (state : State) (definition : Definition) where
@@ -168,9 +198,9 @@ fills-keyed geometry case parts laid fills = by_definition (definition_in (opene
         → definition.kind ≡ Keyed → IfSome o IsKeyedShape
     by_shape None there definition is keyed = tt
     by_shape (Some (KeyedShape part)) there definition is keyed = tt
-    by_shape (Some (RelativeShape part)) there definition is keyed =
-        let of = of-kind geometry entries (base_of case) definition (RelativeShape part) is there in
-        let no : Keyed ≡ Relative = sym keyed ∙ of.0 in absurd cc
+    by_shape (Some (NumberedShape part)) there definition is keyed =
+        let of = of-kind geometry entries (base_of case) definition (NumberedShape part) is there in
+        true≢false (sym (ap is_keyed keyed) ∙ of.0)
 
     by_definition : (o : Option Definition) → definition_in (opened case) ≡ o
         → option_map_or (λ (known : Definition). is_keyed known.kind) o false ≡ true

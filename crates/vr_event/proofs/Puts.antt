@@ -117,28 +117,28 @@ module _ (store kept : StoreNow) (now : Seen) (unit : UnitOfRecovery) (part : Pa
 
     -- a record that stands takes no more room once it is kept
     fits-kept : (m : ℕ) (there : Bool)
-        → fits_at one.shape now.cur (lengths (cond there (images_in store.undo)
+        → fits_at one.shape one.known now.cur (lengths (cond there (images_in store.undo)
         (images_in store.undo ++ change-image ∷ []))) place m
-        ≡ fits_at one.shape now.cur (lengths (images_in store.undo)) place m
+        ≡ fits_at one.shape one.known now.cur (lengths (images_in store.undo)) place m
     fits-kept m true = refl
     fits-kept m false =
-        ap (λ (l : Lengths). fits_at one.shape now.cur l place m)
+        ap (λ (l : Lengths). fits_at one.shape one.known now.cur l place m)
         (kept-append (images_in store.undo) change-image part.0)
         ∙ by_mine (part.0 == part.0) was reads
       where
         by_mine : (mine : Bool) (item : Option (List ℕ))
             → item_of one.shape now.cur place ≡ option_map Standing item
-            → fits_at one.shape now.cur (kept_more (lengths (images_in store.undo))
+            → fits_at one.shape one.known now.cur (kept_more (lengths (images_in store.undo))
             (cond mine (length_of place (option_and_then record_of (option_map Standing item)))
             None)) place m
-            ≡ fits_at one.shape now.cur (lengths (images_in store.undo)) place m
+            ≡ fits_at one.shape one.known now.cur (lengths (images_in store.undo)) place m
         by_mine false item is = refl
         by_mine true None is = refl
         by_mine true (Some bytes) is = kept_fits one.shape now.cur (lengths (images_in store.undo))
             place bytes (length bytes)
             (rest-stands one.shape (owners_of kept) now
             (rest-sound one.shape (owners_of kept) now its-rest.rests) left) is
-            (omega arith) place m
+            (omega arith) one.known place m
 
     can-kept : (item : Option (List ℕ))
         → IsFitting one.shape one.known now.cur (lengths (images_in store.undo)) place item
@@ -146,12 +146,12 @@ module _ (store kept : StoreNow) (now : Seen) (unit : UnitOfRecovery) (part : Pa
     can-kept item fits = record { no_stage = fits.no_stage; room = by_item item fits.room }
       where
         by_item : (item : Option (List ℕ))
-            → IfSome item (λ (bytes : List ℕ). IsTrue (fits_at one.shape now.cur
+            → IfSome item (λ (bytes : List ℕ). IsTrue (fits_at one.shape one.known now.cur
             (lengths (images_in store.undo)) place (length bytes)))
-            → HasRoomFor one.shape now.cur (lengths (images_in kept.undo)) place item
+            → HasRoomFor one.shape one.known now.cur (lengths (images_in kept.undo)) place item
         by_item None room = tt
         by_item (Some bytes) room = inl
-            (ap (λ (images : List BeforeImage). fits_at one.shape now.cur (lengths images) place
+            (ap (λ (images : List BeforeImage). fits_at one.shape one.known now.cur (lengths images) place
             (length bytes)) images-are
             ∙ fits-kept (length bytes) prepared.logged ∙ room)
 

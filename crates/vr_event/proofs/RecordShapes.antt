@@ -1,6 +1,6 @@
 -- A record that a definition allows may stand in the part that the catalog lays by it.
-use Rattle.std.proofs.Common.{◌≡◌, ◌==◌, ℕ, Bool, true, false, cond, List, Option, Some, None, sym}
-use Rattle.std.proofs.Common.{◌<◌, ◌^◌, subst, length, arith}
+use Rattle.std.proofs.Common.{◌≡◌, ◌==◌, ℕ, Bool, true, false, cond, List, Option, Some, None, refl}
+use Rattle.std.proofs.Common.{◌<◌, ◌^◌, sym, ap, subst, length, arith}
 use Rattle.std.specs.Prelude.{IfSome}
 use Rattle.std.specs.Option.{option_and_then}
 use Rattle.vr_catalog.specs.Catalog.{cluster_definition, definition_of, entry_with_part}
@@ -11,26 +11,41 @@ use Rattle.vr_types.specs.declared.geometry.Geometry.{Geometry}
 use Rattle.vr_types.specs.declared.unit.AreaNo.{AreaNo}
 use Rattle.vr_types.specs.declared.unit.Kind.{Kind}
 use Rattle.vr_types.specs.declared.unit.Kind.TheVariants.{Keyed, Entry, Relative}
-use Rattle.vr_space.specs.Part.{IsRecordOf, Shape}
-use Rattle.vr_space.proofs.CallerLemmas.{record-length}
+use Rattle.vr_space.specs.Part.{IsRecordOf, NumberedShape, Shape}
+use Rattle.vr_space.proofs.CallerLemmas.{place-is, record-length}
+use Rattle.vr_attach.specs.Laid.{is_relative, numbered_part}
 use Rattle.vr_volume.specs.Laid.{catalog_shape, shape_by_kind, shape_from, shape_of}
 use Rattle.vr_event.specs.Putting.{AreLaidBy, FitsItem, FitsLength, FitsRecord, IsRecordBy}
-use Rattle.vr_event.specs.Putting.{IsRecordFor}
+use Rattle.vr_event.specs.Putting.{IsNumberedRecord, IsRecordFor}
 use Rattle.vr_store.specs.Store.{PartNow, shape_among}
 
 module _ (geometry : Geometry) (place bytes : List ℕ) where
   abbrev IsRecord : Shape → Type 0
   IsRecord shape = IsRecordOf shape place bytes
 
-  by_kind : (part area : ℕ) (definition : Definition) (kind : Kind)
+  numbered : (part area : ℕ) (definition : Definition) (relative : Bool)
+      → is_relative definition.kind ≡ relative
+      → IsNumberedRecord relative definition place bytes
+      → IsRecord (NumberedShape (numbered_part geometry part area definition))
+  numbered part area definition relative same is =
+      let here : IsNumberedRecord (is_relative definition.kind) definition place bytes =
+      subst (λ (b : Bool). IsNumberedRecord b definition place bytes) (sym same) is in
+      record {
+        numbered = place-is (numbered_part geometry part area definition) place here.number;
+        whole = here.whole;
+      }
+
+  by_kind : (part area : ℕ) (definition : Definition) (kind : Kind) → definition.kind ≡ kind
       → IsRecordFor kind definition place bytes
       → IfSome (shape_by_kind geometry part area definition kind) IsRecord
-  by_kind part area definition Keyed is = (
+  by_kind part area definition Keyed same is = (
     record { least = is.least; most = is.most },
     is.key,
   )
-  by_kind part area definition Entry is = tt
-  by_kind part area definition Relative is = record { numbered = is.slot; whole = is.whole }
+  by_kind part area definition Entry same is =
+      numbered part area definition false (ap is_relative same) is
+  by_kind part area definition Relative same is =
+      numbered part area definition true (ap is_relative same) is
 
   by_area : (part : ℕ) (area : Option AreaNo) (o : Option Definition)
       → IfSome o (λ (definition : Definition). IsRecordBy definition place bytes)
@@ -38,7 +53,7 @@ module _ (geometry : Geometry) (place bytes : List ℕ) where
   by_area part area None is = tt
   by_area part None (Some definition) is = tt
   by_area part (Some area) (Some definition) is =
-      by_kind part area.0 definition definition.kind is
+      by_kind part area.0 definition definition.kind refl is
 
   by_entry : (o : Option CatEntry)
       → IfSome (option_and_then

@@ -19,7 +19,7 @@ use Rattle.vr_types.specs.declared.unit.AreaNo.{AreaNo}
 use Rattle.vr_types.specs.declared.unit.PartNo.{PartNo}
 use Rattle.vr_types.specs.declared.unit.StageKind.{StageKind}
 use Rattle.vr_types.specs.declared.unit.Unit.{Unit as UnitOfRecovery}
-use Rattle.vr_space.specs.Part.{IsClaimed, IsStageOf, KeyedShape, OwnersAfter, RelativeShape, Shape}
+use Rattle.vr_space.specs.Part.{IsClaimed, IsStageOf, KeyedShape, OwnersAfter, NumberedShape, Shape}
 use Rattle.vr_space.proofs.CallerLemmas.{interval-owners}
 use Rattle.vr_undo.specs.Records.{befores_of}
 use Rattle.vr_history.specs.Effects.{claims, has_areas, has_part, parts_laid}
@@ -160,7 +160,7 @@ keyed-owners : (shape : Shape) → IsKeyedShape shape → (part : PartNo) (kind 
     → new ≡ old
 keyed-owners (KeyedShape keyed) is part kind old new stage after =
     interval-owners part kind old new stage after
-keyed-owners (RelativeShape numbered) is part kind old new stage after = absurd is
+keyed-owners (NumberedShape numbered) is part kind old new stage after = absurd is
 
 pub takes-none : (parts : List PartNow) (part : PartNo) (old new : List (Option PartNo))
     → part_among parts part.0 ≢ None → IsKeyedIn parts part.0 → (kind : StageKind)

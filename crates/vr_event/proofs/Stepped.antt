@@ -1,29 +1,37 @@
 -- What a step of a BACKOUT leaves of a volume that is held.
-use Rattle.std.proofs.Common.{◌≡◌, ℕ, List, Option, Some, None, refl, ap, sym, ◌∙◌}
-use Rattle.std.proofs.Common.{subst, Result, Ok, Err}
-use Rattle.std.specs.Option.{option_and_then, option_map_or}
+use Rattle.std.proofs.Common.{◌≡◌, ℕ, List, Option, Some, None, false, refl, ap, sym, ◌∙◌}
+use Rattle.std.proofs.Common.{subst, true≢false, Result, Ok, Err}
+use Rattle.std.specs.Option.{option_and_then, option_map, option_map_or}
 use Rattle.std.specs.Prelude.{IfErr, OnOk}
-use Rattle.vr_catalog.specs.Catalog.{definition_of}
 use Rattle.vr_catalog.specs.declared.definition.Definition.{Definition}
-use Rattle.vr_types.specs.Content.{Item, item_at}
+use Rattle.vr_types.specs.Content.{Item, Standing, Withdrawn, item_at, record_of}
 use Rattle.vr_types.specs.Seen.{Seen}
 use Rattle.vr_types.specs.Space.{free_count}
+use Rattle.vr_types.specs.declared.geometry.Geometry.{Geometry}
 use Rattle.vr_types.specs.declared.unit.Kind.{Kind}
 use Rattle.vr_types.specs.declared.unit.Kind.TheVariants.{Entry, Keyed, Relative}
 use Rattle.vr_types.specs.declared.unit.PartNo.{PartNo}
 use Rattle.vr_types.specs.declared.unit.Unit.{Unit as UnitOfRecovery}
 use Rattle.vr_history.specs.declared.entry.What.TheVariants.{Undone}
-use Rattle.vr_history.specs.Effects.{changes, last_kept, takes_out}
+use Rattle.vr_space.specs.Numbered.{left_in}
+use Rattle.vr_space.specs.Part.{KeyedShape, NumberedShape, Shape, left_by}
+use Rattle.vr_space.specs.Rosters.{Numbered}
+use Rattle.vr_space.proofs.CallerLemmas.{left-standing}
+use Rattle.vr_attach.specs.Laid.{is_relative}
+use Rattle.vr_history.specs.Effects.{changes, last_kept, takes_out, with_change}
 use Rattle.vr_history.specs.Opened.{catalog_of}
+use Rattle.vr_history.specs.Replies.{is_keyed}
 use Rattle.vr_history.specs.State.{BeforeImage, State}
 use Rattle.vr_history.specs.Step.{change_back, put_back, puts_back, withdrawn_by}
 use Rattle.vr_history.proofs.CallerLemmas.{state_of-append}
 use Rattle.vr_record_file.specs.Now.{FileNow, IsStateOf, entry_next, state_now, with_event}
+use Rattle.vr_volume.specs.Committed.{IsKeptIn}
 use Rattle.vr_store.specs.LastImage.{IsBackIn}
 use Rattle.vr_store.specs.Store.{IsStored, StoreNow}
-use Rattle.vr_event.specs.Volume.{AreServedClusters, IsFileHeld, IsHeld, IsServedKind, VolumeNow}
+use Rattle.vr_event.specs.Volume.{IsFileHeld, IsHeld, VolumeNow}
 use Rattle.vr_event.proofs.Areas.{owned-same, unlaid-same}
-use Rattle.vr_event.proofs.Served.{definition_served}
+use Rattle.vr_event.proofs.EntryIntervals.{lengths-agree}
+use Rattle.vr_event.proofs.PartKinds.{IsOfKind, laid-defined, of-kind}
 
 -- where a write failed, the areas are as they were
 pub known-with : {B : Type 0} (seen : B → Seen) (opening : State) (volume : VolumeNow B)
@@ -53,46 +61,73 @@ held-at {B} seen opening volume blocks number store same-blocks same-number same
 
 -- ---- a before-image that is put back
 
--- of a cluster that is served an added record goes
-kind-withdraws : (kind : Kind) (found : Option Item) → IsServedKind kind
-    → withdrawn_by kind found ≡ None
-kind-withdraws Keyed found is = refl
-kind-withdraws Relative found is = refl
-kind-withdraws Entry found is = absurd is
+-- where no record comes back, a part leaves what its kind has withdrawn
+withdrawn-kind : (kind : Kind) (found : Option Item) → is_keyed kind ≡ false
+    → withdrawn_by kind found ≡ left_in (is_relative kind) found None
+withdrawn-kind Keyed found numbered = absurd (true≢false numbered)
+withdrawn-kind Relative found numbered = refl
+withdrawn-kind Entry None numbered = refl
+withdrawn-kind Entry (Some item) numbered =
+    ap (λ (n : ℕ). Some (Withdrawn n)) (sym (lengths-agree item))
 
-none-withdrawn : (found : Option Item) (o : Option Definition)
-    → ((definition : Definition) → o ≡ Some definition → IsServedKind definition.kind)
-    → option_and_then (λ (definition : Definition). withdrawn_by definition.kind found) o ≡ None
-none-withdrawn found None each = refl
-none-withdrawn found (Some definition) each =
-    kind-withdraws definition.kind found (each definition refl)
+withdrawn-shape : (geometry : Geometry) (part : ℕ) (definition : Definition) (shape : Shape)
+    (found : Option Item) → IsOfKind geometry part definition shape
+    → withdrawn_by definition.kind found ≡ left_by shape found None
+withdrawn-shape geometry part definition (KeyedShape keyed) found of =
+    ap (λ (kind : Kind). withdrawn_by kind found) of
+withdrawn-shape geometry part definition (NumberedShape numbered) found of =
+    withdrawn-kind definition.kind found of.0
+    ∙ ap (λ (it : Numbered). left_in it.relative found None) (sym of.1.1)
 
-back-item : (state : State) (last : BeforeImage) → AreServedClusters (catalog_of state)
-    → (old : Option Item) → put_back state last old ≡ old
-back-item state last served (Some old) = refl
-back-item state last served None =
-    none-withdrawn (item_at (state.contents last.part) last.place)
-    (definition_of (catalog_of state) last.part)
-    (λ definition there. definition_served (catalog_of state) last.part definition served there)
+module _ (geometry : Geometry) (state : State) (unit : UnitOfRecovery) (last : BeforeImage)
+    (old : Option (List ℕ)) (same : last.old ≡ option_map Standing old)
+    (kept : IsKeptIn geometry state last) where
+  abbrev found : Option Item
+  found = item_at (state.contents last.part) last.place
 
-pub undone-in : (state : State) (unit : UnitOfRecovery) (last : BeforeImage)
-    → AreServedClusters (catalog_of state) → last_kept state unit ≡ Some last
-    → IsBackIn unit state (puts_back unit state)
-undone-in state unit last served is =
-    subst (λ (found : Option BeforeImage). IsBackIn unit state (option_map_or
-    (λ (kept : BeforeImage). takes_out unit (changes (change_back state kept) state)) found state))
-    (sym is)
-    (record {
-      last = last;
-      is = is;
-      contents = ap (λ (item : Option Item). Rattle.vr_history.specs.Effects.with_change
-          (record { part = last.part; place = last.place; new = item }) state.contents)
-          (back-item state last served last.old);
-      befores = refl;
-      logged = refl;
-      used = refl;
-      numbers = refl;
-    })
+  -- what comes back is what the part leaves at the place
+  back-given : (given : Option (List ℕ))
+      → put_back state last (option_map Standing given) ≡ left_by kept.shape found given
+  back-given (Some bytes) = sym (left-standing kept.shape found bytes)
+  back-given None =
+      let entries = catalog_of state in
+      let defined = laid-defined geometry entries last.part kept.shape kept.laid in
+      ap (λ (o : Option Definition). option_and_then
+      (λ (definition : Definition). withdrawn_by definition.kind found) o) defined.1
+      ∙ withdrawn-shape geometry last.part defined.0 kept.shape found
+      (of-kind geometry entries last.part defined.0 kept.shape defined.1 kept.laid)
+
+  back-item : put_back state last last.old
+      ≡ left_by kept.shape found (option_and_then record_of last.old)
+  back-item =
+      ap (put_back state last) same ∙ back-given old
+      ∙ ap (left_by kept.shape found) (by_old old)
+      ∙ ap (λ (o : Option Item). left_by kept.shape found (option_and_then record_of o)) (sym same)
+    where
+      by_old : (given : Option (List ℕ))
+          → given ≡ option_and_then record_of (option_map Standing given)
+      by_old None = refl
+      by_old (Some bytes) = refl
+
+  pub undone-in : last_kept state unit ≡ Some last
+      → IsBackIn geometry unit state (puts_back unit state)
+  undone-in is =
+      subst (λ (found : Option BeforeImage). IsBackIn geometry unit state (option_map_or
+      (λ (kept : BeforeImage). takes_out unit (changes (change_back state kept) state)) found
+      state)) (sym is)
+      (record {
+        last = last;
+        is = is;
+        shape = kept.shape;
+        laid = kept.laid;
+        contents = ap (λ (item : Option Item). with_change
+            (record { part = last.part; place = last.place; new = item }) state.contents)
+            back-item;
+        befores = refl;
+        logged = refl;
+        used = refl;
+        numbers = refl;
+      })
 
 -- the state once it is entered
 pub undone-state : (opening : State) (file to : FileNow) (after : ℕ) (unit : UnitOfRecovery)

@@ -10,10 +10,10 @@ use Rattle.vr_types.specs.Seen.{Left, Seen}
 use Rattle.vr_types.specs.Space.{free_count}
 use Rattle.vr_types.specs.declared.reply.Refusal.TheVariants.{NoSpace}
 use Rattle.vr_types.specs.declared.unit.Kind.TheVariants.{Keyed}
-use Rattle.vr_space.specs.Part.{KeyedShape, RelativeShape, Shape, owned_count, room_of}
+use Rattle.vr_space.specs.Part.{KeyedShape, NumberedShape, Shape, owned_count, room_of}
 use Rattle.vr_space.specs.Room.{Lengths}
 use Rattle.vr_space.specs.Rosters.{Numbered}
-use Rattle.vr_space.specs.Slots.{slot_room}
+use Rattle.vr_space.specs.Numbered.{numbered_room}
 use Rattle.vr_space.specs.declared.room.Room.TheVariants as answers
 use Rattle.vr_attach.specs.Laid.{numbered_part}
 use Rattle.vr_history.specs.Case.{Case, new_record}
@@ -27,12 +27,14 @@ use Rattle.vr_volume.specs.PutBack.{lengths_kept}
 use Rattle.vr_event.specs.Lacking.{IsWanting, LacksRoomIn}
 use Rattle.vr_event.specs.Putting.{AreLaidBy, IsChange, IsSpaceOf, LacksArea}
 use Rattle.vr_store.specs.Room.{IsRoomAt}
-use Rattle.vr_store.specs.Store.{IsSet, PartNow, Stands, StoreNow, part_among}
+use Rattle.vr_store.specs.Store.{IsSet, IsStored, PartNow, Stands, StoreNow, part_among}
 use Rattle.vr_event.proofs.PartKinds.{IsOfKind, of-kind, opened-by}
-use Rattle.vr_event.proofs.Lacks.{keyed-none, room-lacks}
-use Rattle.vr_answer.specs.Tried.{record_refusals}
+use Rattle.vr_event.proofs.TakenPlaces.{takes-given}
+use Rattle.vr_event.proofs.Lacks.{keyed-none, long-some, room-lacks}
+use Rattle.vr_answer.specs.Tried.{file_refusals, record_refusals}
 use Rattle.vr_event.proofs.Weighs.{change-defined, no-wants}
-use Rattle.vr_event.proofs.SlotAreas.{IsCountedOn, counted-on, room-unwanted, room-wanting}
+use Rattle.vr_event.proofs.ChainAreas.{IsCountedOn, counted-on, room-unwanted, room-wanting}
+use Rattle.vr_event.proofs.Unrefused.{valid-length}
 
 module _ (case : Case) (store : StoreNow) (now : Seen) (set : IsSet store now)
     (left-of : Left now now.cur) (stands : Stands store now)
@@ -53,16 +55,18 @@ module _ (case : Case) (store : StoreNow) (now : Seen) (set : IsSet store now)
       ∙ ap (λ (o : Option PartNow). option_map (λ (p : PartNow). p.shape) o) there)
 
   -- a fact of the room of the part's own chain, where it has the areas that the state gives it
-  slots-by : (one : PartNow) → part_among store.parts (base_of case) ≡ Some one
-      → (definition : Definition) (part : Numbered) → one.shape ≡ RelativeShape part
-      → IsOfKind case.geometry (base_of case) definition (RelativeShape part)
+  chain-by : (one : PartNow) → part_among store.parts (base_of case) ≡ Some one
+      → (definition : Definition) (part : Numbered) → one.shape ≡ NumberedShape part
+      → IsOfKind case.geometry (base_of case) definition (NumberedShape part)
       → (fact : Numbered → Type 0)
-      → ((area : ℕ) → IsCountedOn (numbered_part case.geometry (base_of case) area definition)
-      now.cur (areas_of case.state (base_of case))
+      → ((area : ℕ)
+      → one.shape ≡ NumberedShape (numbered_part case.geometry (base_of case) area definition)
+      → IsCountedOn (numbered_part case.geometry (base_of case) area definition) now.cur
+      (areas_of case.state (base_of case))
       → fact (numbered_part case.geometry (base_of case) area definition)) → fact part
-  slots-by one there definition part shaped of fact is =
+  chain-by one there definition part shaped of fact is =
       let same = of.1.1 in
-      subst fact (sym same) (is of.1.0
+      subst fact (sym same) (is of.1.0 (shaped ∙ ap NumberedShape same)
       (subst (IsCountedOn (numbered_part case.geometry (base_of case) of.1.0 definition) now.cur)
       space.owned
       (subst (λ (p : Numbered). IsCountedOn p now.cur
@@ -71,7 +75,8 @@ module _ (case : Case) (store : StoreNow) (now : Seen) (set : IsSet store now)
 
   -- ---- as the state says
 
-  module _ (need left : ℕ) (wants : IsWanting case need left) where
+  module _ (none : first_of (file_refusals case) ≡ None) (need left : ℕ)
+      (wants : IsWanting case need left) where
     wanting-shape : (one : PartNow) → part_among store.parts (base_of case) ≡ Some one
         → (definition : Definition) → definition_in (opened case) ≡ Some definition
         → (bytes : List ℕ) → new_record case.request ≡ Some bytes
@@ -81,14 +86,15 @@ module _ (case : Case) (store : StoreNow) (now : Seen) (set : IsSet store now)
         ≡ answers.NoSpace need left
     wanting-shape one there definition on bytes given (KeyedShape part) shaped of =
         absurd (none-some (NoSpace need left) (sym (keyed-none case definition on of) ∙ wants))
-    wanting-shape one there definition on bytes given (RelativeShape part) shaped of =
-        subst (λ (free : ℕ). slot_room part now.cur free place ≡ answers.NoSpace need left)
-        (sym space.free)
-        (slots-by one there definition part shaped of
-        (λ (p : Numbered). slot_room p now.cur (free_areas case) place
-        ≡ answers.NoSpace need left)
-        (λ area counted. room-wanting case definition (base_of case) area place bytes on of.0 at
-        given now.cur counted need left wants))
+    wanting-shape one there definition on bytes given (NumberedShape part) shaped of =
+        subst (λ (free : ℕ). numbered_room part one.known.tail now.cur free place (length bytes)
+        ≡ answers.NoSpace need left) (sym space.free)
+        (chain-by one there definition part shaped of
+        (λ (p : Numbered). numbered_room p one.known.tail now.cur (free_areas case) place
+        (length bytes) ≡ answers.NoSpace need left)
+        (λ area shaped-so counted. room-wanting case definition (base_of case) area place bytes on
+        of.0 at given (valid-length case none definition on bytes given) one.known.tail now.cur
+        counted need left wants))
 
     wanting-bytes : (one : PartNow) → part_among store.parts (base_of case) ≡ Some one
         → (definition : Definition) → definition_in (opened case) ≡ Some definition
@@ -143,8 +149,10 @@ module _ (case : Case) (store : StoreNow) (now : Seen) (set : IsSet store now)
   -- ---- as the part says
 
   -- where the state says that there are areas enough, the part that lacks room is key-sequenced
-  module _ (enough : no_space case ≡ None) (n need left : ℕ) (bytes : List ℕ)
-      (given : new_record case.request ≡ Some bytes) (definition : Definition)
+  module _ (volume : ℕ) (stored : IsStored volume store case.state now)
+      (no-record : first_of (record_refusals case) ≡ None) (none : first_of (file_refusals case)
+      ≡ None) (n need left : ℕ) (bytes : List ℕ) (given : new_record case.request ≡ Some bytes)
+      (long : n ≡ length bytes) (definition : Definition)
       (on : definition_in (opened case) ≡ Some definition) where
     keyed-shape : (one : PartNow) → part_among store.parts (base_of case) ≡ Some one
         → (shape : Shape) → one.shape ≡ shape
@@ -156,14 +164,20 @@ module _ (case : Case) (store : StoreNow) (now : Seen) (set : IsSet store now)
       room-lacks (KeyedShape part) one.known now.cur (free_count store.space) kept place n need left
           tt (sym is),
     )
-    keyed-shape one there (RelativeShape part) shaped of is = absurd
-        (slots-by one there definition part shaped of
-        (λ (p : Numbered). slot_room p now.cur (free_areas case) place
+    keyed-shape one there (NumberedShape part) shaped of is =
+        let tail = one.known.tail in absurd
+        (chain-by one there definition part shaped of
+        (λ (p : Numbered). numbered_room p tail now.cur (free_areas case) place (length bytes)
         ≡ answers.NoSpace need left → ⊥)
-        (λ area counted. room-unwanted case definition (base_of case) area place bytes on of.0 at
-        given now.cur counted enough need left)
-        (subst (λ (free : ℕ). slot_room part now.cur free place ≡ answers.NoSpace need left)
-        space.free (sym is)))
+        (λ area shaped-so counted. room-unwanted case definition (base_of case) area place bytes on
+        of.0 at given (valid-length case none definition on bytes given) tail now.cur counted
+        (no-wants case no-record) (length bytes)
+        (takes-given case store now set left-of volume stored one there definition on area shaped-so
+        no-record place bytes at of.0 given) need left)
+        (subst (λ (free : ℕ). numbered_room part tail now.cur free place (length bytes)
+        ≡ answers.NoSpace need left) space.free
+        (subst (λ (m : ℕ). numbered_room part tail now.cur (free_count store.space) place m
+        ≡ answers.NoSpace need left) long (sym is))))
 
     pub keyed-lacks : part_among store.parts (base_of case) ≢ None
         → IsRoomAt store now.cur (base_of case) place n (answers.NoSpace need left)
@@ -179,11 +193,13 @@ module _ (case : Case) (store : StoreNow) (now : Seen) (set : IsSet store now)
             keyed-shape one there one.shape refl (kinded one there definition on) is
 
   -- so it is of a change that nothing in memory refuses
-  pub lacks-area : IsChange case.request → first_of (record_refusals case) ≡ None
+  pub lacks-area : (volume : ℕ) → IsStored volume store case.state now → IsChange case.request
+      → first_of (record_refusals case) ≡ None
       → part_among store.parts (base_of case) ≢ None → (n need left : ℕ)
+      → IfSome (new_record case.request) (λ (bytes : List ℕ). n ≡ length bytes)
       → IsRoomAt store now.cur (base_of case) place n (answers.NoSpace need left)
       → LacksArea case need left
-  lacks-area change no-record some n need left room none given =
+  lacks-area volume stored change no-record some n need left long room none given =
       by_new (new_record case.request) refl
     where
       by_new : (new : Option (List ℕ)) → new_record case.request ≡ new
@@ -191,8 +207,8 @@ module _ (case : Case) (store : StoreNow) (now : Seen) (set : IsSet store now)
       by_new None is = absurd (given is)
       by_new (Some bytes) is =
           let defines = change-defined case change none in
-          let both = keyed-lacks (no-wants case no-record) n need left bytes is defines.0 defines.1
-          some room in (
+          let both = keyed-lacks volume stored no-record none n need left bytes is
+          (long-some case.request n bytes is long) defines.0 defines.1 some room in (
             inl (
               given,
               ap (λ (o : Option Definition).

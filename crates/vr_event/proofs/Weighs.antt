@@ -1,5 +1,5 @@
 -- How a change is refused.
-use Rattle.std.proofs.Common.{◌≡◌, ◌⊎◌, ◌||◌, ℕ, Bool, true, false, List, [], ◌∷◌, Option}
+use Rattle.std.proofs.Common.{◌≡◌, ◌⊎◌, ◌||◌, ℕ, Bool, true, false, List, [], Option}
 use Rattle.std.proofs.Common.{Some, None, refl, sym, ap, subst, ◌∙◌, inl, inr, IsTrue}
 use Rattle.std.specs.Option.{option_and_then, option_or}
 use Rattle.vr_catalog.specs.declared.definition.Definition.{Definition}
@@ -31,6 +31,7 @@ use Rattle.vr_event.specs.Getting.{refusal_of}
 use Rattle.vr_event.specs.Putting.{IsChange, IsRefusedBy, LacksArea, MayRefuse}
 use Rattle.vr_store.specs.declared.no.LookNo.{LookNo}
 use Rattle.vr_store.specs.declared.no.LookNo.TheVariants.{Fault, Memory}
+use Rattle.vr_event.proofs.Unrefused.{first-none, rest-none, unrefused-false}
 
 module _ (case : Case) where
   -- by the record and by locks,
@@ -142,16 +143,6 @@ stays-unless request refusal result (inl is) stays =
 stays-unless request refusal result (inr is) stays =
     subst (λ (r : Refusal). stand_refused request r ≡ None) (sym is) refl
 
-first-none : (a : Option Refusal) (rest : List (Option Refusal)) → first_of (a ∷ rest) ≡ None
-    → a ≡ None
-first-none None rest none = refl
-first-none (Some refusal) rest none = absurd (none-some (sym none))
-
-unrefused-false : (test : Bool) (refusal : Refusal) → refused_if test refusal ≡ None
-    → test ≡ false
-unrefused-false false refusal none = refl
-unrefused-false true refusal none = absurd (none-some (sym none))
-
 or-first : (a b : Bool) → (a || b) ≡ false → a ≡ false
 or-first false b is = refl
 or-first true b is = absurd cc
@@ -189,11 +180,6 @@ module _ (case : Case) (no-record : first_of (record_refusals case) ≡ None) wh
       first_of-append (file_refusals case) (record_refusals case)
       ∙ ap (λ (o : Option Refusal). option_or o (first_of (record_refusals case))) none
       ∙ no-record
-
-  rest-none : (a : Option Refusal) (rest : List (Option Refusal)) → first_of (a ∷ rest) ≡ None
-      → first_of rest ≡ None
-  rest-none None rest none = none
-  rest-none (Some refusal) rest none = absurd (none-some (sym none))
 
   -- nor for want of areas
   pub no-wants : no_space case ≡ None

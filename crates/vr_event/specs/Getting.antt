@@ -1,7 +1,7 @@
 -- What a read, a GET or a POINT, comes to before it is entered, and which of it may be entered. The
 -- rules are those of the record file.
-use Rattle.std.specs.Prelude.{◌≡◌, ◌⊎◌, ℕ, Bool, false, cond, List, Option, Some, None, length, ◌==◌}
-use Rattle.std.specs.Prelude.{nat_eq}
+use Rattle.std.specs.Prelude.{◌≡◌, ◌⊎◌, ℕ, Bool, true, false, cond, List, Option, Some, None, length}
+use Rattle.std.specs.Prelude.{◌==◌, ◌&&◌, bytes_eq, nat_eq, nat_le}
 use Rattle.std.specs.Option.{option_map_or}
 use Rattle.vr_catalog.specs.Catalog.{definition_of}
 use Rattle.vr_catalog.specs.declared.definition.Definition.{Definition}
@@ -18,7 +18,8 @@ use Rattle.vr_types.specs.declared.unit.Integrity.{Integrity}
 use Rattle.vr_types.specs.declared.unit.Kind.{Kind}
 use Rattle.vr_types.specs.declared.unit.Kind.TheVariants.{Keyed, Entry, Relative}
 use Rattle.vr_types.specs.declared.unit.Unit.{Unit as UnitOfRecovery}
-use Rattle.vr_space.specs.Slots.{is_slot_place}
+use Rattle.vr_types.specs.Fields.{four}
+use Rattle.vr_space.specs.Numbered.{number_of, start_by}
 use Rattle.vr_history.specs.declared.entry.What.TheVariants.{Asked}
 use Rattle.vr_history.specs.Case.{Case}
 use Rattle.vr_history.specs.Found.{place_read}
@@ -105,11 +106,17 @@ MayEnd case (Refused refusal) = MayReply case (replies.Refused refusal)
 MayEnd case (Done reply names at held) = MayReply case reply × IsDoneAs case reply names at held
 MayEnd case (Pointed reply at) = MayReply case reply × IsPointedAs case reply at
 
--- a place that a record of a definition may have: as long as its keys, or the number of a slot
+-- a number in four bytes: that of a slot, which is one or more, or else an address
+abbrev pub is_number : Bool → List ℕ → Bool
+is_number relative place =
+    bytes_eq place (four (number_of place)) && nat_le (start_by relative) (number_of place)
+
+-- a place that a record of a definition may have: as long as its keys, an address, or the number of
+-- a slot
 abbrev pub is_place_for : Kind → List ℕ → Definition → Bool
 is_place_for Keyed place definition = nat_eq (length place) definition.key_length
-is_place_for Entry place definition = false
-is_place_for Relative place definition = is_slot_place place
+is_place_for Entry place definition = is_number false place
+is_place_for Relative place definition = is_number true place
 
 abbrev pub is_place_by : List ℕ → Definition → Bool
 is_place_by place definition = is_place_for definition.kind place definition

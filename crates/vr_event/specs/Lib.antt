@@ -12,3 +12,4 @@ pub mod Opening
 pub mod Made
 pub mod Serving
 pub mod Staging
+pub mod Numbers

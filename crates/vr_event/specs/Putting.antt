@@ -1,7 +1,8 @@
 -- What a PUT or an ERASE comes to before it is made: it is refused, a stage of a split comes first, or
 -- it is ready to be made. The rules are those of the record file.
 use Rattle.std.specs.Prelude.{◌≡◌, ◌≢◌, ◌<◌, ◌≤◌, ◌+◌, ◌==◌, ◌^◌, ◌&&◌, ℕ, Bool, true, false, List}
-use Rattle.std.specs.Prelude.{Option, Some, None, IfSome, IsTrue, length, nat_eq, nat_le, option_map}
+use Rattle.std.specs.Prelude.{Option, Some, None, IfSome, IsTrue, length, nat_eq, nat_le, nat_lt}
+use Rattle.std.specs.Prelude.{option_map}
 use Rattle.vr_types.specs.Content.{Standing, item_at}
 use Rattle.vr_types.specs.Image.{Image}
 use Rattle.vr_types.specs.Seen.{Seen}
@@ -23,10 +24,10 @@ use Rattle.vr_catalog.specs.Definition.{key_of}
 use Rattle.vr_catalog.specs.declared.definition.Definition.{Definition}
 use Rattle.vr_catalog.specs.declared.entry.CatEntry.{CatEntry}
 use Rattle.vr_space.specs.Known.{HasMet, Known}
-use Rattle.vr_space.specs.Part.{IsLengthOf, IsPlaceOf, IsRecordOf, KeyedShape, RelativeShape}
+use Rattle.vr_space.specs.Part.{IsLengthOf, IsPlaceOf, IsRecordOf, KeyedShape, NumberedShape}
 use Rattle.vr_space.specs.Part.{Shape, fits_at, owned_count, stage_of}
 use Rattle.vr_space.specs.Room.{Lengths}
-use Rattle.vr_space.specs.Slots.{IsSlotPlace}
+use Rattle.vr_space.specs.Numbered.{IsNumberedLength}
 use Rattle.vr_log.specs.declared.record.LogRecord.TheVariants.{Before}
 use Rattle.vr_history.specs.Case.{Case, new_record}
 use Rattle.vr_history.specs.Change.{place_changed, record_held}
@@ -44,6 +45,7 @@ use Rattle.vr_volume.specs.PutBack.{lengths_kept}
 use Rattle.vr_answer.specs.Tried.{file_refusals, record_refusals}
 use Rattle.vr_record_file.specs.Now.{FileNow, is_undoing, state_now}
 use Rattle.vr_event.specs.Cause.{is_faulted}
+use Rattle.vr_event.specs.Getting.{is_number}
 use Rattle.vr_store.specs.Change.{NoOtherLogged, has_logged, need_with}
 use Rattle.vr_store.specs.Room.{IsDueAt}
 use Rattle.vr_store.specs.Store.{IsStored, PartNow, StoreNow, part_among, shape_among}
@@ -92,16 +94,18 @@ pub record IsKeyedRecord (definition : Definition) (place bytes : List ℕ) : Ty
   pub most : length bytes ≤ definition.maximum
   pub key : key_of definition bytes ≡ place
 
--- and one that a definition of a relative cluster allows, whose records all have one length
-pub record IsNumberedRecord (definition : Definition) (place bytes : List ℕ) : Type 0 where
-  pub slot : IsSlotPlace place
-  pub whole : length bytes ≡ definition.maximum
+-- One that a definition of a relative or an entry-sequenced cluster allows, at a number in four
+-- bytes: the records of a relative one all have one length.
+pub record IsNumberedRecord (relative : Bool) (definition : Definition) (place bytes : List ℕ)
+    : Type 0 where
+  pub number : is_number relative place ≡ true
+  pub whole : IsNumberedLength relative definition.maximum (length bytes)
 
--- by the kind: no entry-sequenced cluster is laid
+-- by the kind
 abbrev pub IsRecordFor : Kind → Definition → List ℕ → List ℕ → Type 0
 IsRecordFor Keyed definition place bytes = IsKeyedRecord definition place bytes
-IsRecordFor Entry definition place bytes = ⊥
-IsRecordFor Relative definition place bytes = IsNumberedRecord definition place bytes
+IsRecordFor Entry definition place bytes = IsNumberedRecord false definition place bytes
+IsRecordFor Relative definition place bytes = IsNumberedRecord true definition place bytes
 
 abbrev pub IsRecordBy : Definition → List ℕ → List ℕ → Type 0
 IsRecordBy definition place bytes = IsRecordFor definition.kind definition place bytes
@@ -110,7 +114,7 @@ IsRecordBy definition place bytes = IsRecordFor definition.kind definition place
 abbrev pub is_length_for : Kind → ℕ → Definition → Bool
 is_length_for Keyed n definition = nat_le (definition.key_offset + definition.key_length) n
     && nat_le n definition.maximum
-is_length_for Entry n definition = false
+is_length_for Entry n definition = nat_lt 0 n && nat_le n definition.maximum
 is_length_for Relative n definition = nat_eq n definition.maximum
 
 abbrev pub is_length_in : ℕ → Definition → Bool
@@ -123,7 +127,7 @@ AreLaidBy geometry entries parts = (number : ℕ) → shape_among parts number
 
 abbrev pub IsKeyedShape : Shape → Type 0
 IsKeyedShape (KeyedShape part) = Unit {0}
-IsKeyedShape (RelativeShape part) = ⊥
+IsKeyedShape (NumberedShape part) = ⊥
 
 -- the part is keyed, where it is laid
 abbrev pub IsKeyedIn : List PartNow → ℕ → Type 0
@@ -193,7 +197,7 @@ MayWeigh case (Stage place n) = first_of (file_refusals case) ≡ None
 MayWeigh case (Ready place old reply names) = IsReadyFor case place old reply names
 
 -- What a part that lacks room for a record needs, and what is free to it: the part is key-sequenced,
--- and lacks an area. Of a relative one the record file says it before.
+-- and lacks an area. Of one whose places are numbers the record file says it before.
 abbrev pub LacksArea : Case → ℕ → ℕ → Type 0
 LacksArea case need free = first_of (file_refusals case) ≡ None
     → (new_record case.request ≢ None) → FillsKeyed case × (NoSpace need free ≡ lacks_area)
@@ -210,7 +214,8 @@ pub record IsSpaceOf (store : StoreNow) (part : ℕ) (case : Case) : Type 0 wher
 pub record IsFitting (shape : Shape) (known : Known) (image : Image) (kept : Lengths)
     (place : List ℕ) (item : Option (List ℕ)) : Type 0 where
   pub no_stage : stage_of shape known image place ≡ None
-  pub room : IfSome item (λ (bytes : List ℕ). IsTrue (fits_at shape image kept place (length bytes)))
+  pub room : IfSome item (λ (bytes : List ℕ).
+      IsTrue (fits_at shape known image kept place (length bytes)))
 
 abbrev pub HasRoomAt : StoreNow → Image → ℕ → List ℕ → Option (List ℕ) → Type 0
 HasRoomAt store image part place item =
@@ -277,7 +282,7 @@ IfAgain Done fact = Unit {0}
 IfAgain (Again given) fact = fact
 
 -- A change that is asked for again may be refused for want of room in its place, where its data set
--- is key-sequenced: of a relative one the record file says when it lacks room.
+-- is key-sequenced: of one whose places are numbers the record file says when it lacks room.
 abbrev pub MayLackRoom : State → FileNow → UnitOfRecovery → Request → Type 0
 MayLackRoom opening file unit request =
     let case = case_of file.geometry (state_now opening file) unit request in

@@ -67,7 +67,8 @@ InEachFound case at present fact = (state : State) → IsCaseOf case state
     → IsSought (whole case state) at
     → present ≡ option_and_then (record_held (whole case state)) at → fact (whole case state)
 
--- how many bytes a place of a part has by its definition: the number of a slot has four
+-- how many bytes a place of a part has by its definition: an address, and the number of a slot, have
+-- four
 abbrev pub place_room_for : Kind → Definition → ℕ
 place_room_for Keyed definition = definition.key_length
 place_room_for Entry definition = 4

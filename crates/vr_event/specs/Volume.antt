@@ -6,11 +6,8 @@ use Rattle.std.specs.List.Sorted.{IsPermutation}
 use Rattle.vr_types.specs.Seen.{Seen}
 use Rattle.vr_types.specs.Space.{free_count}
 use Rattle.vr_types.specs.declared.geometry.Geometry.{Geometry}
-use Rattle.vr_types.specs.declared.unit.Kind.{Kind}
-use Rattle.vr_types.specs.declared.unit.Kind.TheVariants.{Entry, Keyed, Relative}
 use Rattle.vr_types.specs.declared.unit.PartNo.{PartNo}
 use Rattle.vr_space.specs.Part.{owned_count}
-use Rattle.vr_catalog.specs.Catalog.{definition_in}
 use Rattle.vr_catalog.specs.declared.entry.CatEntry.{CatEntry}
 use Rattle.vr_catalog.specs.declared.entry.EntryKind.TheVariants.{Cluster}
 use Rattle.vr_history.specs.RefusedRoom.{free_areas}
@@ -22,14 +19,9 @@ use Rattle.vr_volume.specs.Laid.{shape_in}
 use Rattle.vr_store.specs.Store.{IsSet, IsStored, StoreNow, shape_among}
 use Rattle.vr_event.specs.Opening.{owned_in}
 
--- a key-sequenced or a relative cluster: those that a volume serves
-abbrev pub IsServedKind : Kind → Type 0
-IsServedKind Keyed = Unit {0}
-IsServedKind Relative = Unit {0}
-IsServedKind Entry = ⊥
-
+-- a cluster: those are what a volume serves
 abbrev pub IsServedCluster : CatEntry → Type 0
-IsServedCluster entry = (entry.entry_kind ≡ Cluster) × IsServedKind (definition_in entry).kind
+IsServedCluster entry = entry.entry_kind ≡ Cluster
 
 abbrev pub AreServedClusters : List CatEntry → Type 0
 AreServedClusters entries = AllByRecursion IsServedCluster entries

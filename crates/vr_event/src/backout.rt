@@ -32,8 +32,8 @@ use vr_space::Part;
 use vr_types::{Blocks, DeviceFault, Kind, PartNo, SharedRequest, Unit};
 use vr_undo::Before;
 
-/// The least length that a record of a definition may have: each record of a relative cluster has the
-/// one length. None where none may stand, and of an entry-sequenced cluster, which is not laid.
+/// The least length that a record of a definition may have: an entry-sequenced one has a byte or
+/// more, and each record of a relative cluster has the one length. None where none may stand.
 fn least_by(definition: &Definition) -> Option<u32>
     ensures { IfSome result (λ n. is_length_in n definition.now ≡ true) }
 {
@@ -46,7 +46,13 @@ fn least_by(definition: &Definition) -> Option<u32>
                 None
             }
         }
-        Kind::Entry => None,
+        Kind::Entry => {
+            if definition.maximum == 0 {
+                None
+            } else {
+                Some(1)
+            }
+        }
         Kind::Relative => Some(definition.maximum),
     }
 }

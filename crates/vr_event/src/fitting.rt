@@ -1,8 +1,8 @@
 //! Records that fit a part by the catalog, and the length for which a change asks room.
-ghost use Rattle.std.specs.Prelude.{◌≡◌, ◌<◌, ◌^◌, IfSome, IsTrue, List, length};
+ghost use Rattle.std.specs.Prelude.{◌≡◌, ◌<◌, ◌^◌, IfSome, IsTrue, List, false, length, true};
 ghost use Rattle.std.specs.Option.{option_copied};
 ghost use Rattle.vr_types.specs.declared.geometry.Geometry.{Geometry};
-ghost use Rattle.vr_space.specs.Slots.{is_slot_place};
+ghost use Rattle.vr_event.specs.Getting as getting;
 ghost use Rattle.vr_event.specs.Putting.{AreLaidBy, FitsItem, FitsLength, FitsRecord};
 ghost use Rattle.vr_event.specs.Putting.{IsKeyedRecord, IsNumberedRecord, IsRecordBy};
 ghost use Rattle.vr_store.specs.Store.{PartNow};
@@ -10,11 +10,12 @@ ghost use Rattle.vr_store.specs.Store.{PartNow};
 use vr_catalog::{Catalog, Definition};
 use vr_types::{Kind, PartNo, Place, four_at};
 
-/// Whether the bytes of a place are the number of a slot: four bytes, from 1 on.
-pub(crate) fn is_slot(place: &[u8]) -> bool
-    ensures { result ≡ is_slot_place place.now }
+/// Whether the bytes of a place are a number in four bytes: that of a slot, which is one or more, or
+/// else an address.
+pub(crate) fn is_number(place: &[u8], relative: bool) -> bool
+    ensures { result ≡ getting.is_number relative place.now }
 {
-    place.len() == 4 && four_at(place, 0) != 0
+    place.len() == 4 && (!relative || four_at(place, 0) != 0)
 }
 
 /// The length of a record that the definition of a key-sequenced cluster allows at a place; None of
@@ -36,13 +37,29 @@ fn keyed_length(definition: &Definition, place: &Place, bytes: &[u8]) -> Option<
     }
 }
 
+/// The length of a record that the definition of an entry-sequenced cluster allows at a place; None
+/// of any other.
+fn entry_length(definition: &Definition, place: &Place, bytes: &[u8]) -> Option<u32>
+    ensures length { IfSome result (λ n. n ≡ length bytes.now) }
+    ensures record { IfSome result
+        (λ n. IsNumberedRecord false definition.now place.now bytes.now) }
+{
+    let length = bytes.len();
+    if is_number(place.as_slice(), false) && 0 < length && length <= definition.maximum as usize {
+        Some(length as u32)
+    } else {
+        None
+    }
+}
+
 /// The length of a record that the definition of a relative cluster allows at a place; None of any
 /// other.
 fn slot_length(definition: &Definition, place: &Place, bytes: &[u8]) -> Option<u32>
     ensures length { IfSome result (λ n. n ≡ length bytes.now) }
-    ensures record { IfSome result (λ n. IsNumberedRecord definition.now place.now bytes.now) }
+    ensures record { IfSome result
+        (λ n. IsNumberedRecord true definition.now place.now bytes.now) }
 {
-    if is_slot(place.as_slice()) && bytes.len() == definition.maximum as usize {
+    if is_number(place.as_slice(), true) && bytes.len() == definition.maximum as usize {
         Some(definition.maximum)
     } else {
         None
@@ -56,7 +73,7 @@ fn length_by(definition: &Definition, place: &Place, bytes: &[u8]) -> Option<u32
 {
     match definition.kind {
         Kind::Keyed => keyed_length(definition, place, bytes),
-        Kind::Entry => None,
+        Kind::Entry => entry_length(definition, place, bytes),
         Kind::Relative => slot_length(definition, place, bytes),
     }
 }

@@ -31,9 +31,9 @@ ghost use Rattle.vr_event.specs.declared.getting.Outcome.TheVariants as outcomes
 ghost use Rattle.vr_event.specs.Putting.{AreLaidBy, IsSpaceOf};
 ghost use Rattle.vr_event.specs.Searching.{InEachFound, IsSought};
 ghost use Rattle.vr_store.specs.Store.{IsSet, IsStored, Stands, shape_among};
-ghost use Rattle.vr_event.specs.Volume.{AreServedClusters, Holds, IsHeld, IsWhole};
+ghost use Rattle.vr_event.specs.Volume.{Holds, IsHeld, IsWhole};
 
-use crate::fitting::is_slot;
+use crate::fitting::is_number;
 use crate::searching::place_sought;
 use crate::volume::Volume;
 use crate::weighing::{base_of, slice_of};
@@ -233,15 +233,15 @@ fn answered(alloc: Global, case: &Case, at: Option<Place>, present: Option<Bytes
     }
 }
 
-/// Whether a definition allows a record at a place: it is as long as the keys, or the number of a
-/// slot.
+/// Whether a definition allows a record at a place: it is as long as the keys, an address, or the
+/// number of a slot.
 fn fits_definition(definition: &Definition, place: &Place) -> bool
     ensures { result ≡ getting.is_place_by place.now definition.now }
 {
     match definition.kind {
         Kind::Keyed => place.as_slice().len() == definition.key_length as usize,
-        Kind::Entry => false,
-        Kind::Relative => is_slot(place.as_slice()),
+        Kind::Entry => is_number(place.as_slice(), false),
+        Kind::Relative => is_number(place.as_slice(), true),
     }
 }
 
@@ -360,7 +360,6 @@ fn decide<'a, B: Blocks, P: Part>(
 ) -> Outcome
     requires set { IsSet store.old (B.seen blocks.old) }
     requires laid { AreLaidBy file.now.geometry file.now.catalog store.old.parts }
-    requires served { AreServedClusters file.now.catalog }
     requires stands { IsTrue B.tells → Stands store.old (B.seen blocks.old) }
     ensures ends { IsTrue B.tells → (volume : ℕ) (opening : State) → IsStateOf opening file.now
         → file.now.stopped ≡ None

@@ -14,6 +14,7 @@ mod faulting;
 mod fitting;
 mod getting;
 mod laws;
+mod numbers;
 mod putting;
 mod putting_events;
 mod refusing;

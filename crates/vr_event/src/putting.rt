@@ -1,8 +1,7 @@
 //! A change of a place, made once its memory and its locks are taken.
 ghost use Rattle.std.specs.Prelude.{◌≡◌, ◌≢◌, ◌<◌, ◌≤◌, ℕ, List, IsTrue, IfErr};
-ghost use Rattle.std.specs.Prelude.{IfSome, None, OnOk, Option, [], option_map, false};
+ghost use Rattle.std.specs.Prelude.{IfSome, None, OnOk, Option, [], false};
 ghost use Rattle.std.specs.Option.{option_copied};
-ghost use Rattle.vr_types.specs.Content.{Standing};
 ghost use Rattle.vr_types.specs.Moments.{Guards};
 ghost use Rattle.vr_types.specs.LogSpace.{IsLogFull};
 ghost use Rattle.vr_types.specs.declared.unit.Mode.TheVariants.{Exclusive};
@@ -18,7 +17,7 @@ ghost use Rattle.vr_store.specs.Change.{IsBefore, IsMadeOf, IsPrepared, IsReady,
 ghost use Rattle.vr_store.specs.Change.{need_with, with_kept};
 ghost use Rattle.vr_store.specs.Parts.{OnlyMet};
 ghost use Rattle.vr_event.specs.Putting as putting;
-ghost use Rattle.vr_store.specs.Store.{IsSet, IsStored, part_among, shape_among};
+ghost use Rattle.vr_store.specs.Store.{IsSet, IsStored, left_among, part_among, shape_among};
 ghost use Rattle.vr_event.specs.declared.putting.PutNo.TheVariants as nos;
 
 use std::alloc::Global;
@@ -74,7 +73,8 @@ fn make_kept<B: Blocks, P: Part>(
         (old after : State) (need : ℕ)
         → IsReadyBy volume store.old unit part place.now prepared.now was old
         (B.seen blocks.old)
-        → IsMadeOf unit part place.now (option_map Standing (given new.entry)) need old after
+        → IsMadeOf unit part place.now
+        (left_among store.old.parts part.0 old place.now (given new.entry)) need old after
         → need ≡ need_with prepared.now.logged store.old.log prepared.now.rec
         → IsStored volume store.new after (B.seen blocks.new)) }
     // At every moment, whether it fails or not.
@@ -143,7 +143,8 @@ pub(crate) fn put_at_place<B: Blocks, P: Part>(
     ensures made { IsTrue B.tells → OnOk result ((volume : ℕ) (state after : State)
         → putting.IsToMake volume store.old unit part place.now (option_copied old.entry) state
         (B.seen blocks.old)
-        → IsMadeOf unit part place.now (option_map Standing (option_copied new.entry))
+        → IsMadeOf unit part place.now
+        (left_among store.old.parts part.0 state place.now (option_copied new.entry))
         (putting.need_at store.old unit part place.now (option_copied old.entry)) state after
         → IsStored volume store.new after (B.seen blocks.new)) }
     // At every moment, whether it fails or not.

@@ -19,7 +19,6 @@ ghost use Rattle.vr_event.specs.Lacking as lacking;
 ghost use Rattle.vr_event.specs.Looking.{InEachLogged, InEachWith};
 ghost use Rattle.vr_store.specs.Parts.{OnlyMet};
 ghost use Rattle.vr_event.specs.Putting as putting;
-ghost use Rattle.vr_event.specs.Volume.{AreServedClusters};
 ghost use Rattle.vr_store.specs.Room.{IsRoomAt};
 ghost use Rattle.vr_types.specs.Image.{Image};
 ghost use Rattle.vr_store.specs.Store.{IsSet, IsStored, PartNow, Stands, StoreNow, part_among};
@@ -27,6 +26,7 @@ ghost use Rattle.vr_space.specs.declared.room.Room.TheVariants as rooms;
 
 use crate::fitting::{fits_item, length_asked};
 use crate::getting::{fits, is_fault, refusal_of};
+use crate::numbers::{address_for, place_of};
 use std::alloc::Global;
 use vr_answer::{
     Case, Looked, done, file_of, lock_names, log_full, place_changed, refused_by_record,
@@ -269,8 +269,9 @@ fn weigh_room<B: Blocks, P: Part>(
     requires old_fits { putting.FitsItem store.old.parts part.0 place old }
     requires long { IfSome (cases.new_record case.now.request.now)
         (λ bytes. length ≡ count bytes) }
-    ensures may { IsTrue B.tells → InEachWith case.now old (λ whole.
-        putting.IsSpaceOf store.old part.0 whole → putting.IsReadyAt whole place old
+    ensures may { IsTrue B.tells → (volume : ℕ) → InEachWith case.now old (λ whole.
+        IsStored volume store.old whole.state (B.seen blocks.old)
+        → putting.IsSpaceOf store.old part.0 whole → putting.IsReadyAt whole place old
         → putting.MayWeigh whole result) }
     ensures lacks { IsTrue B.tells → lacking.IfLacks (lacking.LacksRoomIn store.old
         (B.seen blocks.old).cur part.0 place case.now.request.now) result }
@@ -483,7 +484,6 @@ pub(crate) fn weigh<'a, B: Blocks, P: Part>(
     requires set { IsSet store.old (B.seen blocks.old) }
     requires stands { IsTrue B.tells → Stands store.old (B.seen blocks.old) }
     requires laid { putting.AreLaidBy file.now.geometry file.now.catalog store.old.parts }
-    requires served { AreServedClusters file.now.catalog }
     requires change { putting.IsChange request.now }
     requires base { part.0 ≡ base_here request.now }
     ensures may { IsTrue B.tells → (volume : ℕ) (opening : State) → IsStateOf opening file.now
@@ -514,7 +514,15 @@ pub(crate) fn weigh<'a, B: Blocks, P: Part>(
         (putting.reply_to result) }
 {
     let areas = store.areas_of(part);
-    let case = file.case(unit, request, store.free_areas(), store.used(), None, areas);
+    let address = address_for(store, part, request);
+    let case = file.case(
+        unit,
+        request,
+        store.free_areas(),
+        store.used(),
+        place_of(&address),
+        areas,
+    );
     match place_asked(alloc, &case) {
         None => Weighed::Refused(Refusal::Memory),
         Some(place) => {

@@ -47,8 +47,8 @@ use Rattle.vr_volume.specs.Laid.{shape_from, shape_of}
 use Rattle.vr_format.specs.Fit.{AreTaken, IsNext, IsTaken, in_area}
 use Rattle.vr_format.specs.Formatted.{place_of}
 use Rattle.vr_format.specs.InOrder.{AreElsewhere}
-use Rattle.vr_format.specs.Planned.{IsCluster, IsClusterOf, MayBeKeyed, catalog_keyed}
-use Rattle.vr_format.specs.Planned.{cluster_shape}
+use Rattle.vr_format.specs.Planned.{IsCluster, IsClusterOf, MayBeKeyed, MayBeNumbered}
+use Rattle.vr_format.specs.Planned.{catalog_keyed, cluster_shape}
 use Rattle.vr_format.proofs.Taken.{there-in-take}
 
 -- A cluster of the list.
@@ -237,6 +237,18 @@ keys-of : (entry : CatEntry) → is_cluster entry ≡ true
     → are_keys_of entry.kind entry.key_length entry.key_offset ≡ true
 keys-of entry is = grind (arith, and_parts)
 
+-- the keys of a cluster are those of its kind
+cluster-keys : (entry : CatEntry) → IsTrue (is_entry entry) → entry.entry_kind ≡ Cluster
+    → are_keys_of entry.kind entry.key_length entry.key_offset ≡ true
+cluster-keys entry is kind =
+    keys-of entry (subst (λ (k : EntryKind). is_of_kind k entry ≡ true) kind (of-kind entry is))
+
+-- it has a kind
+no-kind : (entry : CatEntry) → IsTrue (is_entry entry) → entry.entry_kind ≡ Cluster
+    → entry.kind ≡ None → ⊥
+no-kind entry is kind none = true≢false (sym (cluster-keys entry is kind)
+    ∙ ap (λ (k : Option Kind). are_keys_of k entry.key_length entry.key_offset) none)
+
 some-keys : (kind : Option Kind) (key_length key_offset : ℕ) → kind ≡ Some kinds.Keyed
     → are_keys_of kind key_length key_offset ≡ true → 0 < key_length
 some-keys None key_length key_offset same is = absurd (cc)
@@ -247,8 +259,7 @@ some-keys (Some kinds.Relative) key_length key_offset same is = absurd (cc)
 pub key-some : (entry : CatEntry) → IsTrue (is_entry entry) → entry.entry_kind ≡ Cluster
     → entry.kind ≡ Some kinds.Keyed → 0 < entry.key_length
 key-some entry is kind organised =
-    some-keys entry.kind entry.key_length entry.key_offset organised
-    (keys-of entry (subst (λ (k : EntryKind). is_of_kind k entry ≡ true) kind (of-kind entry is)))
+    some-keys entry.kind entry.key_length entry.key_offset organised (cluster-keys entry is kind)
 
 -- ---- the bytes of a place
 
@@ -342,21 +353,24 @@ module _ (geometry : Geometry) (allowed : IsAllowed geometry) (clusters : List C
     most = member.next.short;
   }
 
-  organised-as : IsClusterOf geometry cluster (definition_in cluster).kind
-  organised-as = ⊎_elim
-      (λ keyed. subst (λ (k : Option Kind). IsClusterOf geometry cluster (unwrap_or k kinds.Keyed))
-      (sym keyed) (may-be-keyed keyed))
-      (λ relative. subst
-      (λ (k : Option Kind). IsClusterOf geometry cluster (unwrap_or k kinds.Keyed)) (sym relative)
-      (record {
-        some = some-records geometry cluster (related_in (take member.at clusters) cluster)
-            member.next.kind member.next.rules.sizes;
-        most = member.next.short;
-      }))
-      member.next.organised
+  may-be-numbered : MayBeNumbered geometry cluster
+  may-be-numbered = record {
+    some = some-records geometry cluster (related_in (take member.at clusters) cluster)
+        member.next.kind member.next.rules.sizes;
+    most = member.next.short;
+  }
+
+  organised-as : (kind : Option Kind) → cluster.kind ≡ kind
+      → IsClusterOf geometry cluster (unwrap_or kind kinds.Keyed)
+  organised-as None same =
+      absurd (no-kind cluster member.entry_is member.next.kind same)
+  organised-as (Some kinds.Keyed) same = may-be-keyed same
+  organised-as (Some kinds.Entry) same = may-be-numbered
+  organised-as (Some kinds.Relative) same = may-be-numbered
 
   pub is-cluster : IsCluster geometry cluster
-  is-cluster = record { kind = member.next.kind; organised = organised-as }
+  is-cluster =
+      record { kind = member.next.kind; organised = organised-as cluster.kind refl }
 
   pub member-shape : shape_of geometry cluster ≡ cluster_shape geometry (member.at + 1) cluster
   member-shape = shape-is geometry cluster (member.at + 1) member.next.kind

@@ -13,18 +13,20 @@ use Rattle.vr_catalog.specs.declared.entry.CatEntry.{CatEntry}
 use Rattle.vr_seqset.specs.Roster.{IsRoster, Roster}
 use Rattle.vr_seqset.specs.Reading.{roster_in}
 use Rattle.vr_seqset.proofs.CallerLemmas.{roster_is}
-use Rattle.vr_space.specs.Part.{InFirstArea, KeyedShape, RelativeShape, Shape, StandsFor}
+use Rattle.vr_space.specs.Part.{InFirstArea, KeyedShape, NumberedShape, Shape, StandsFor}
 use Rattle.vr_space.specs.Rosters.{Chains, IsChainedBy, IsNumbered, IsNextOf, IsOf, Numbered}
 use Rattle.vr_space.specs.Rosters.{after_next, areas_from, interval_in, roster_block}
-use Rattle.vr_space.specs.Slots.{IsSlots, SlotsStandFor, records_over, slots_from, slots_of}
+use Rattle.vr_space.specs.Numbered.{IsFilled, NumberedStandsFor, items_from, items_over, span_of}
+use Rattle.vr_space.specs.Numbered.{start_of}
 use Rattle.vr_attach.specs.Laid.{shape_by_kind}
 use Rattle.vr_volume.specs.Volume.{IsInside}
 use Rattle.vr_mount.proofs.CallerLemmas.{area-on}
 use Rattle.vr_format.specs.Formatted.{HasOneArea}
 use Rattle.vr_format.specs.Planned.{BeginsEmpty, InAreaAt, IsCluster, IsClusterOf, IsNew, IsNewOf}
+use Rattle.vr_format.specs.Planned.{MayBeNumbered}
 use Rattle.vr_format.specs.Planned.{cluster_keyed, cluster_numbered, cluster_shape, first_roster}
 
--- ---- a relative part that begins empty
+-- ---- an entry-sequenced or relative part that begins empty
 
 module _ (part : Numbered) (image : Image) (begins : BeginsEmpty part image) where
   abbrev Own : ℕ → Type 0
@@ -44,12 +46,12 @@ module _ (part : Numbered) (image : Image) (begins : BeginsEmpty part image) whe
 
   -- its chain is its first area, of which no interval is used
   chained : (k : ℕ) → 0 < k → part.first < area_count part.geometry
-      → Chains part Own (IsSlots part) (IsOf image) k part.first
+      → Chains part Own (IsFilled part) (IsOf image) k part.first
   chained zero some there = absurd (omega (arith, some))
   chained (suc k) some there = (
     there,
-    λ block is. subst (IsChainedBy part (IsSlots part) (IsOf image) part.first
-        (Chains part Own (IsSlots part) (IsOf image) k)) (sym is) (record {
+    λ block is. subst (IsChainedBy part (IsFilled part) (IsOf image) part.first
+        (Chains part Own (IsFilled part) (IsOf image) k)) (sym is) (record {
           roster = record {
             spelled = subst (IsRoster part.geometry.area top) (sym says) begins.roster;
             size = begins.size;
@@ -57,16 +59,17 @@ module _ (part : Numbered) (image : Image) (begins : BeginsEmpty part image) whe
           };
           intervals = λ interval below one may. absurd (omega (arith, below, used));
           next = subst (IsNextOf (roster_in top).used part.geometry.area
-              (Chains part Own (IsSlots part) (IsOf image) k)) (sym next) tt;
+              (Chains part Own (IsFilled part) (IsOf image) k)) (sym next) tt;
         }),
   )
 
-  records : (k : ℕ) → slots_from part image k 1 part.first ≡ []
-  records zero = refl
-  records (suc k) =
+  records : (k number : ℕ) → items_from part image k number part.first ≡ []
+  records zero number = refl
+  records (suc k) number =
       ap (λ (roster : Roster).
-      records_over part image 1 (interval_in part part.first 0) roster.used
-      ++ after_next [] (slots_from part image k (1 + roster.used * slots_of part)) roster.next) says
+      items_over part image number (interval_in part part.first 0) roster.used
+      ++ after_next [] (items_from part image k (number + roster.used * span_of part))
+      roster.next) says
 
   areas : (k : ℕ) → areas_from part image (suc k) part.first ≡ part.first ∷ []
   areas k = ap (λ (o : Option ℕ). part.first ∷ after_next [] (areas_from part image k) o) next
@@ -79,11 +82,11 @@ module _ (part : Numbered) (image : Image) (begins : BeginsEmpty part image) whe
       (All-nil (λ (at : ℕ). at ≡ part.first)))
       (subst (λ (list : List ℕ). Contains list area) (areas k) among)
 
-  slots-stand : IsNumbered part → SlotsStandFor part image []
-  slots-stand is = record {
+  none-stands : IsNumbered part → NumberedStandsFor part image []
+  none-stands is = record {
     part_is = is;
     chain = chained (area_count part.geometry) (omega (arith, is.first)) is.first;
-    records = sym (records (area_count part.geometry));
+    records = sym (records (area_count part.geometry) (start_of part));
   }
 
 -- ---- a new cluster, by its kind
@@ -97,11 +100,22 @@ pub record IsMade (geometry : Geometry) (shape : Shape) (image : Image) : Type 0
 some-shape : (x y : Shape) → Some x ≡ Some y → x ≡ y
 some-shape x y same = cc
 
-no-shape : (x : Shape) → None ≡ Some x → ⊥
-no-shape x same = cc
-
 module _ (geometry : Geometry) (allowed : IsAllowed geometry) (area : ℕ) (entry : CatEntry)
     (there : area < area_count geometry) where
+  begins-made : MayBeNumbered geometry entry → (image : Image)
+      → BeginsEmpty (cluster_numbered geometry area entry) image
+      → IsMade geometry (NumberedShape (cluster_numbered geometry area entry)) image
+  begins-made may image new =
+      let part : Numbered = cluster_numbered geometry area entry in
+      let numbered : IsNumbered part =
+      record { allowed = allowed; first = there; some = may.some; fits = may.most } in
+      record {
+        inside = (numbered, refl);
+        stands = none-stands part image new numbered;
+        alone = λ at reached. ap (head_block geometry)
+            (sym (reaches part image new (area_count geometry) at reached));
+      }
+
   new-by : (kind : Kind) → IsClusterOf geometry entry kind → (image : Image)
       → IsNewOf geometry area entry image kind → (shape : Shape)
       → shape_by_kind geometry entry.part.0 area (definition_in entry) kind ≡ Some shape
@@ -113,24 +127,29 @@ module _ (geometry : Geometry) (allowed : IsAllowed geometry) (area : ℕ) (entr
         stands = new;
         alone = λ at reaches. reaches;
       })
-  new-by kinds.Entry may image new shape is = absurd may
-  new-by kinds.Relative may image new shape is =
-      let part : Numbered = cluster_numbered geometry area entry in
-      let numbered : IsNumbered part =
-      record { allowed = allowed; first = there; some = may.some; fits = may.most } in
+  new-by kinds.Entry may image new shape is =
       subst (λ (s : Shape). IsMade geometry s image)
-      (some-shape (RelativeShape part) shape is) (record {
-        inside = (numbered, refl);
-        stands = slots-stand part image new numbered;
-        alone = λ at reached. ap (head_block geometry)
-            (sym (reaches part image new (area_count geometry) at reached));
-      })
+      (some-shape (NumberedShape (cluster_numbered geometry area entry)) shape is)
+      (begins-made may image new)
+  new-by kinds.Relative may image new shape is =
+      subst (λ (s : Shape). IsMade geometry s image)
+      (some-shape (NumberedShape (cluster_numbered geometry area entry)) shape is)
+      (begins-made may image new)
 
   pub new-made : IsCluster geometry entry → (image : Image) → IsNew geometry area entry image
       → (shape : Shape) → cluster_shape geometry area entry ≡ Some shape
       → IsMade geometry shape image
   new-made may image new shape is =
       new-by (definition_in entry).kind may.organised image new shape is
+
+first-numbered : (geometry : Geometry) (area n : ℕ) (entry : CatEntry) (shape : Shape)
+    → Some (NumberedShape (cluster_numbered geometry area entry)) ≡ Some shape
+    → InFirstArea shape n → InAreaAt geometry area n
+first-numbered geometry area n entry shape is inside =
+    let first : InFirstArea (NumberedShape (cluster_numbered geometry area entry)) n =
+    subst (λ (s : Shape). InFirstArea s n)
+    (sym (some-shape (NumberedShape (cluster_numbered geometry area entry)) shape is)) inside in
+    (first.from, first.to)
 
 -- the first area of a cluster is the one that it is laid in
 first-by : (geometry : Geometry) (area n : ℕ) (entry : CatEntry) (kind : Kind) (shape : Shape)
@@ -139,12 +158,10 @@ first-by : (geometry : Geometry) (area n : ℕ) (entry : CatEntry) (kind : Kind)
 first-by geometry area n entry kinds.Keyed shape is inside =
     subst (λ (s : Shape). InFirstArea s n)
     (sym (some-shape (KeyedShape (cluster_keyed geometry area entry)) shape is)) inside
-first-by geometry area n entry kinds.Entry shape is inside = absurd (no-shape shape is)
+first-by geometry area n entry kinds.Entry shape is inside =
+    first-numbered geometry area n entry shape is inside
 first-by geometry area n entry kinds.Relative shape is inside =
-    let first : InFirstArea (RelativeShape (cluster_numbered geometry area entry)) n =
-    subst (λ (s : Shape). InFirstArea s n)
-    (sym (some-shape (RelativeShape (cluster_numbered geometry area entry)) shape is)) inside in
-    (first.from, first.to)
+    first-numbered geometry area n entry shape is inside
 
 pub in-its-area : (geometry : Geometry) (area n : ℕ) (entry : CatEntry) (shape : Shape)
     → cluster_shape geometry area entry ≡ Some shape → InFirstArea shape n

@@ -4,16 +4,16 @@ use Rattle.std.proofs.Common.{refl, sym, ap, subst, ◌∙◌, arith, Option, So
 use Rattle.std.specs.Prelude.{cond, nat_eq, Contains}
 use Rattle.std.specs.List.{fold}
 use Rattle.std.proofs.lemmas.List.Elements.{All-nil, All-replicate}
-use Rattle.vr_types.specs.Content.{Ascends, Content}
+use Rattle.vr_types.specs.Content.{Ascends, Content, Item, item_at}
 use Rattle.vr_types.specs.Fields.{AreZeros}
 use Rattle.vr_types.specs.Geometry.{area_count, head_block}
 use Rattle.vr_types.specs.Image.{Image}
 use Rattle.vr_types.specs.Space.{all_free}
 use Rattle.vr_types.specs.declared.geometry.Geometry.{Geometry}
 use Rattle.vr_types.specs.declared.unit.PartNo.{PartNo}
-use Rattle.vr_space.specs.Part.{KeyedShape, RelativeShape, Shape, Stands}
+use Rattle.vr_space.specs.Part.{KeyedShape, NumberedShape, Shape, Stands}
 use Rattle.vr_space.specs.Rosters.{Numbered, areas_from, chain_of}
-use Rattle.vr_space.proofs.CallerLemmas.{stands_content}
+use Rattle.vr_space.proofs.CallerLemmas.{content_item, item-read, stands_content}
 use Rattle.vr_catalog.specs.Catalog.{entries_in}
 use Rattle.vr_catalog.specs.declared.entry.CatEntry.{CatEntry}
 use Rattle.vr_attach.specs.Laid.{ReachesArea, shape_in}
@@ -21,6 +21,7 @@ use Rattle.vr_attach.specs.Owning.{owner_of}
 use Rattle.vr_log.specs.Content.{Content as LogContent}
 use Rattle.vr_history.specs.State.{BeforeImage}
 use Rattle.vr_volume.specs.Laid.{catalog_shape, shape_by}
+use Rattle.vr_volume.specs.PutBack.{standing_of}
 use Rattle.vr_volume.specs.Safe.{IsImageSafe}
 use Rattle.vr_volume.specs.Volume.{CanPutBack, IsInside, Recovers}
 use Rattle.vr_volume.proofs.Recovering.{image_recovers}
@@ -49,7 +50,7 @@ no-shape shape is = cc
 inside-ends : (geometry : Geometry) (shape : Shape) → IsInside geometry shape
     → EndsBefore geometry.blocks shape
 inside-ends geometry (KeyedShape part) inside = inside.0
-inside-ends geometry (RelativeShape part) inside =
+inside-ends geometry (NumberedShape part) inside =
     subst (λ (g : Geometry). head_block part.geometry part.first + part.geometry.area < g.blocks)
     inside.1 (area-on part.geometry part.first inside.0.first)
 
@@ -63,7 +64,7 @@ first-reached : (geometry : Geometry) (area : ℕ) (shape : Shape) (image : Imag
     → IsInside geometry shape → BeginsWith (head_block geometry area) shape
     → ReachesArea geometry shape image area
 first-reached geometry area (KeyedShape part) image inside begins = begins
-first-reached geometry area (RelativeShape part) image inside begins =
+first-reached geometry area (NumberedShape part) image inside begins =
     let same : part.first ≡ area = one_area (1 + geometry.log) geometry.area part.first area
     (head_block geometry area) (omega (arith, begun)) (omega (arith, begun)) (omega arith)
     (omega arith) in
@@ -96,6 +97,16 @@ module _ (geometry : Geometry) (number : ℕ) (entries : List CatEntry) (image :
       (Rattle.vr_catalog.specs.Catalog.entry_with_part
       (Rattle.vr_catalog.specs.Catalog.entries_in (catalog_of entries)) part))) is) ∙ none))
   others-by part false is none = refl
+
+  -- what is at a place is a record
+  recorded : (b : Bool) (place : List ℕ)
+      → standing_of (item_at (cond b (catalog_of entries) []) place)
+      ≡ item_at (cond b (catalog_of entries) []) place
+  recorded true place = subst (λ (item : Option Item). standing_of item ≡ item)
+      (sym (content_item (catalog_shape geometry) image (catalog_of entries)
+      (formatted.laid 0 (catalog_shape geometry) catalog-laid) place))
+      (sym (item-read (catalog_shape geometry) image place tt))
+  recorded false place = refl
 
   -- ---- who owns the areas
 
@@ -163,7 +174,7 @@ module _ (geometry : Geometry) (number : ℕ) (entries : List CatEntry) (image :
         content = contents part;
         stands = formatted.laid part shape is;
         within = within.within part shape is;
-        each = λ place none. refl;
+        each = λ place none. recorded (nat_eq part 0) place;
       };
       room = part-fits shape image (contents part) (formatted.laid part shape is);
     };

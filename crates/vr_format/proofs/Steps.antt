@@ -30,9 +30,9 @@ use Rattle.vr_volume.specs.Volume.{IsInside}
 use Rattle.vr_mount.specs.Touched.{Anything}
 use Rattle.vr_mount.proofs.CallerLemmas.{area-before, area-on, keyed-same, two-areas}
 use Rattle.vr_format.specs.Formatted.{HasOneArea, IsFormatted, IsWritten, catalog_of}
-use Rattle.vr_format.specs.Planned.{AreNew, ArePlanned, InAreaAt, InClusters, IsCluster, IsNew}
-use Rattle.vr_format.specs.Planned.{IsNewOf, IsOneOf, catalog_keyed, cluster_keyed}
-use Rattle.vr_format.specs.Planned.{cluster_numbered, content_of, first_roster}
+use Rattle.vr_format.specs.Planned.{AreNew, ArePlanned, BeginsEmpty, InAreaAt, InClusters}
+use Rattle.vr_format.specs.Planned.{IsCluster, IsNew, IsNewOf, IsOneOf, catalog_keyed}
+use Rattle.vr_format.specs.Planned.{cluster_keyed, cluster_numbered, content_of, first_roster}
 use Rattle.vr_format.proofs.NewParts.{IsMade, new-made}
 
 -- what puts into some blocks puts into more
@@ -96,22 +96,28 @@ areas-apart geometry one other n less inside also =
     let before = area-before geometry one other less in
     absurd (omega (arith, before, inside.1, also.0))
 
+-- the roster of a part that isn't written stays
+begins-stays : (part : Numbered) (old new : Image)
+    → block_at new (roster_block part part.first) ≡ block_at old (roster_block part part.first)
+    → BeginsEmpty part old → BeginsEmpty part new
+begins-stays part old new top is = record {
+  roster = subst (λ (block : Block). IsRoster part.geometry.area block (first_roster part))
+      (sym top) is.roster;
+  size = ap (λ (block : Block). length block) top ∙ is.size;
+}
+
 -- a cluster that isn't written stays new
 new-stays : (geometry : Geometry) (area : ℕ) (entry : CatEntry) (kind : Kind) (old new : Image)
     → ((n : ℕ) → InAreaAt geometry area n → block_at new n ≡ block_at old n)
     → IsNewOf geometry area entry old kind → IsNewOf geometry area entry new kind
 new-stays geometry area entry kinds.Keyed old new same is =
     keyed-same (cluster_keyed geometry area entry) old new same [] is
-new-stays geometry area entry kinds.Entry old new same is = is
+new-stays geometry area entry kinds.Entry old new same is =
+    begins-stays (cluster_numbered geometry area entry) old new
+    (same (head_block geometry area) (omega arith, omega arith)) is
 new-stays geometry area entry kinds.Relative old new same is =
-    let part : Numbered = cluster_numbered geometry area entry in
-    let top : block_at new (roster_block part area) ≡ block_at old (roster_block part area) =
-    same (roster_block part area) (omega arith, omega arith) in
-    record {
-      roster = subst (λ (block : Block). IsRoster geometry.area block (first_roster part)) (sym top)
-          is.roster;
-      size = ap (λ (block : Block). length block) top ∙ is.size;
-    }
+    begins-stays (cluster_numbered geometry area entry) old new
+    (same (head_block geometry area) (omega arith, omega arith)) is
 
 -- one cluster more
 pub new-more : (geometry : Geometry) (clusters : List CatEntry) (n : ℕ) (entry : CatEntry)

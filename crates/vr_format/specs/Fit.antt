@@ -1,12 +1,10 @@
 -- Which entries a volume may be formatted with: as clusters without records, the first in area 1 and
 -- each other in the next area. The rules are this project's own.
-use Rattle.std.specs.Prelude.{◌≡◌, ◌⊎◌, ◌+◌, ◌*◌, ◌<◌, ◌≤◌, ℕ, Bool, true, false, List, [], ◌∷◌}
-use Rattle.std.specs.Prelude.{◌++◌, length, take, Option, Some, None, slice_get}
+use Rattle.std.specs.Prelude.{◌≡◌, ◌+◌, ◌*◌, ◌<◌, ◌≤◌, ℕ, Bool, true, false, List, [], ◌∷◌}
+use Rattle.std.specs.Prelude.{◌++◌, length, take, Some, None, slice_get}
 use Rattle.vr_types.specs.Geometry.{area_count}
 use Rattle.vr_types.specs.Image.{Image}
 use Rattle.vr_types.specs.declared.geometry.Geometry.{Geometry}
-use Rattle.vr_types.specs.declared.unit.Kind.{Kind}
-use Rattle.vr_types.specs.declared.unit.Kind.TheVariants.{Keyed, Relative}
 use Rattle.vr_catalog.specs.Catalog.{entry_named}
 use Rattle.vr_catalog.specs.Record.{entry_of, spelling}
 use Rattle.vr_catalog.specs.declared.entry.CatEntry.{CatEntry}
@@ -18,18 +16,13 @@ use Rattle.vr_format.specs.Formatted.{IsFormatted}
 abbrev pub in_area : ℕ → CatEntry → CatEntry
 in_area area entry = record entry { first_area = Some (record { 0 = area }) }
 
--- key-sequenced or relative
-abbrev pub IsServedKind : Option Kind → Type 0
-IsServedKind kind = (kind ≡ Some Keyed) ⊎ (kind ≡ Some Relative)
-
--- The cluster may be formatted after these: it is key-sequenced or relative, its part number and
+-- The entry may be formatted after these: it is a cluster, of whichever kind, its part number and
 -- its area are its place in the list, counted from 1, none of them has its name, it keeps the rules
 -- of a catalog, and a record of it has room in an interval. There is such an area, and the first
 -- interval of the catalog has room for its record beside theirs.
 pub record IsNext (geometry : Geometry) (before : List CatEntry) (cluster : CatEntry) : Type 0
   where
     pub kind : cluster.entry_kind ≡ Cluster
-    pub organised : IsServedKind cluster.kind
     pub number : cluster.part.0 ≡ length before + 1
     pub laid : cluster.first_area ≡ Some (record { 0 = length before + 1 })
     pub name : entry_named before cluster.name ≡ None

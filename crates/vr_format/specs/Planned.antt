@@ -102,15 +102,15 @@ pub record MayBeKeyed (geometry : Geometry) (entry : CatEntry) : Type 0 where
   pub head : HasHead (cluster_keyed geometry 0 entry)
   pub most : entry.maximum + 7 ≤ geometry.size
 
--- A relative one has records, each with room in an interval.
-pub record MayBeRelative (geometry : Geometry) (entry : CatEntry) : Type 0 where
+-- An entry-sequenced or relative one has records, each with room in an interval.
+pub record MayBeNumbered (geometry : Geometry) (entry : CatEntry) : Type 0 where
   pub some : 0 < entry.maximum
   pub most : entry.maximum + 7 ≤ geometry.size
 
 abbrev pub IsClusterOf : Geometry → CatEntry → Kind → Type 0
 IsClusterOf geometry entry kinds.Keyed = MayBeKeyed geometry entry
-IsClusterOf geometry entry kinds.Entry = ⊥
-IsClusterOf geometry entry kinds.Relative = MayBeRelative geometry entry
+IsClusterOf geometry entry kinds.Entry = MayBeNumbered geometry entry
+IsClusterOf geometry entry kinds.Relative = MayBeNumbered geometry entry
 
 pub record IsCluster (geometry : Geometry) (entry : CatEntry) : Type 0 where
   pub kind : entry.entry_kind ≡ Cluster
@@ -130,7 +130,8 @@ pub record BeginsEmpty (part : Numbered) (image : Image) : Type 0 where
 abbrev pub IsNewOf : Geometry → ℕ → CatEntry → Image → Kind → Type 0
 IsNewOf geometry area entry image kinds.Keyed =
     StandsFor (KeyedShape (cluster_keyed geometry area entry)) image []
-IsNewOf geometry area entry image kinds.Entry = ⊥
+IsNewOf geometry area entry image kinds.Entry =
+    BeginsEmpty (cluster_numbered geometry area entry) image
 IsNewOf geometry area entry image kinds.Relative =
     BeginsEmpty (cluster_numbered geometry area entry) image
 

@@ -42,12 +42,15 @@ fn write_cluster<D: BlockDevice>(
     let Some(definition) = entry.cluster_definition() else {
         return Ok(());
     };
-    if definition.kind == Kind::Relative {
-        let layout = chain_layout_of(*geometry, entry.part, area, &definition);
-        write_first_roster(device, &layout, block)
-    } else {
-        let layout = layout_of(*geometry, entry.part, area, &definition);
-        write_part(device, &layout, &[], fillers, block)
+    match definition.kind {
+        Kind::Keyed => {
+            let layout = layout_of(*geometry, entry.part, area, &definition);
+            write_part(device, &layout, &[], fillers, block)
+        }
+        Kind::Entry | Kind::Relative => {
+            let layout = chain_layout_of(*geometry, entry.part, area, &definition);
+            write_first_roster(device, &layout, block)
+        }
     }
 }
 

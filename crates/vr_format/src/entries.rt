@@ -89,16 +89,16 @@ fn write_fit<D: BlockDevice>(
 
 /// Formats a device as the volume of this number, with this many blocks of log and this many
 /// intervals an area: a header, an empty log, a catalog with these entries, and each of them as a
-/// key-sequenced or relative cluster without records. The first entry gets area 1 and each other the
-/// next area; the areas that the entries have don't count. It syncs the device at the end. What a
-/// crash leaves before that isn't said.
+/// cluster without records: key-sequenced, entry-sequenced or relative. The first entry gets area 1
+/// and each other the next area; the areas that the entries have don't count. It syncs the device
+/// at the end. What a crash leaves before that isn't said.
 ///
 /// `Geometry` comes exactly where a volume of the device's size and number of blocks may not have
 /// that log and these areas. `Entries` comes only where the entry at that place is the first that
-/// can't be formatted: it is no key-sequenced or relative cluster, its part number isn't its place
-/// in the list counted from 1, an entry before it has its name, its record spells no entry, it
-/// breaks a rule of a catalog, its longest record has no room in an interval, or there is no area
-/// for it, or no room for its record in the first interval of the catalog. Nothing was written then.
+/// can't be formatted: it is no cluster, its part number isn't its place in the list counted from
+/// 1, an entry before it has its name, its record spells no entry, it breaks a rule of a catalog,
+/// its longest record has no room in an interval, or there is no area for it, or no room for its
+/// record in the first interval of the catalog. Nothing was written then.
 /// `Write` comes only where a write or the sync failed.
 pub fn format_entries<D: BlockDevice>(
     alloc: Global,

@@ -6,7 +6,7 @@ ghost use Rattle.vr_catalog.specs.Record.{entry_of, spelling};
 ghost use Rattle.vr_catalog.specs.declared.entry.EntryKind.TheVariants.{Cluster};
 ghost use Rattle.vr_catalog.specs.declared.read.EntryNo.TheVariants.{Misspelled};
 ghost use Rattle.vr_volume.specs.CatalogRules.{IsEntryOf, has_intervals_by};
-ghost use Rattle.vr_format.specs.Fit.{AreTaken, IsFirstUnfit, IsNext, IsServedKind, TakesNext};
+ghost use Rattle.vr_format.specs.Fit.{AreTaken, IsFirstUnfit, IsNext, TakesNext};
 ghost use Rattle.vr_format.specs.Fit.{in_area};
 
 use std::alloc::Global;
@@ -28,15 +28,6 @@ fn spelled_in(alloc: Global, entry: &CatEntry, area: u32) -> Result<CatEntry, En
     let mut record = [0; RECORD_LENGTH];
     write_entry(&moved, &mut record);
     read_entry(alloc, &record)
-}
-
-/// Whether an entry is that of a key-sequenced or relative cluster.
-fn is_served(entry: &CatEntry) -> bool
-    ensures { IsTrue result
-        ↔ ((entry.now.entry_kind ≡ Cluster) × IsServedKind entry.now.kind) }
-{
-    entry.entry_kind == EntryKind::Cluster
-        && (entry.kind == Some(Kind::Keyed) || entry.kind == Some(Kind::Relative))
 }
 
 /// Whether an area has the intervals that a cluster needs.
@@ -76,12 +67,12 @@ fn has_room(geometry: &Geometry, cluster: &CatEntry, number: u32) -> bool
         && 207 * number as u64 + 4 <= geometry.size as u64
 }
 
-/// Whether a cluster may be formatted after these, as that of this number.
+/// Whether an entry may be formatted after these, as the cluster of this number.
 fn is_next(geometry: &Geometry, before: &Catalog, cluster: &CatEntry, number: u32) -> bool
     requires { number ≡ length before.now + 1 }
     ensures { IsTrue result ↔ IsNext geometry.now before.now cluster.now }
 {
-    is_served(cluster)
+    cluster.entry_kind == EntryKind::Cluster
         && cluster.part == PartNo(number)
         && cluster.first_area == Some(AreaNo(number))
         && before.find(&cluster.name).is_none()

@@ -1,8 +1,8 @@
-//! Writing a relative part without records.
+//! Writing an entry-sequenced or relative part without records.
 ghost use Rattle.std.specs.Prelude.{◌≡◌, IsTrue, length, OnOk};
 ghost use Rattle.vr_types.specs.Faults.{CountsWrite};
 ghost use Rattle.vr_types.specs.Regions.{Touches};
-ghost use Rattle.vr_space.specs.Part.{IsOn, RelativeShape};
+ghost use Rattle.vr_space.specs.Part.{IsOn, NumberedShape};
 ghost use Rattle.vr_space.specs.Rosters.{IsInArea};
 ghost use Rattle.vr_mount.specs.Touched.{Anything};
 ghost use Rattle.vr_format.specs.Planned.{BeginsEmpty};
@@ -19,7 +19,7 @@ pub(crate) fn write_first_roster<D: BlockDevice>(
     layout: &ChainLayout,
     block: &mut [u8],
 ) -> Result<(), Failed>
-    requires on { IsOn (RelativeShape layout.now) (D.seen device.old) }
+    requires on { IsOn (NumberedShape layout.now) (D.seen device.old) }
     requires buffer { length block.old ≡ layout.now.geometry.size }
     ensures begins { IsTrue D.tells → OnOk result
         (BeginsEmpty layout.now (D.seen device.new).cur) }

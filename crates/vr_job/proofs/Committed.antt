@@ -38,9 +38,10 @@ use Rattle.vr_history.specs.declared.entry.What.TheVariants.{Asked, Undone, Clai
 use Rattle.vr_history.proofs.Same.{unit_same}
 use Rattle.vr_volume.specs.Committed.{has_commit, kept_by}
 use Rattle.vr_volume.specs.Crashes.{RecoversTo, committed_with, is_among, kept_but}
-use Rattle.vr_volume.specs.PutBack.{put_back}
+use Rattle.vr_volume.specs.PutBack.{put_back, standing}
 use Rattle.vr_volume.proofs.Histories.{committed-everywhere}
 use Rattle.vr_job.specs.Committed.{HasCommitted, IsOffCatalog, KeepTheCatalog, KeepsCatalog}
+use Rattle.vr_job.proofs.Ascending.{AllAscend, history-ascends}
 use Rattle.vr_job.proofs.Effects.{IsDone, IsEnded, IsMade, done-is, ends, raised, refused-stays}
 use Rattle.vr_job.proofs.Effects.IsDone.{DoneChange, DoneEnd, DoneNothing}
 use Rattle.vr_job.proofs.Effects.MadeOr.{NoChange, OneChange}
@@ -427,7 +428,8 @@ or-none false b none = none
 -- ---- what is committed
 
 module _ (geometry : Geometry) (contents : ℕ → Content) (owned : List Owned) (entries : List Entry)
-    (steps : AreSteps geometry (opening_state contents owned) entries) where
+    (steps : AreSteps geometry (opening_state contents owned) entries)
+    (ascend : AllAscend contents) where
   abbrev opening : State
   opening = opening_state contents owned
 
@@ -464,13 +466,15 @@ module _ (geometry : Geometry) (contents : ℕ → Content) (owned : List Owned)
       → record_now (committed_with counted end) part place
       ≡ record_now (committed geometry opening entries counted) part place
   records-committed keep counted part has place =
-      ap (λ (them : List BeforeImage). record_now (λ (p : ℕ). put_back p them (end.contents p))
-      part place) (sym (kept-same counted end.befores))
+      ap (λ (them : List BeforeImage).
+      record_now (λ (p : ℕ). put_back p them (standing (end.contents p))) part place)
+      (sym (kept-same counted end.befores))
       ∙ committed-everywhere geometry contents owned entries counted (commits-of counted) part steps
       (part-throughout geometry part (is_counted counted entries) (contents 0) has opening contents
       entries refl refl keep)
       (count-alike counted end.befores (all-now geometry opening entries steps tt)
-      (from-one end.befores (all-now geometry opening entries steps tt))) place
+      (from-one end.befores (all-now geometry opening entries steps tt)))
+      (history-ascends geometry opening entries ascend part) place
 
   pub has-committed : (number : ℕ) (catalog : List CatEntry) → catalog ≡ entries_in (contents 0)
       → KeepTheCatalog geometry opening entries → (counted : List UnitOfRecovery) (image : Image)

@@ -1,8 +1,9 @@
 -- What an entry of a history leaves of the contents, the before-images and the units of its state.
-use Rattle.std.proofs.Common.{◌≡◌, ◌∙◌, ◌+◌, ◌==◌, ℕ, Bool, true, false, cond}
+use Rattle.std.proofs.Common.{◌≡◌, ◌∙◌, ◌+◌, ◌==◌, ◌⊎◌, inl, inr, ℕ, Bool, true, false, cond}
 use Rattle.std.proofs.Common.{if◌then◌else◌, List, [], ◌∷◌, ◌++◌, Option, Some, None}
 use Rattle.std.proofs.Common.{filter, refl, subst, sym}
 use Rattle.std.specs.Option.{option_map_or}
+use Rattle.vr_types.specs.Content.{Content}
 use Rattle.vr_types.specs.declared.geometry.Geometry.{Geometry}
 use Rattle.vr_types.specs.declared.position.Stand.{Stand}
 use Rattle.vr_types.specs.declared.position.Stand.TheVariants.{None as Nowhere}
@@ -17,11 +18,13 @@ use Rattle.vr_types.specs.declared.unit.Integrity.{Integrity}
 use Rattle.vr_types.specs.declared.unit.Integrity.TheVariants.{Nri, Cr, Cre}
 use Rattle.vr_types.specs.declared.unit.Mode.TheVariants.{Shared, Exclusive}
 use Rattle.vr_types.specs.declared.unit.Unit.{Unit as UnitOfRecovery}
+use Rattle.vr_catalog.specs.Catalog.{parts_in}
 use Rattle.vr_history.specs.Case.{Case, file_of}
 use Rattle.vr_history.specs.Change.{Change, change_of}
-use Rattle.vr_history.specs.Effects.{drops_held, ends_unit, holding, image_kept, is_other}
+use Rattle.vr_history.specs.Effects.{drops_held, ends_unit, has_part, holding, image_kept, is_other}
 use Rattle.vr_history.specs.Effects.{is_utility_live, locks, moves_file, with_change, without_unit}
 use Rattle.vr_history.specs.Names.{lock_names}
+use Rattle.vr_history.specs.Opened.{catalog_of}
 use Rattle.vr_history.specs.State.{BeforeImage, State, is_kept}
 use Rattle.vr_history.specs.Step.{after_asked, case_of, holds, makes}
 use Rattle.vr_history.specs.Step.{stands_in}
@@ -46,9 +49,10 @@ pub record IsMade (unit : UnitOfRecovery) (change : Change) (old new : State) : 
 abbrev pub raised : UnitOfRecovery → (ℕ → ℕ) → ℕ → ℕ
 raised unit numbers deck = if deck == unit.deck then numbers deck + 1 else numbers deck
 
--- a unit ends, and its before-images go
+-- a unit ends, and its before-images go; each part has what it had, or nothing
 pub record IsEnded (unit : UnitOfRecovery) (old new : State) : Type 0 where
   pub catalog : new.contents 0 ≡ old.contents 0
+  pub contents : (part : ℕ) → (new.contents part ≡ old.contents part) ⊎ (new.contents part ≡ [])
   pub befores : new.befores ≡ filter (λ (kept : BeforeImage). is_other unit kept.unit) old.befores
   pub numbers : new.numbers ≡ raised unit old.numbers
 
@@ -153,6 +157,11 @@ module _ (geometry : Geometry) (state : State) (unit : UnitOfRecovery) where
     DoneChange : MadeOr request new → IsDone request new
     DoneEnd : IsEnded unit state new → IsDone request new
 
+  same-or-none : (b : Bool) (content : Content)
+      → ((if b then content else []) ≡ content) ⊎ ((if b then content else []) ≡ [])
+  same-or-none true content = inl refl
+  same-or-none false content = inr refl
+
   either-ended : (b : Bool) (one other : State) → IsEnded unit state one
       → IsEnded unit state other → IsEnded unit state (cond b one other)
   either-ended true one other is instead = is
@@ -160,8 +169,14 @@ module _ (geometry : Geometry) (state : State) (unit : UnitOfRecovery) where
 
   pub ends : IsEnded unit state (ends_unit unit state)
   ends = either-ended (is_utility_live (without_unit unit state)) (without_unit unit state) _
-      (record { catalog = refl; befores = refl; numbers = refl })
-      (record { catalog = refl; befores = refl; numbers = refl })
+      (record { catalog = refl; contents = λ part. inl refl; befores = refl; numbers = refl })
+      (record {
+        catalog = refl;
+        contents = λ part.
+            same-or-none (has_part (parts_in (catalog_of state)) part) (state.contents part);
+        befores = refl;
+        numbers = refl;
+      })
 
   pub done-is : (request : Request) (feedback : ℕ) (place bytes : Option (List ℕ))
       → IsDone request (after-done request (Done feedback place bytes))

@@ -8,6 +8,7 @@ pub mod Entering
 pub mod Undoing
 pub mod GoingOn
 pub mod Effects
+pub mod Ascending
 pub mod Committed
 pub mod Keeping
 pub mod RunCommitted

@@ -9,7 +9,6 @@ use Rattle.std.proofs.lemmas.List.Elements.{All-cons, All-head, All-map, All-nil
 use Rattle.std.proofs.lemmas.Option.{get_or_from_slice_get, slice_get_within}
 use Rattle.vr_types.specs.Content.{Content}
 use Rattle.vr_types.specs.Geometry.{IsAllowed, area_count}
-use Rattle.vr_types.specs.Space.{is_owner}
 use Rattle.vr_types.specs.Faults.{Faults}
 use Rattle.vr_types.specs.Seen.{Seen}
 use Rattle.vr_types.specs.declared.geometry.Geometry.{Geometry}
@@ -51,6 +50,7 @@ use Rattle.vr_types.proofs.CallerLemmas.{guards-weaken}
 use Rattle.vr_history.specs.State.{State}
 use Rattle.vr_record_file.specs.Now.{state_now}
 use Rattle.vr_volume.specs.Crashes.{RecoversTo}
+use Rattle.vr_recover.specs.Recovered.{standing_all}
 use Rattle.vr_volume.specs.Safe.{IsSafe}
 use Rattle.vr_event.specs.Volume.{AreServedClusters, IsHeld, IsWhole, OwnLaid, VolumeNow}
 use Rattle.vr_store.proofs.CallerLemmas.{idle-guards}
@@ -392,7 +392,8 @@ module _ (geometry : Geometry) (entries : List CatEntry) (owned : List AnyPart) 
 
     pub handed-opened : IsOpenedBy number owners log parts contents now
     handed-opened = record {
-      safe = by-owners (λ (o : Owners). IsSafe log.geometry number o log (alike contents) now)
+      safe = by-owners
+          (λ (o : Owners). IsSafe log.geometry number o log (alike (standing_all contents)) now)
           is.undone.safe;
       stands = is.stands;
       forced = handed.forced;
@@ -407,6 +408,8 @@ module _ (geometry : Geometry) (entries : List CatEntry) (owned : List AnyPart) 
     pub handed-from : IsReadyFrom number geometry entries parts log space contents old now
     handed-from = record {
       volume = is.volume;
+      whole = is.whole;
+      others = is.others;
       catalog_is = is.catalog;
       opened = handed-opened;
       owners_are = is.owners_are;

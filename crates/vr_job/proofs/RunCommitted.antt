@@ -12,6 +12,7 @@ use Rattle.vr_history.specs.declared.entry.Entry.{Entry}
 use Rattle.vr_job.specs.Committed.{IsCommittedBy, IsCommittedWhile, KeepTheCatalog}
 use Rattle.vr_job.specs.Crash.{IsLeftBy}
 use Rattle.vr_job.specs.Events.{IsLeftWhile}
+use Rattle.vr_job.proofs.Ascending.{AllAscend}
 use Rattle.vr_job.proofs.Committed.{has-committed}
 use Rattle.vr_job.proofs.Keeping.{keep-first}
 
@@ -25,6 +26,7 @@ steps-first geometry state (entry ∷ entries) more steps =
 module _ (geometry : Geometry) (number : ℕ) (catalog : List CatEntry) (contents : ℕ → Content)
     (owned : List Owned) (is : catalog ≡ entries_in (contents 0)) (entries : List Entry)
     (steps : AreSteps geometry (opening_state contents owned) entries)
+    (ascend : AllAscend contents)
     (keep : KeepTheCatalog geometry (opening_state contents owned) entries) where
   -- what the history leaves
   pub left-committed : (image : Image)
@@ -38,7 +40,8 @@ module _ (geometry : Geometry) (number : ℕ) (catalog : List CatEntry) (content
     commits = left.commits;
     has = has-committed geometry contents owned left.before
         (steps-first geometry (opening_state contents owned) left.before left.after
-        (subst (AreSteps geometry (opening_state contents owned)) left.is steps)) number catalog is
+        (subst (AreSteps geometry (opening_state contents owned)) left.is steps)) ascend number
+        catalog is
         (keep-first geometry (opening_state contents owned) left.before left.after
         (subst (KeepTheCatalog geometry (opening_state contents owned)) left.is keep))
         left.counted image left.recovers;
@@ -53,7 +56,8 @@ module _ (geometry : Geometry) (number : ℕ) (catalog : List CatEntry) (content
     commits = left.commits;
     has = has-committed geometry contents owned before
         (steps-first geometry (opening_state contents owned) before more
-        (subst (AreSteps geometry (opening_state contents owned)) both steps)) number catalog is
+        (subst (AreSteps geometry (opening_state contents owned)) both steps)) ascend number
+        catalog is
         (keep-first geometry (opening_state contents owned) before more
         (subst (KeepTheCatalog geometry (opening_state contents owned)) both keep))
         left.counted image left.recovers;

@@ -11,7 +11,7 @@ use Rattle.vr_record_file.specs.contracts.file.RecordFile.{the_row as RecordFile
 use Rattle.vr_log.specs.contracts.log.UndoLog.{the_row as UndoLogRow}
 use Rattle.vr_undo.specs.contracts.undo.Undo.{the_row as UndoRow}
 use Rattle.vr_keyed.specs.contracts.keyed.Keyed.{the_row as KeyedRow}
-use Rattle.vr_relative.specs.contracts.relative.Relative.{the_row as RelativeRow}
+use Rattle.vr_chained.specs.contracts.chained.Chained.{the_row as ChainedRow}
 use Rattle.vr_part.specs.contracts.any.AnyPart.{the_row as AnyPartRow}
 use Rattle.vr_device.specs.declared.device.BlockDevice.{Ghosts as BlockDeviceOf}
 use Rattle.vr_job.specs.contracts.serving.Serving.{the_row as ServingRow}
@@ -44,11 +44,11 @@ undo_send = search (sendable, crosses) depth 60 fits 1000000
 pub keyed_send : IsSend KeyedRow
 keyed_send = search (sendable, crosses) depth 60 fits 1000000
 
-pub relative_send : IsSend RelativeRow
-relative_send = search (sendable, crosses) depth 60 fits 1000000
+pub chained_send : IsSend ChainedRow
+chained_send = search (sendable, crosses) depth 60 fits 1000000
 
 pub part_send : IsSend AnyPartRow
-part_send = search (sendable, crosses, keyed_send, relative_send) depth 40 fits 1000000
+part_send = search (sendable, crosses, keyed_send, chained_send) depth 40 fits 1000000
 
 -- whatever its device is
 pub serving_send : (D : RattleType) (device : BlockDeviceOf D.Denot) → IsSend D

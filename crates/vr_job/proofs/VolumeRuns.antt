@@ -26,7 +26,9 @@ use Rattle.vr_event.specs.Volume.{IsWhole, VolumeNow}
 use Rattle.vr_mount.specs.Areas.{AreOwners}
 use Rattle.vr_store.proofs.CallerLemmas.{stored-left}
 use Rattle.vr_recover.specs.Opening.{IsVolume}
+use Rattle.vr_recover.specs.Recovered.{IsRecovered, standing_all}
 use Rattle.vr_volume.specs.Crashes.{RecoversTo}
+use Rattle.vr_volume.specs.Laid.{shape_by}
 use Rattle.vr_volume.specs.Volume.{Recovers}
 use Rattle.vr_job.specs.Crash.{IsLeftBy}
 use Rattle.vr_job.specs.Faultless.{AreFaultless}
@@ -56,10 +58,10 @@ goes-start seen faults volume whole = record {
   faultless = λ same before. before;
 }
 
--- an image that recovers to the contents of an opening
+-- an image that recovers to the records of the contents of an opening
 left-first : (geometry : Geometry) (number : ℕ) (contents : ℕ → Content)
     (owned : List Rattle.vr_history.specs.State.Owned) (entries : List Entry) (image : Image)
-    → Recovers geometry number image contents
+    → Recovers geometry number image (standing_all contents)
     → IsLeftBy geometry number (opening_state contents owned) entries image
 left-first geometry number contents owned entries image is = record {
   before = [];
@@ -166,9 +168,13 @@ module _ {D : Type 0} (tells : Bool) (seen : D → Seen) (faults : D → Faults)
     held : IsOpenHeld seen faults number (seen first) volume
     held = opens_so.held told
 
+    -- the records of the contents that it was opened with
+    abbrev records : ℕ → Content
+    records = standing_all held.contents
+
     opened : Guards (seen first) (seen volume.blocks) (λ image. Left (seen first) image
-        ⊎ Recovers volume.file.geometry number image held.contents)
-    opened = opens_so.any_moment told volume.file.geometry held.contents held.volume_is
+        ⊎ Recovers volume.file.geometry number image records)
+    opened = opens_so.any_moment told volume.file.geometry records held.volume_is
 
     abbrev old : Seen
     old = seen first
@@ -189,17 +195,16 @@ module _ {D : Type 0} (tells : Bool) (seen : D → Seen) (faults : D → Faults)
     MayLeave image = Left old image
         ⊎ IsLeftBy end.file.geometry end.number opening end.file.entries image
 
-    as-end : (image : Image) → Recovers volume.file.geometry number image held.contents
-        → Recovers end.file.geometry end.number image held.contents
+    as-end : (image : Image) → Recovers volume.file.geometry number image records
+        → Recovers end.file.geometry end.number image records
     as-end image is =
-        subst (λ (g : Geometry). Recovers g end.number image held.contents) (sym same-geometry)
-        (subst (λ (n : ℕ). Recovers volume.file.geometry n image held.contents) (sym same-number)
-        is)
+        subst (λ (g : Geometry). Recovers g end.number image records) (sym same-geometry)
+        (subst (λ (n : ℕ). Recovers volume.file.geometry n image records) (sym same-number) is)
 
     each-moment : Guards old (seen end.blocks) MayLeave
     each-moment = guards-then old (seen volume.blocks) (seen end.blocks) MayLeave
         (guards-weaken old (seen volume.blocks) (λ (image : Image). Left old image
-        ⊎ Recovers volume.file.geometry number image held.contents) MayLeave opened
+        ⊎ Recovers volume.file.geometry number image records) MayLeave opened
         (λ image is. ⊎_elim (λ before. inl before)
         (λ recovers. inr (left-first end.file.geometry end.number held.contents
         (owned_in held.owners) end.file.entries image (as-end image recovers))) is))
@@ -216,10 +221,16 @@ module _ {D : Type 0} (tells : Bool) (seen : D → Seen) (faults : D → Faults)
       geometry = end.file.geometry;
       contents = held.contents;
       owners = held.owners;
-      volume = subst (λ (g : Geometry). IsVolume end.number g held.contents old)
-          (sym same-geometry)
-          (subst (λ (n : ℕ). IsVolume n volume.file.geometry held.contents old) (sym same-number)
+      volume = subst (λ (g : Geometry). IsVolume end.number g records old) (sym same-geometry)
+          (subst (λ (n : ℕ). IsVolume n volume.file.geometry records old) (sym same-number)
           held.volume_is);
+      whole = subst (λ (g : Geometry). IsRecovered g end.number held.contents old.cur)
+          (sym same-geometry)
+          (subst (λ (n : ℕ). IsRecovered volume.file.geometry n held.contents old.cur)
+          (sym same-number) held.whole);
+      ascends = held.ascends;
+      others = subst (λ (g : Geometry). (part : ℕ) → shape_by g (held.contents 0) part ≡ None
+          → held.contents part ≡ []) (sym same-geometry) held.others;
       catalog_is = held.catalog_is;
       legal = run.held.file.legal;
       keeps_catalog = run.keeps_catalog;
@@ -230,8 +241,8 @@ module _ {D : Type 0} (tells : Bool) (seen : D → Seen) (faults : D → Faults)
           (seen volume.blocks).cur held.owners) (sym same-geometry) held.owners_are;
       quiet = opens_so.quiet;
       opens = guards-weaken old (seen volume.blocks) (λ (image : Image). Left old image
-          ⊎ Recovers volume.file.geometry number image held.contents) (λ (image : Image).
-          Left old image ⊎ Recovers end.file.geometry end.number image held.contents) opened
+          ⊎ Recovers volume.file.geometry number image records) (λ (image : Image).
+          Left old image ⊎ Recovers end.file.geometry end.number image records) opened
           (λ image is. ⊎_elim (λ before. inl before) (λ recovers. inr (as-end image recovers)) is);
       events = run.events;
       closes = ended.closed.keeps;

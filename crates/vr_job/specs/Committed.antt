@@ -34,7 +34,8 @@ KeepTheCatalog geometry state (entry ∷ entries) = KeepsCatalog geometry state 
     × KeepTheCatalog geometry (state_after geometry state entry) entries
 
 -- The image recovers to contents that have, in each part of the catalog, the records that these
--- entries of a history committed, with these units counted beside those that they ended.
+-- entries of a history committed, with these units counted beside those that they ended. What was
+-- withdrawn is no record, and none of what an image recovers to.
 pub record HasCommitted (geometry : Geometry) (number : ℕ) (catalog : List CatEntry)
     (opening : State) (entries : List Entry) (counted : List UnitOfRecovery) (image : Image)
     : Type 0 where

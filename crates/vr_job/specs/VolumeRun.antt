@@ -3,7 +3,7 @@
 use Rattle.std.specs.Prelude.{◌≡◌, ◌≢◌, ◌<◌, ◌⊎◌, ℕ, Bool, List, [], None, OnOk, Result, IsErr, IsSome}
 use Rattle.std.specs.Prelude.{◌≤◌, ◌+◌, IsTrue, Option, false}
 use Rattle.vr_types.specs.Blocks.{AllForced, Keeps}
-use Rattle.vr_types.specs.Content.{Content}
+use Rattle.vr_types.specs.Content.{Ascends, Content}
 use Rattle.vr_types.specs.Faults.{Faults}
 use Rattle.vr_types.specs.Image.{Image}
 use Rattle.vr_types.specs.Moments.{Guards}
@@ -22,12 +22,14 @@ use Rattle.vr_event.specs.Opening.{owned_in}
 use Rattle.vr_event.specs.Volume.{IsWhole, VolumeNow}
 use Rattle.vr_mount.specs.Areas.{AreOwners}
 use Rattle.vr_recover.specs.Opening.{IsNoVolume, IsVolume}
+use Rattle.vr_recover.specs.Recovered.{IsRecovered, standing_all}
 use Rattle.vr_worker.specs.Steps.{AreOfSteps}
 use Rattle.vr_job_ends.specs.declared.job_end.End.{End}
 use Rattle.vr_job_ends.specs.declared.job_end.End.TheVariants.{Line, Ran, Unsynced}
 use Rattle.vr_trace.specs.declared.ending.EndLine.{EndLine}
 use Rattle.vr_trace.specs.declared.ending.EndLine.TheVariants.{DeviceFault}
 use Rattle.vr_volume.specs.Crashes.{RecoversTo}
+use Rattle.vr_volume.specs.Laid.{shape_by}
 use Rattle.vr_volume.specs.Volume.{Recovers}
 use Rattle.vr_job.specs.Committed.{KeepTheCatalog}
 use Rattle.vr_job.specs.Crash.{IsLeftBy}
@@ -44,24 +46,30 @@ use Rattle.vr_job.specs.Opened.{IsOpenHeld}
 abbrev pub opening_of : (ℕ → Content) → List (Option PartNo) → State
 opening_of contents owners = opening_state contents (owned_in owners)
 
--- The volume was opened: the blocks were one's of this number, which recovered to contents with
--- this catalog; an area is owned by the part of the catalog that reaches it once it is opened, and by
--- no other, and else it is free; the history is legal from its opening, and no entry of it changes the catalog; and
--- each image of each moment is one that a crash left before, or is left by the history. No fault
--- came as it was opened. From the end of its opening on the run is events, in each of which an
--- image recovers to what is committed by the history before it, perhaps with the unit whose COMMIT
--- it enters; so it came to what the requests left, and then nothing more is put. As long as the
--- device counted no write that failed, the volume wasn't stopped, and each image that a crash may
--- leave at the end recovers to what is committed by all of the history; on a volume that stopped,
--- to what is committed by the history before the fault, with the unit in doubt only where its
--- COMMIT was answered 905. Where the job came through, a crash leaves what is read, unless the
--- volume had stopped: whatever the device has counted.
+-- The volume was opened: the blocks were one's of this number, which recovered to the records of
+-- contents with this catalog. Each place of these contents has what the blocks had; or, where a unit
+-- without an end had changed it, what putting its before-image back leaves. So what was withdrawn is
+-- where the blocks had it, and where an added record of an entry-sequenced part was put back, and
+-- nowhere else; and a part that isn't laid has nothing. An area is owned by the part of the catalog
+-- that reaches it once it is opened, and by no other, and else it is free; the history is legal from
+-- its opening, and no entry of it changes the catalog; and each image of each moment is one that a
+-- crash left before, or is left by the history. No fault came as it was opened. From the end of its
+-- opening on the run is events, in each of which an image recovers to what is committed by the
+-- history before it, perhaps with the unit whose COMMIT it enters; so it came to what the requests
+-- left, and then nothing more is put. As long as the device counted no write that failed, the volume
+-- wasn't stopped, and each image that a crash may leave at the end recovers to what is committed by
+-- all of the history; on a volume that stopped, to what is committed by the history before the fault,
+-- with the unit in doubt only where its COMMIT was answered 905. Where the job came through, a crash
+-- leaves what is read, unless the volume had stopped: whatever the device has counted.
 pub record IsRun {D : Type 0} (tells : Bool) (seen : D → Seen) (faults : D → Faults) (number : ℕ)
     (catalog : List CatEntry) (end : End) (entries : List Entry) (old ended new : D) : Type 0 where
   pub geometry : Geometry
   pub contents : ℕ → Content
   pub owners : List (Option PartNo)
-  pub volume : IsVolume number geometry contents (seen old)
+  pub volume : IsVolume number geometry (standing_all contents) (seen old)
+  pub whole : IsRecovered geometry number contents (seen old).cur
+  pub ascends : (part : ℕ) → Ascends (contents part)
+  pub others : (part : ℕ) → shape_by geometry (contents 0) part ≡ None → contents part ≡ []
   pub catalog_is : catalog ≡ entries_in (contents 0)
   pub legal : IsLegal geometry (opening_state contents (owned_in owners)) entries
   pub keeps_catalog : KeepTheCatalog geometry (opening_state contents (owned_in owners)) entries
@@ -71,7 +79,7 @@ pub record IsRun {D : Type 0} (tells : Bool) (seen : D → Seen) (faults : D →
   pub owners_are : AreOwners geometry catalog (seen opened).cur owners
   pub quiet : faults opened ≡ faults old
   pub opens : Guards (seen old) (seen opened) (λ image. Left (seen old) image
-      ⊎ Recovers geometry number image contents)
+      ⊎ Recovers geometry number image (standing_all contents))
   pub events : IsOfEvents seen faults geometry number (opening_state contents (owned_in owners))
       opened ended entries
   pub closes : Keeps tells (seen ended) (seen new)

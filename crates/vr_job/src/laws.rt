@@ -16,12 +16,12 @@ ghost use Rattle.vr_job.specs.VolumeRun.{IsRun, opening_of};
 
 use vr_device::BlockDevice;
 
-/// What a run leaves of a volume is what its history committed, record by record: each image at
-/// each moment is one that a crash left before, or recovers to what some first entries of the
-/// history committed, perhaps with the unit that is in its commit (`moments`). At the end it
-/// recovers to what all of it committed (`end`); on a volume that stopped, to what was committed
-/// before the event in which it did, with the unit in doubt only where its COMMIT was answered 905
-/// (`stopped`). It is so in each part that the catalog has.
+/// What a run leaves of a volume is what its history committed, record by record, without what was
+/// withdrawn: each image at each moment is one that a crash left before, or recovers to what some
+/// first entries of the history committed, perhaps with the unit that is in its commit (`moments`).
+/// At the end it recovers to what all of it committed (`end`); on a volume that stopped, to what was
+/// committed before the event in which it did, with the unit in doubt only where its COMMIT was
+/// answered 905 (`stopped`). It is so in each part that the catalog has.
 pub fn leaves_what_is_committed<D: BlockDevice>()
     ensures moments { (number : ℕ) (catalog : List CatEntry) (end : End) (entries : List Entry)
         (old ended new : D)

@@ -178,7 +178,8 @@ pub fn open<B: Blocks + Drop>(
     ensures begins { IfOk result (λ volume. volume.file.entries ≡ []) }
     ensures number { IfOk result (λ volume. volume.number ≡ number) }
     ensures going { IfOk result (λ volume. volume.file.stopped ≡ None) }
-    // It is held from its opening, and each image that a crash may leave of it recovers to that.
+    // It is held from its opening, with what the blocks had; and each image that a crash may leave
+    // of it recovers to the records of that.
     ensures held { IsTrue B.tells
         → IfOk result (IsOpenHeld B.seen B.faults number (B.seen blocks)) }
     // In every image of every moment, whether it is opened or not.

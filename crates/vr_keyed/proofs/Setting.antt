@@ -199,7 +199,7 @@ module _ (part : Keyed) (kept : Lengths) (known : Known) (place : List ℕ)
   has-place = by item refl ready.can.room
     where
       by : (o : Option (List ℕ)) → item ≡ o
-          → HasRoomFor (KeyedShape part) a.cur kept place o
+          → HasRoomFor (KeyedShape part) known a.cur kept place o
           → HasPlace part met.range place item met.block old-holds in-range kept
       by None same room = inl same
       by (Some record_given) same room = inr (

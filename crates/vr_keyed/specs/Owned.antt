@@ -1,5 +1,5 @@
 -- What is seen of a keyed part on blocks.
-use Rattle.std.specs.Prelude.{ℕ, List, [], Option}
+use Rattle.std.specs.Prelude.{ℕ, List, [], Option, None}
 use Rattle.vr_space.specs.Keyed.{Keyed}
 use Rattle.vr_space.specs.Split.{SplitNow}
 use Rattle.vr_space.specs.Met.{Met}
@@ -14,4 +14,4 @@ pub record Owned : Type 0 where
 
 -- what it keeps in memory of its blocks: its one area is in its layout
 abbrev pub known_of : Owned → Known
-known_of keyed = record { split = keyed.split; met = keyed.met; areas = []; used = 0 }
+known_of keyed = record { split = keyed.split; met = keyed.met; areas = []; used = 0; tail = None }

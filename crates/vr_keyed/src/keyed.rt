@@ -273,6 +273,10 @@ impl Part for Keyed {
         Ok(())
     }
 
+    fn address(&self, _length: u32) -> Option<u32> {
+        None
+    }
+
     fn areas(&self) -> u32 {
         0
     }

@@ -49,19 +49,19 @@ module _ (geometry : Geometry) (image : Image) (generation : ℕ) (bytes : List 
     });
   })
 
-  -- a block says more bytes than it has room for
-  pub read_over : (records : List LogRecord) (index n : ℕ)
+  -- a block says more bytes than it has room for, or has others than zeros past them
+  pub read_wrong : (records : List LogRecord) (index n : ℕ)
       → IsGathered geometry generation image bytes (Some index) → SpellsRecords bytes records
       → n ≡ 1 + index → IsDamagedAt geometry image n
-  read_over records index n gathered spelled place = inr (record {
+  read_wrong records index n gathered spelled place = inr (record {
     generation = generation;
     first = first;
     bad = inl (record {
       index = index;
       block = place;
-      over = gathered.end;
+      bad = gathered.end;
       records = records;
-      before = subst (λ (l : List ℕ). SpellsRecords l records) (sym gathered.bytes_is) spelled;
+      spelled = subst (λ (l : List ℕ). SpellsRecords l records) (sym gathered.bytes_is) spelled;
     });
   })
 

@@ -1,11 +1,10 @@
 -- A before-image, off the bytes that begin with it.
-use Rattle.std.proofs.Common.{◌≡◌, ⊎_elim, inl, ℕ, ◌+◌, ◌-◌, ◌^◌, ◌<◌, ◌≤◌, List, [], ◌∷◌, ◌++◌, length, take}
-use Rattle.std.proofs.Common.{drop, Option, None, IfSome, get_or, sym, ap}
-use Rattle.std.proofs.Common.{subst, ◌∙◌, arith}
+use Rattle.std.proofs.Common.{◌≡◌, inl, inr, ℕ, ◌+◌, ◌-◌, ◌^◌, ◌<◌, ◌≤◌, List, [], ◌∷◌, ◌++◌}
+use Rattle.std.proofs.Common.{length, take, drop, Option, IfSome, get_or, sym, ap, subst, ◌∙◌}
+use Rattle.std.proofs.Common.{arith}
+use Rattle.std.specs.Int.{w32, from_be_bytes}
 use Rattle.std.proofs.lemmas.List.{append-nil, append_assoc, length-append, length-take}
-use Rattle.std.proofs.lemmas.List.{length-drop}
-use Rattle.std.proofs.lemmas.List.{drop_at, take-append-drop, drop-drop}
-use Rattle.std.proofs.lemmas.List.{take_all}
+use Rattle.std.proofs.lemmas.List.{length-drop, drop_at, take-append-drop, drop-drop, take_all}
 use Rattle.vr_types.specs.Fields.{IsBytes, two, four, two_at, four_at}
 use Rattle.vr_types.specs.declared.unit.PartNo.{PartNo}
 use Rattle.vr_types.specs.declared.unit.Unit.{Unit as UnitOfRecovery}
@@ -17,7 +16,8 @@ use Rattle.vr_log.specs.Decoding.{IsOldCut, IsOldWrong, IsOld, IsWhole}
 use Rattle.vr_log.specs.Records.{record_bytes, unit_bytes, old_bytes, HasFields, IsCut}
 use Rattle.vr_log.proofs.RecordBytes.{begins, misspelled-by}
 use Rattle.vr_log.proofs.Lives.{length-before}
-use Rattle.vr_log.proofs.Unique.{two-both, four-both, known-both, end-number}
+use Rattle.vr_log.proofs.Cuts.{end-number}
+use Rattle.vr_log.proofs.Unique.{two-both, four-both, known-both}
 
 -- the numbers before the place of a before-image, and what follows them
 abbrev Headed : ℕ → ℕ → ℕ → ℕ → List ℕ → List ℕ
@@ -105,18 +105,6 @@ module _ (bytes rest : List ℕ) (deck number part p : ℕ)
   }
 
   module _ (place tail : List ℕ) (long : length place ≡ p) (split : rest ≡ place ++ tail) where
-    pub cut-old : IsOldCut tail → IsCut bytes
-    cut-old cut = inl (record {
-      whole = Before the_unit the_part place cut.old;
-      fields = fields-of place cut.old long cut.was;
-      missing = cut.missing;
-      some = cut.some;
-      begins = built cut.missing place [] cut.old long
-          (ap (λ (l : List ℕ). l ++ cut.missing) split ∙ append_assoc place tail cut.missing
-          ∙ ap (λ (l : List ℕ). place ++ l) (cut.begins ∙ sym (append-nil (old_bytes cut.old))))
-          ∙ append-nil (record_bytes (Before the_unit the_part place cut.old));
-    })
-
     pub whole-old : (old : Option (List ℕ)) (count : ℕ) → IsOld tail old count
         → IsWhole bytes (Before the_unit the_part place old) (15 + p + count)
     whole-old old count whole =
@@ -139,7 +127,7 @@ module _ (bytes rest : List ℕ) (deck number part p : ℕ)
               (arith, ap length is, length-append (record_bytes rec) (drop count tail), size);
         }
 
-    no-before : IsOldWrong tail → (rec : LogRecord) (x y : List ℕ) → HasFields rec
+    pub no-before : IsOldWrong tail → (rec : LogRecord) (x y : List ℕ) → HasFields rec
         → bytes ++ x ≡ record_bytes rec ++ y → ⊥
     unfolding record_bytes
     no-before wrong (End u k) x y fits same =
@@ -166,17 +154,17 @@ module _ (bytes rest : List ℕ) (deck number part p : ℕ)
         let e = known-both place q _ _ (long ∙ d.0) d.1 in
         wrong.none r x y e.1
 
-    pub wrong-old : IsOldWrong tail → 20 + two_at 13 bytes ≤ length bytes → IsMisspelled bytes
-    wrong-old wrong enough = misspelled-by bytes (no-before wrong) (λ short. ⊎_elim
-        (λ (few : length bytes < 15). omega (arith, few, enough))
-        (λ (few : length bytes < 20 + two_at 13 bytes). omega (arith, few, enough)) short.short)
-
 -- the place, and what follows it
 pub split-place : (bytes : List ℕ) (p : ℕ)
     → drop 15 bytes ≡ take p (drop 15 bytes) ++ drop (15 + p) bytes
 split-place bytes p =
     sym (take-append-drop p (drop 15 bytes))
     ∙ ap (λ (l : List ℕ). take p (drop 15 bytes) ++ l) (drop-drop p 15 bytes)
+
+four-later : (at : ℕ) (bytes : List ℕ) → four_at 1 (drop at bytes) ≡ four_at (at + 1) bytes
+unfolding four_at
+four-later at bytes =
+    ap (λ (l : List ℕ). from_be_bytes w32 (take 4 l)) (drop-drop 1 at bytes)
 
 -- the bytes after the place, as they are read
 module _ (bytes : List ℕ) (n : ℕ) (fits : IsBytes bytes) (long : 15 ≤ length bytes)
@@ -202,22 +190,37 @@ module _ (bytes : List ℕ) (n : ℕ) (fits : IsBytes bytes) (long : 15 ≤ leng
   split : drop 15 bytes ≡ take n (drop 15 bytes) ++ Tail
   split = split-place bytes n ∙ ap (λ (l : List ℕ). take n (drop 15 bytes) ++ l) (sym tail-is)
 
+  -- the length that the old record says
+  said : four_at 1 Tail ≡ four_at (16 + two_at 13 bytes) bytes
+  said =
+      ap (four_at 1) tail-is ∙ four-later (15 + n) bytes
+      ∙ ap (λ (m : ℕ). four_at m bytes) (omega (arith, is))
+
+  tail-long : length Tail ≡ length bytes - (15 + n)
+  tail-long =
+      omega (
+        arith,
+        length-take (length bytes - (15 + n)) (drop (15 + n) bytes),
+        length-drop (15 + n) bytes,
+      )
+
   pub read-cut : IsOldCut Tail → IsCut bytes
   read-cut cut =
-      cut-old bytes (drop 15 bytes) (four_at 1 bytes) (four_at 5 bytes) (four_at 9 bytes) n head
-      (take n (drop 15 bytes)) Tail place-long split cut
+      inr (record {
+        kind = first;
+        short = inr (inr (omega (arith, cut, said, tail-long, is, within)));
+      })
 
   pub read-wrong : IsOldWrong Tail → IsMisspelled bytes
   read-wrong wrong =
-      wrong-old bytes (drop 15 bytes) (four_at 1 bytes) (four_at 5 bytes) (four_at 9 bytes) n head
-      (take n (drop 15 bytes)) Tail place-long split wrong
-      (omega (
-        arith,
-        is,
-        wrong.long,
-        length-take (length bytes - (15 + n)) (drop (15 + n) bytes),
-        length-drop (15 + n) bytes,
-      ))
+      misspelled-by bytes
+      (no-before bytes (drop 15 bytes) (four_at 1 bytes) (four_at 5 bytes) (four_at 9 bytes) n head
+      (take n (drop 15 bytes)) Tail place-long split wrong)
+      (omega (arith, long)) (λ short. elim short.short [
+        | inl few ↦ omega (arith, few, long)
+        | inr (inl few) ↦ omega (arith, few, wrong.long, tail-long, is)
+        | inr (inr few) ↦ omega (arith, few, wrong.long, said, tail-long, is)
+      ])
 
   pub read-whole : (old : Option (List ℕ)) (count all : ℕ) (rec : LogRecord)
       → rec ≡ Before (record { deck = four_at 1 bytes; number = four_at 5 bytes })

@@ -1,5 +1,5 @@
 -- What a prefix of the bytes of records spells.
-use Rattle.std.proofs.Common.{◌≡◌, inl, inr, ℕ, zero, suc, ◌<◌, ◌≤◌, List, [], ◌∷◌, ◌++◌, length}
+use Rattle.std.proofs.Common.{◌≡◌, inl, inr, ℕ, zero, suc, ◌≤◌, List, [], ◌∷◌, ◌++◌, length}
 use Rattle.std.proofs.Common.{take, drop, All, refl, sym, ap, subst, ◌∙◌, arith}
 use Rattle.std.proofs.lemmas.Bool.{cases_lt}
 use Rattle.std.proofs.lemmas.List.{append_assoc, take-append-drop, length-append, length-drop}
@@ -7,29 +7,13 @@ use Rattle.std.proofs.lemmas.List.{take_at, drop_at, take-append-le, drop-append
 use Rattle.std.proofs.lemmas.List.{nil_from_length}
 use Rattle.std.proofs.lemmas.List.Elements.{All-head, All-tail, All-append}
 use Rattle.vr_types.specs.Image.{Image}
-use Rattle.vr_types.specs.declared.unit.Unit.{Unit as UnitOfRecovery}
-use Rattle.vr_log.specs.declared.record.EndKind.TheVariants.{Committed}
 use Rattle.vr_log.specs.declared.record.LogRecord.{LogRecord}
-use Rattle.vr_log.specs.declared.record.LogRecord.TheVariants.{End}
 use Rattle.vr_log.specs.LogNow.{LogNow, HasLog}
-use Rattle.vr_log.specs.Records.{record_bytes, bytes_of, unit_bytes, HasFields, IsCut}
+use Rattle.vr_log.specs.Records.{record_bytes, bytes_of, HasFields, IsCut}
 use Rattle.vr_log.specs.Records.{SpellsRecords}
 use Rattle.vr_log.specs.Standing.{forced_length}
+use Rattle.vr_log.proofs.Cuts.{begun-cut, none-cut}
 use Rattle.vr_log.specs.Writing.{IsFound}
-
-abbrev no_unit : UnitOfRecovery
-no_unit = record { deck = 0; number = 0 }
-
--- nothing is a cut of any record
-pub none-cut : IsCut []
-unfolding record_bytes
-none-cut = inl (record {
-  whole = End no_unit Committed;
-  fields = record { deck = omega arith; number = omega arith };
-  missing = 2 ∷ unit_bytes no_unit;
-  some = omega arith;
-  begins = refl;
-})
 
 pub All-none : {X : Type 0} (P : X → Type 0) → All P []
 All-none P i d below = absurd (omega (arith, below))
@@ -56,19 +40,6 @@ split-drop p rest q more same long =
       sym (drop-append-le (length q) p rest long) ∙ ap (λ (x : List ℕ). drop (length q) x) same
           ∙ drop_at q more (length q) refl,
     )
-
-cut-of : (r : LogRecord) (p rest more : List ℕ) → HasFields r → p ++ rest ≡ record_bytes r ++ more
-    → length p < length (record_bytes r) → IsCut p
-cut-of r p rest more fields same short = inl (record {
-  whole = r;
-  fields = fields;
-  missing = drop (length p) (record_bytes r);
-  some = omega (arith, short, length-drop (length p) (record_bytes r));
-  begins = ap (λ (x : List ℕ). x
-      ++ drop (length p) (record_bytes r))
-      (split-take p rest (record_bytes r) more same (omega (arith, short)))
-      ∙ take-append-drop (length p) (record_bytes r);
-})
 
 -- one more record before those that are spelled
 more-spelled : (r : LogRecord) (rs : List LogRecord) (forced : ℕ) (p tail : List ℕ) → HasFields r
@@ -116,7 +87,7 @@ counted-of [] (suc forced) p rest fields below same least = absurd (omega (arith
 counted-of (r ∷ rs) zero p rest fields below same least =
     elim (cases_lt (length p) (length (record_bytes r))) [
       | inl short ↦ none-counted (r ∷ rs) p
-          (cut-of r p rest (bytes_of rs) (All-head HasFields r rs fields) same short)
+          (begun-cut r p rest (bytes_of rs) (All-head HasFields r rs fields) same short)
       | inr long ↦
           let split = split-drop p rest (record_bytes r) (bytes_of rs) same long in
           weaken-count (r ∷ rs) 1 0 p (omega arith)

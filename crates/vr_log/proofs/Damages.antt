@@ -2,16 +2,18 @@
 use Rattle.std.proofs.Common.{◌≡◌, ◌⊎◌, inl, inr, ⊎_elim, ℕ, zero, suc, ◌+◌, ◌/◌, ◌<◌, ◌≤◌, List}
 use Rattle.std.proofs.Common.{◌++◌, length, All, sym, ap, subst, ◌∙◌, arith}
 use Rattle.std.proofs.lemmas.Bool.{cases_lt}
+use Rattle.vr_types.specs.Fields.{AreZeros}
 use Rattle.vr_types.specs.Image.{Image, block_at}
 use Rattle.vr_types.specs.declared.geometry.Geometry.{Geometry}
 use Rattle.vr_log.specs.declared.record.LogRecord.{LogRecord}
 use Rattle.vr_log.specs.Content.{Content}
-use Rattle.vr_log.specs.Damage.{IsMisspelled, IsFirst, IsBadFirst, IsOver, IsBadBlock}
+use Rattle.vr_log.specs.Damage.{IsMisspelled, IsFirst, IsBadFirst, IsBadNext, IsBadBlock}
 use Rattle.vr_log.specs.Damage.{IsBadRecord, IsBadLog, IsDamagedAt}
-use Rattle.vr_log.specs.LogBlock.{room_of}
+use Rattle.vr_log.specs.LogBlock.{rest_in, room_of, used_in}
 use Rattle.vr_log.specs.Records.{HasFields, bytes_of, IsCut, SpellsRecords}
 use Rattle.vr_log.specs.Spells.{Spells, SpellsLog, Fits, log_bytes}
-use Rattle.vr_log.proofs.Unique.{ends_one, cut-none, zeros-generation}
+use Rattle.vr_log.proofs.Cuts.{cut-none}
+use Rattle.vr_log.proofs.Unique.{ends_one, zeros-generation}
 
 -- bytes that are spelled are nowhere misspelled
 spelled-well : (bytes : List ℕ) (records before : List LogRecord) (rest : List ℕ)
@@ -22,29 +24,37 @@ spelled-well bytes records before rest spelled fields is bad =
     (cut-none spelled.cut spelled.is_cut) bad.no_record (sym spelled.spelled ∙ is) in
     bad.no_cut (subst IsCut one.1 spelled.is_cut)
 
--- where each block that goes on has room for what it uses, none is over
-fits-over : (geometry : Geometry) (generation : ℕ) (image : Image) (index : ℕ)
-    → IsOver geometry generation image index → (from left : ℕ) → from ≤ index → index < from + left
+-- where each block that goes on has room for what it uses, and zeros past that, none is bad
+fits-bad : (geometry : Geometry) (generation : ℕ) (image : Image) (index : ℕ)
+    → IsBadNext geometry generation image index → (from left : ℕ) → from ≤ index
+    → index < from + left
     → Fits (room_of geometry) generation from left image → ⊥
-fits-over geometry generation image index over from zero low high fits =
+fits-bad geometry generation image index bad from zero low high fits =
     omega (arith, low, high)
-fits-over geometry generation image index over from (suc left) low high fits =
+fits-bad geometry generation image index bad from (suc left) low high fits =
     ⊎_elim
-    (λ (less : from < index). let full = over.full from less in
-    fits-over geometry generation image index over (from + 1) left (omega (arith, less))
-    (omega (arith, high)) ((fits full.next).1 full.used))
+    (λ (less : from < index). let full = bad.full from less in
+    fits-bad geometry generation image index bad (from + 1) left (omega (arith, less))
+    (omega (arith, high)) ((fits full.next).2 full.used))
     (λ (most : index ≤ from). let same : index ≡ from = omega (arith, low, most) in
-    let here : IsOver geometry generation image from =
-    subst (λ (n : ℕ). IsOver geometry generation image n) same over in
-    omega (arith, (fits here.next).0, here.over))
+    let here : IsBadNext geometry generation image from =
+    subst (λ (n : ℕ). IsBadNext geometry generation image n) same bad in
+    let has = fits here.next in
+    ⊎_elim
+    (λ (over : room_of geometry < used_in (block_at image (1 + from))). omega (arith, has.0, over))
+    (λ (other : AreZeros (rest_in (block_at image (1 + from))) → ⊥). other has.1) here.bad)
     (cases_lt from index)
 
--- one block is over at most
-one-over : (geometry : Geometry) (generation : ℕ) (image : Image) (one other : ℕ)
-    → IsOver geometry generation image one → IsOver geometry generation image other → one < other
-    → ⊥
-one-over geometry generation image one other first second less =
-    omega (arith, (second.full one less).used, first.over)
+-- one block is bad at most
+one-bad : (geometry : Geometry) (generation : ℕ) (image : Image) (one other : ℕ)
+    → IsBadNext geometry generation image one → IsBadNext geometry generation image other
+    → one < other → ⊥
+one-bad geometry generation image one other first second less =
+    let full = second.full one less in
+    ⊎_elim
+    (λ (over : room_of geometry < used_in (block_at image (1 + one))). omega
+    (arith, full.used, over))
+    (λ (other : AreZeros (rest_in (block_at image (1 + one))) → ⊥). other full.zeros) first.bad
 
 -- a block 1 that begins a generation is neither zeros nor bad
 first-bad : (image : Image) (generation : ℕ) → IsFirst (block_at image 1) generation
@@ -65,9 +75,9 @@ module _ (geometry : Geometry) (image : Image) where
       ∙ spells.generation in
       ⊎_elim
       (λ (block : IsBadBlock geometry bad.generation image n).
-      fits-over geometry content.generation image block.index
-      (subst (λ (g : ℕ). IsOver geometry g image block.index) same block.over) 0 geometry.log
-      (omega arith) (omega (arith, block.over.within)) spells.fits)
+      fits-bad geometry content.generation image block.index
+      (subst (λ (g : ℕ). IsBadNext geometry g image block.index) same block.bad) 0 geometry.log
+      (omega arith) (omega (arith, block.bad.within)) spells.fits)
       (λ (wrong : IsBadRecord geometry bad.generation image n).
       spelled-well (log_bytes geometry content.generation image) content.records wrong.records
       wrong.rest spells.records wrong.fields
@@ -96,9 +106,9 @@ module _ (geometry : Geometry) (image : Image) where
       ⊎ IsBadRecord geometry generation image other → one ≡ other
   one-block generation one other (inl first) (inl second) =
       let less : first.index < second.index → ⊥ =
-      one-over geometry generation image first.index second.index first.over second.over in
+      one-bad geometry generation image first.index second.index first.bad second.bad in
       let more : second.index < first.index → ⊥ =
-      one-over geometry generation image second.index first.index second.over first.over in
+      one-bad geometry generation image second.index first.index second.bad first.bad in
       let same : first.index ≡ second.index =
       ⊎_elim (λ (below : first.index < second.index). absurd (less below))
       (λ (above : second.index ≤ first.index).
@@ -108,10 +118,10 @@ module _ (geometry : Geometry) (image : Image) where
       first.block ∙ ap (λ (n : ℕ). 1 + n) same ∙ sym second.block
   one-block generation one other (inl first) (inr second) =
       absurd (spelled-well (log_bytes geometry generation image) first.records second.records
-      second.rest first.before second.fields second.bytes second.misspelled)
+      second.rest first.spelled second.fields second.bytes second.misspelled)
   one-block generation one other (inr first) (inl second) =
       absurd (spelled-well (log_bytes geometry generation image) second.records first.records
-      first.rest second.before first.fields first.bytes first.misspelled)
+      first.rest second.spelled first.fields first.bytes first.misspelled)
   one-block generation one other (inr first) (inr second) =
       let same : first.records ≡ second.records =
       (ends_one first.records second.records first.rest second.rest first.fields second.fields

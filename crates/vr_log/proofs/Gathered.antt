@@ -1,15 +1,16 @@
 -- The bytes of a log, gathered block by block.
-use Rattle.std.proofs.Common.{◌≡◌, ⊎_elim, ℕ, suc, ◌+◌, ◌-◌, ◌<◌, ◌≤◌, Bool}
+use Rattle.std.proofs.Common.{◌≡◌, inl, inr, ⊎_elim, ℕ, suc, ◌+◌, ◌-◌, ◌<◌, ◌≤◌, Bool}
 use Rattle.std.proofs.Common.{true, false, List, [], ◌++◌, Some, None, nat_eq}
 use Rattle.std.proofs.Common.{nat_le, refl, sym, ap, subst, ◌∙◌, arith, eq-eqb, true≢false}
 use Rattle.std.proofs.lemmas.Bool.{cases_lt, le-leb, lt-leb, ne_eqb}
 use Rattle.std.proofs.lemmas.List.{append-nil, append_assoc}
+use Rattle.vr_types.specs.Fields.{AreZeros}
 use Rattle.vr_types.specs.Image.{Block, Image, block_at}
 use Rattle.vr_types.specs.declared.geometry.Geometry.{Geometry}
 use Rattle.vr_log.specs.declared.gathering.Next.{Next}
 use Rattle.vr_log.specs.Damage.{IsFull}
-use Rattle.vr_log.specs.LogBlock.{used_in, payload_in, is_next, room_of}
-use Rattle.vr_log.specs.Reading.{IsGatheredTo, IsGathered, IsLast, IsNextFound}
+use Rattle.vr_log.specs.LogBlock.{used_in, payload_in, rest_in, is_next, room_of}
+use Rattle.vr_log.specs.Reading.{IsGatheredTo, IsGathered, IsLast, IsWrong, IsNextFound}
 use Rattle.vr_log.specs.Spells.{joined, Fits, bytes_from}
 
 -- the blocks from an index on, the first of them apart
@@ -76,15 +77,17 @@ module _ (room generation index left : ℕ) (image : Image) where
       over-join (is_next generation index Here) (nat_le (used_in Here) room)
       (nat_eq (used_in Here) room) (payload_in Here) Rest (lt-leb (used_in Here) room over)
 
-  pub part-fits : used_in Here < room → Fits room generation index (suc left) image
-  part-fits less next = (omega (arith, less), λ same. absurd (omega (arith, same, less)))
+  pub part-fits : used_in Here < room → AreZeros (rest_in Here)
+      → Fits room generation index (suc left) image
+  part-fits less zeros next =
+      (omega (arith, less), zeros, λ same. absurd (omega (arith, same, less)))
 
   pub out-fits : is_next generation index Here ≡ false → Fits room generation index (suc left) image
   out-fits out next = absurd (true≢false (sym next ∙ out))
 
   pub full-fits : IsFull room generation index Here → Fits room generation (index + 1) left image
       → Fits room generation index (suc left) image
-  full-fits full further next = (omega (arith, full.used), λ same. further)
+  full-fits full further next = (omega (arith, full.used), full.zeros, λ same. further)
 
 module _ (geometry : Geometry) (generation : ℕ) (image : Image) where
   abbrev Room : ℕ
@@ -151,24 +154,44 @@ module _ (geometry : Geometry) (generation : ℕ) (image : Image) where
               (out-fits Room generation index (geometry.log - (index + 1)) image out.0));
         })
         (λ (part : (is_next generation index (At index) ≡ true) × (used_in (At index) < Room)
-        × (new ≡ bytes ++ payload_in (At index))). record {
+        × AreZeros (rest_in (At index)) × (new ≡ bytes ++ payload_in (At index))). record {
           bytes_is = so_far.rest
               ∙ ap (λ (l : List ℕ). bytes ++ l) (split index below
               ∙ part-bytes Room generation index (geometry.log - (index + 1)) image part.0 part.1)
-              ∙ sym part.2;
+              ∙ sym part.3;
           end = so_far.fits (fits-split index below
-              (part-fits Room generation index (geometry.log - (index + 1)) image part.1));
+              (part-fits Room generation index (geometry.log - (index + 1)) image part.1 part.2));
         }) last.is
 
-    pub gathered-over : is_next generation index (At index) ≡ true → Room < used_in (At index)
-        → new ≡ bytes → IsGathered geometry generation image new (Some index)
-    gathered-over next over is = record {
-      bytes_is = so_far.rest
-          ∙ ap (λ (l : List ℕ). bytes ++ l) (split index below
-          ∙ over-bytes Room generation index (geometry.log - (index + 1)) image over)
-          ∙ append-nil bytes ∙ sym is;
-      end = record { within = below; full = so_far.full; next = next; over = over };
-    }
+    pub gathered-wrong : IsWrong Room generation index (At index) bytes new
+        → IsGathered geometry generation image new (Some index)
+    gathered-wrong wrong = ⊎_elim
+        (λ (over : (Room < used_in (At index)) × (new ≡ bytes)). record {
+          bytes_is = so_far.rest
+              ∙ ap (λ (l : List ℕ). bytes ++ l) (split index below
+              ∙ over-bytes Room generation index (geometry.log - (index + 1)) image over.0)
+              ∙ append-nil bytes ∙ sym over.1;
+          end = record {
+            within = below;
+            full = so_far.full;
+            next = wrong.next;
+            bad = inl over.0;
+          };
+        })
+        (λ (other : (used_in (At index) < Room) × (AreZeros (rest_in (At index)) → ⊥)
+        × (new ≡ bytes ++ payload_in (At index))). record {
+          bytes_is = so_far.rest
+              ∙ ap (λ (l : List ℕ). bytes ++ l) (split index below
+              ∙ part-bytes Room generation index (geometry.log - (index + 1)) image wrong.next
+              other.0)
+              ∙ sym other.2;
+          end = record {
+            within = below;
+            full = so_far.full;
+            next = wrong.next;
+            bad = inr other.1;
+          };
+        }) wrong.is
 
   -- all blocks are full
   pub gathered-all : (index : ℕ) (bytes : List ℕ) → index ≡ geometry.log

@@ -61,7 +61,7 @@ prefix-of room generation index (suc left) image total each =
     (subst (λ (x : List ℕ). IsPrefix (bytes_from room generation (index + 1) left image) x)
     further tail)
 
--- each block that goes on has room for what it uses
+-- each block that goes on has room for what it uses, and zeros past that
 pub fits-of : (room generation index left : ℕ) (image : Image) (total : List ℕ)
     → ((i : ℕ) → index ≤ i → i < index + left
     → IsWithin room generation total i (block_at image (1 + i)))
@@ -71,6 +71,7 @@ fits-of room generation index (suc left) image total each =
     let here = each index (omega arith) (omega arith) in
     λ next. (
       omega (arith, here.used next, length-take room (drop (index * room) total)),
+      here.zeros next,
       λ full.
           fits-of room generation (index + 1) left image total
           (λ i from to. each i (omega (arith, from)) (omega (arith, to))),
@@ -167,6 +168,7 @@ within-more room generation index bytes total block prefix within =
       used = λ next. omega (arith, within.used next, place-more room index bytes prefix.0);
       payload = λ next. within.payload next
           ∙ place-same room index (used_in block) bytes prefix.0 (within.used next);
+      zeros = within.zeros;
     })
 
 pub take-whole : (xs : List ℕ) → take (length xs) xs ≡ xs
@@ -181,6 +183,7 @@ exact-within room generation index bytes block exact = record {
   payload = λ next. exact.payload
       ∙ sym (ap (λ (u : ℕ). take u (place_of room bytes index)) exact.used
       ∙ take-whole (place_of room bytes index));
+  zeros = λ next. exact.zeros;
 }
 
 -- and reaches as far as they go

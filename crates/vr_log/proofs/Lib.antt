@@ -2,6 +2,7 @@ pub mod CallerLemmas
 pub mod Heads
 pub mod Images
 pub mod Leaving
+pub mod Cuts
 pub mod Codec
 pub mod Putting
 pub mod Turning

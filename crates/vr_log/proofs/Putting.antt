@@ -1,33 +1,39 @@
 -- A block of a log that is put, and what its images then have.
 use Rattle.std.proofs.Common.{◌≡◌, inl, inr, ℕ, ◌+◌, ◌*◌, ◌^◌, ◌<◌, ◌≤◌, Bool, IsTrue, true, false}
 use Rattle.std.proofs.Common.{List, ◌++◌, length, take, drop, Some, refl, sym, ap, subst, ◌∙◌}
-use Rattle.std.proofs.Common.{arith}
+use Rattle.std.proofs.Common.{arith, ◌-◌, replicate, vec_len}
 use Rattle.std.proofs.lemmas.List.{take_all, length-drop, take-append-le, drop-append-le}
-use Rattle.std.proofs.lemmas.List.{length-append}
+use Rattle.std.proofs.lemmas.List.{length-append, take_at}
 use Rattle.vr_types.specs.Geometry.{IsAllowed}
 use Rattle.vr_types.specs.Image.{Block, Image, MayAlso}
 use Rattle.vr_types.specs.Seen.{Seen}
 use Rattle.vr_types.specs.Blocks.{Keeps, Puts}
 use Rattle.vr_types.specs.Regions.{IsImageOn, Touches}
-use Rattle.vr_types.proofs.CallerLemmas.{puts-touches, keeps-touches, block_size_least}
+use Rattle.vr_types.specs.Fields.{AreZeros, padded}
+use Rattle.vr_types.proofs.CallerLemmas.{puts-touches, keeps-touches, block_size_least, zeros_after}
 use Rattle.vr_log.specs.declared.tail.Tail.{Tail}
 use Rattle.vr_log.specs.Content.{Content}
 use Rattle.vr_log.specs.LogBlock.{generation_in, index_in, used_in, payload_in, head_of, room_of}
 use Rattle.vr_log.specs.LogNow.{LogNow}
 use Rattle.vr_log.specs.Standing.{InLog, place_of, IsExact, open_index, Leaves, forced_length}
-use Rattle.vr_log.specs.Writing.{IsPrefix, IsWriting, IsFound, log_during}
+use Rattle.vr_log.specs.Writing.{IsPrefix, IsWriting, IsFound, block_of, log_during}
 use Rattle.vr_log.proofs.Heads.{generation-headed, index-headed, used-headed, rest-headed}
+use Rattle.vr_log.proofs.Heads.{length-headed, padded-headed}
 use Rattle.vr_log.proofs.Leaving.{next-of, exact-left, leaves-put, leaves-fewer, found_of}
 
--- the block of a log that is written has all bytes of its place
-pub exact-block : (generation index used room : ℕ) (written old block : List ℕ)
-    → generation < 2 ^ 64 → index < 2 ^ 32 → used < 2 ^ 32 → block ≡ head_of generation index used
-    ++ drop 16 old
-    → take used (drop 16 old) ≡ drop (index * room) written → index * room + used ≡ length written
+-- the block of a log that is written has all bytes of its place, and zeros
+pub exact-block : (generation index used room size : ℕ) (written bytes block : List ℕ)
+    → generation < 2 ^ 64 → index < 2 ^ 32 → used < 2 ^ 32
+    → block ≡ padded size (head_of generation index used ++ bytes)
+    → bytes ≡ drop (index * room) written → index * room + used ≡ length written
     → used ≤ room → IsExact room generation written index block
 unfolding payload_in
-exact-block generation index used room written old block young low few is payload sum fits =
-    let rest = drop 16 old in
+exact-block generation index used room size written bytes block young low few made payload sum
+    fits =
+    let whole = head_of generation index used ++ bytes in
+    let rest = bytes ++ replicate (size - length whole) 0 in
+    let is : block ≡ head_of generation index used ++ rest =
+    made ∙ padded-headed size generation index used bytes in
     let in_generation : generation_in block ≡ generation = ap generation_in is
     ∙ generation-headed generation index used rest young in
     let in_index : index_in block ≡ index = ap index_in is
@@ -38,13 +44,23 @@ exact-block generation index used room written old block young low few is payloa
     ∙ rest-headed generation index used rest in
     let short : length (drop (index * room) written) ≤ room =
     omega (arith, length-drop (index * room) written, sum, fits) in
+    let long : length bytes ≡ used =
+    omega (arith, ap length payload, length-drop (index * room) written, sum) in
+    let head_long : 16 + used ≡ length whole =
+    omega (arith, length-headed generation index used bytes, long) in
     let place : place_of room written index ≡ drop (index * room) written =
     take_all room (drop (index * room) written) short in
     record {
       next = next-of generation index block in_generation in_index;
       used = omega (arith, in_used, ap length place, length-drop (index * room) written, sum);
       payload = ap (λ (n : ℕ). take n (drop 16 block)) in_used
-          ∙ ap (λ (x : List ℕ). take used x) after ∙ payload ∙ sym place;
+          ∙ ap (λ (x : List ℕ). take used x) after
+          ∙ take_at bytes (replicate (size - length whole) 0) used long ∙ payload ∙ sym place;
+      zeros = subst AreZeros
+          (sym (ap (λ (n : ℕ). drop (16 + n) block) in_used
+          ∙ ap (λ (n : ℕ). drop n block) head_long
+          ∙ ap (λ (x : List ℕ). drop (length whole) x) made))
+          (zeros_after size whole);
     }
 
 -- a place that is full has the same bytes where more follow
@@ -68,6 +84,7 @@ exact-more room generation index written total block prefix full exact =
       next = exact.next;
       used = exact.used ∙ ap length same;
       payload = exact.payload ∙ same;
+      zeros = exact.zeros;
     }
 
 -- an image of the log once its first block was forced is one of the log
@@ -128,15 +145,16 @@ module _ (told : Bool) (is_told : IsTrue told) (log : LogNow) (total written : L
       (during-begun log tail.begun (w.begun is_told)) (omega (arith, log-room log w.allowed)))
 
   -- the block is put
-  module _ (block : Block) (b : Seen) (is : block ≡ head_of tail.generation tail.index tail.used
-      ++ drop 16 tail.block.items) (put : Puts told (1 + tail.index) block a b) where
+  module _ (block : Block) (b : Seen) (is : block ≡ block_of tail)
+      (put : Puts told (1 + tail.index) block a b) where
     pub exact : IsExact (room_of log.geometry) log.generation written tail.index block
     exact =
         let small : tail.index < 2 ^ 32 = omega (arith, w.buffer.index, w.allowed.most_log) in
         let few : tail.used < 2 ^ 32 = omega (arith, w.buffer.fits, w.allowed.size.most) in
         subst (λ (g : ℕ). IsExact (room_of log.geometry) g written tail.index block) w.generation
-        (exact-block tail.generation tail.index tail.used (room_of log.geometry) written
-        tail.block.items block (omega (arith, w.generation, w.young)) small few is
+        (exact-block tail.generation tail.index tail.used (room_of log.geometry)
+        (vec_len tail.block) written (take tail.used (drop 16 tail.block.items)) block
+        (omega (arith, w.generation, w.young)) small few is
         w.buffer.payload w.buffer.used w.buffer.fits)
 
     inside : log.geometry.log < a.count

@@ -1,25 +1,20 @@
 -- One record, off the bytes that begin with it.
-use Rattle.std.proofs.Common.{◌≡◌, ◌⊎◌, ⊎_elim, inl, inr, ℕ, zero, suc, ◌+◌, ◌-◌, ◌<◌, ◌≤◌, List, []}
-use Rattle.std.proofs.Common.{◌∷◌, ◌++◌, length, take, drop, Option, Some, None, get_or}
-use Rattle.std.proofs.Common.{replicate, refl, sym, ap, subst, ◌∙◌, arith}
-use Rattle.std.specs.Int.{w16, from_be_bytes}
-use Rattle.std.proofs.lemmas.Bool.{cases_lt}
+use Rattle.std.proofs.Common.{◌≡◌, ⊎_elim, ℕ, zero, suc, ◌+◌, ◌<◌, ◌≤◌, List, [], ◌∷◌, ◌++◌, length}
+use Rattle.std.proofs.Common.{take, drop, Option, Some, None, get_or, replicate, refl, sym, ap}
+use Rattle.std.proofs.Common.{subst, ◌∙◌, arith}
 use Rattle.std.proofs.lemmas.List.{append-nil, append_assoc, length-append, length-take}
-use Rattle.std.proofs.lemmas.List.{length-drop, take-append-le, drop-append-le}
-use Rattle.std.proofs.lemmas.List.{length-replicate, take-append-drop, drop-drop}
-use Rattle.std.proofs.lemmas.List.{nil_from_length, get_or_append_left, get_or-take}
-use Rattle.std.proofs.lemmas.List.{replicate-append-replicate}
-use Rattle.vr_types.specs.Fields.{IsBytes, AreZeros, four, two_at, four_at}
-use Rattle.vr_types.proofs.CallerLemmas.{cut_four, four_below, length-four}
-use Rattle.vr_types.proofs.CallerLemmas.{zeros_are}
+use Rattle.std.proofs.lemmas.List.{length-drop, take-append-drop, drop-drop, get_or_append_left}
+use Rattle.std.proofs.lemmas.List.{get_or-take}
+use Rattle.vr_types.specs.Fields.{IsBytes, AreZeros, four, four_at}
+use Rattle.vr_types.proofs.CallerLemmas.{cut_four, four_below, length-four, zeros_are}
 use Rattle.vr_log.specs.declared.record.EndKind.{EndKind}
 use Rattle.vr_log.specs.declared.record.EndKind.TheVariants.{Committed, BackedOut}
 use Rattle.vr_log.specs.declared.record.LogRecord.{LogRecord}
 use Rattle.vr_log.specs.declared.record.LogRecord.TheVariants.{Before, End}
 use Rattle.vr_log.specs.Damage.{IsMisspelled}
-use Rattle.vr_log.specs.Decoding.{IsOldCut, IsOldWrong, IsOld, IsWhole}
-use Rattle.vr_log.specs.Records.{record_bytes, unit_bytes, old_bytes, end_number, HasFields, IsCut}
-use Rattle.vr_log.specs.Records.{IsBegun, IsShort}
+use Rattle.vr_log.specs.Decoding.{IsOldWrong, IsOld, IsWhole}
+use Rattle.vr_log.specs.Records.{record_bytes, unit_bytes, old_bytes, end_number, HasFields}
+use Rattle.vr_log.specs.Records.{IsShort}
 use Rattle.vr_log.proofs.Lives.{length-ended}
 
 -- ---- bytes
@@ -30,11 +25,6 @@ IsBytes-append (x ∷ a) b fits under zero = fits 0
 IsBytes-append (x ∷ a) b fits under (suc i) =
     IsBytes-append a b (λ (k : ℕ). fits (suc k)) under i
 
-IsBytes-zeros : (n : ℕ) → IsBytes (replicate n 0)
-IsBytes-zeros zero i = omega arith
-IsBytes-zeros (suc n) zero = omega arith
-IsBytes-zeros (suc n) (suc i) = IsBytes-zeros n i
-
 pub first-more : (a b : List ℕ) → 0 < length a → get_or (a ++ b) 0 0 ≡ get_or a 0 0
 first-more a b some = get_or_append_left a b 0 0 some
 
@@ -44,61 +34,15 @@ pub begins : (bytes : List ℕ) (x : ℕ) → 0 < length bytes → get_or bytes 
 begins [] x some first = absurd (omega (arith, some))
 begins (b ∷ bytes) x some first = ap (λ (n : ℕ). n ∷ bytes) first
 
--- as many zeros as there are bytes missing up to a length
-abbrev pub zeros_to : ℕ → List ℕ → List ℕ
-zeros_to n bytes = replicate (n - length bytes) 0
-
-pub long-to : (n : ℕ) (bytes : List ℕ) → length bytes ≤ n → length (bytes ++ zeros_to n bytes) ≡ n
-long-to n bytes short =
-    omega (
-      arith,
-      length-append bytes (zeros_to n bytes),
-      length-replicate {A = ℕ} (n - length bytes) 0,
-    )
-
-pub bytes-to : (n : ℕ) (bytes : List ℕ) → IsBytes bytes → IsBytes (bytes ++ zeros_to n bytes)
-bytes-to n bytes fits =
-    IsBytes-append bytes (zeros_to n bytes) fits (IsBytes-zeros (n - length bytes))
-
--- ---- cut and misspelled
-
--- two bytes that stand before the others
-two-more : (bytes more : List ℕ) → 15 ≤ length bytes
-    → two_at 13 (bytes ++ more) ≡ two_at 13 bytes
-unfolding two_at
-two-more bytes more long =
-    ap (λ (l : List ℕ). from_be_bytes w16 l)
-    (ap (λ (l : List ℕ). take 2 l) (drop-append-le 13 bytes more (omega (arith, long)))
-    ∙ take-append-le 2 (drop 13 bytes) more (omega (arith, length-drop 13 bytes, long)))
-
--- bytes that are too few for a before-image are so too where more of them are left out
-pub short-less : (bytes more : List ℕ) → 0 < length bytes → IsShort (bytes ++ more)
-    → IsShort bytes
-short-less bytes more some is = record {
-  some = some;
-  kind = sym (first-more bytes more some) ∙ is.kind;
-  short = elim (cases_lt (length bytes) 15) [
-    | inl few ↦ inl few
-    | inr long ↦ inr (fewer long is.short)
-  ];
-}
-  where
-    fewer : 15 ≤ length bytes
-        → (length (bytes ++ more) < 15) ⊎ (length (bytes ++ more) < 20 + two_at 13 (bytes ++ more))
-        → length bytes < 20 + two_at 13 bytes
-    fewer long (inl few) = omega (arith, few, long, length-append bytes more)
-    fewer long (inr few) = omega (arith, few, length-append bytes more, two-more bytes more long)
+-- ---- misspelled
 
 pub misspelled-by : (bytes : List ℕ) → ((rec : LogRecord) (x y : List ℕ) → HasFields rec
-    → bytes ++ x ≡ record_bytes rec ++ y → ⊥) → (IsShort bytes → ⊥) → IsMisspelled bytes
-misspelled-by bytes none long = record {
+    → bytes ++ x ≡ record_bytes rec ++ y → ⊥) → 9 ≤ length bytes → (IsShort bytes → ⊥)
+    → IsMisspelled bytes
+misspelled-by bytes none some long = record {
   no_record = λ rec rest fields same. none rec [] rest fields (append-nil bytes ∙ same);
-  no_cut = λ cut. ⊎_elim not-begun long cut;
+  no_cut = λ cut. ⊎_elim (λ (few : length bytes < 9). omega (arith, few, some)) long cut;
 }
-  where
-    not-begun : IsBegun bytes → ⊥
-    not-begun begun = none begun.whole begun.missing [] begun.fields
-        (begun.begins ∙ sym (append-nil (record_bytes begun.whole)))
 
 abbrev IsKind : ℕ → Type 0
 IsKind n = (1 ≤ n) × (n ≤ 3)
@@ -110,11 +54,12 @@ kind-of (End u Committed) y = (omega arith, omega arith)
 kind-of (End u BackedOut) y = (omega arith, omega arith)
 
 -- a first byte that no record has
-pub no-kind : (bytes : List ℕ) → 0 < length bytes → (IsKind (get_or bytes 0 0) → ⊥)
+pub no-kind : (bytes : List ℕ) → 9 ≤ length bytes → (IsKind (get_or bytes 0 0) → ⊥)
     → IsMisspelled bytes
 no-kind bytes some none =
     misspelled-by bytes (λ rec x y fields same. none (subst IsKind
-    (sym (ap (λ (l : List ℕ). get_or l 0 0) same) ∙ first-more bytes x some) (kind-of rec y)))
+    (sym (ap (λ (l : List ℕ). get_or l 0 0) same) ∙ first-more bytes x (omega (arith, some)))
+    (kind-of rec y))) some
     (λ short. none (omega (arith, short.kind), omega (arith, short.kind)))
 
 -- ---- ends of units
@@ -141,27 +86,6 @@ end-whole k bytes fits long first = record {
   within = long;
 }
 
-pub end-cut : (k : EndKind) (bytes : List ℕ) → IsBytes bytes → 0 < length bytes
-    → length bytes < 9 → get_or bytes 0 0 ≡ end_number k → IsCut bytes
-end-cut k bytes fits some short first =
-    let b = bytes ++ zeros_to 9 bytes in
-    let long : length b ≡ 9 = long-to 9 bytes (omega (arith, short)) in
-    let whole = end-whole k b (bytes-to 9 bytes fits) (omega (arith, long))
-    (first-more bytes (zeros_to 9 bytes) some ∙ first) in
-    let none : drop 9 b ≡ [] =
-    nil_from_length (drop 9 b) (omega (arith, length-drop 9 b, long)) in
-    inl (record {
-      whole = End (record { deck = four_at 1 b; number = four_at 5 b }) k;
-      fields = whole.fields;
-      missing = zeros_to 9 bytes;
-      some = omega (arith, short, length-replicate {A = ℕ} (9 - length bytes) 0);
-      begins = whole.is
-          ∙ ap (λ (l : List ℕ). record_bytes
-          (End (record { deck = four_at 1 b; number = four_at 5 b }) k) ++ l) none
-          ∙ append-nil (record_bytes
-          (End (record { deck = four_at 1 b; number = four_at 5 b }) k));
-    })
-
 -- ---- old records
 
 abbrev IsFlag : ℕ → Type 0
@@ -172,7 +96,8 @@ unfolding old_bytes
 flag-of None y = omega arith
 flag-of (Some b) y = omega arith
 
-pub no-flag : (bytes : List ℕ) → 5 ≤ length bytes → (IsFlag (get_or bytes 0 0) → ⊥)
+pub no-flag : (bytes : List ℕ) → 5 + four_at 1 bytes ≤ length bytes
+    → (IsFlag (get_or bytes 0 0) → ⊥)
     → IsOldWrong bytes
 no-flag bytes long none = record {
   long = long;
@@ -215,7 +140,7 @@ absent-none n bytes most some first bad (Some b) x y same =
       ap (λ (l : List ℕ). get_or l 0 0) same,
     )
 
-pub absent-wrong : (bytes : List ℕ) → 5 ≤ length bytes → get_or bytes 0 0 ≡ 0
+pub absent-wrong : (bytes : List ℕ) → 5 + four_at 1 bytes ≤ length bytes → get_or bytes 0 0 ≡ 0
     → (AreZeros (take 4 (drop 1 bytes)) → ⊥) → IsOldWrong bytes
 absent-wrong bytes long first bad =
     record {
@@ -291,24 +216,4 @@ present-whole bytes fits long within first =
         within,
       );
       within = within;
-    }
-
-pub present-cut : (bytes : List ℕ) → IsBytes bytes → 5 ≤ length bytes
-    → length bytes < 5 + four_at 1 bytes → get_or bytes 0 0 ≡ 1 → IsOldCut bytes
-present-cut bytes fits long short first =
-    let n = four_at 1 bytes in
-    let rest = drop 5 bytes in
-    let b = rest ++ zeros_to n rest in
-    let less : length rest < n = omega (arith, length-drop 5 bytes, short, long) in
-    let size : length b ≡ n = long-to n rest (omega (arith, less)) in
-    record {
-      old = Some b;
-      was = omega (arith, size, four_below 1 bytes fits);
-      missing = zeros_to n rest;
-      some = omega (arith, less, length-replicate {A = ℕ} (n - length rest) 0);
-      begins = ap (λ (l : List ℕ). l ++ zeros_to n rest) (present-is bytes fits long first)
-          ∙ ap (λ (l : List ℕ). 1 ∷ l) (append_assoc (four n) rest (zeros_to n rest))
-          ∙ ap (λ (m : ℕ). 1 ∷ (four m ++ b)) (sym size)
-          ∙ ap (λ (l : List ℕ). 1 ∷ (four (length b) ++ l)) (sym (append-nil b))
-          ∙ sym (old-some b []) ∙ append-nil (old_bytes (Some b));
     }

@@ -119,6 +119,8 @@ module _ (log : LogNow) (seen : Seen) (stands : LogStands log seen) (forced : Is
           (omega (arith, (next-has (restarted log).generation index block is).0, young, next));
       payload = λ is. absurd
           (omega (arith, (next-has (restarted log).generation index block is).0, young, next));
+      zeros = λ is. absurd
+          (omega (arith, (next-has (restarted log).generation index block is).0, young, next));
     };
     reaches = λ past. absurd (omega (arith, past));
   }

@@ -1,12 +1,13 @@
 -- A log that is made of what its blocks spell stands on them.
 use Rattle.std.proofs.Common.{◌≡◌, inl, inr, ⊎_elim, ℕ, zero, suc, ◌+◌, ◌-◌, ◌*◌, ◌/◌, ◌<◌, ◌≤◌}
-use Rattle.std.proofs.Common.{Bool, true, false, List, [], ◌++◌, length, take, drop, Some}
-use Rattle.std.proofs.Common.{None, min, max, nat_eq, nat_le, refl, sym, ap, subst, ◌∙◌, arith}
-use Rattle.std.proofs.Common.{All, eqb-true}
+use Rattle.std.proofs.Common.{Bool, true, false, List, [], ◌++◌, length, take, drop, Some, None}
+use Rattle.std.proofs.Common.{min, max, nat_eq, nat_le, refl, sym, ap, subst, ◌∙◌, arith, All}
+use Rattle.std.proofs.Common.{eqb-true}
 use Rattle.std.proofs.Math.Nat.{mul-le-mul_right}
 use Rattle.std.proofs.lemmas.Bool.{cases_lt, leb-true, eqb-false}
 use Rattle.std.proofs.lemmas.List.{append-nil, length-append, length-take, length-drop, take_all}
-use Rattle.std.proofs.lemmas.List.{take_at, drop_at, drop-drop, take-append-le, drop-append-le}
+use Rattle.std.proofs.lemmas.List.{drop_all, take_at, drop_at, drop-drop, take-append-le}
+use Rattle.std.proofs.lemmas.List.{drop-append-le}
 use Rattle.vr_types.specs.Fields.{AreZeros}
 use Rattle.vr_types.specs.Geometry.{IsAllowed}
 use Rattle.vr_types.specs.Image.{Block, Image, block_at}
@@ -16,7 +17,8 @@ use Rattle.vr_types.specs.declared.geometry.Geometry.{Geometry}
 use Rattle.vr_log.specs.Content.{Content}
 use Rattle.vr_log.specs.Damage.{IsFull}
 use Rattle.vr_log.specs.Live.{live_in}
-use Rattle.vr_log.specs.LogBlock.{generation_in, index_in, used_in, payload_in, is_next, room_of}
+use Rattle.vr_log.specs.LogBlock.{generation_in, index_in, used_in, payload_in, rest_in, is_next}
+use Rattle.vr_log.specs.LogBlock.{room_of}
 use Rattle.vr_log.specs.LogNow.{LogNow, IsOf, made, IsBehind}
 use Rattle.vr_log.specs.Records.{bytes_of, HasFields, SpellsRecords}
 use Rattle.vr_log.specs.Spells.{joined, bytes_from, log_bytes, Fits, Spells, SpellsNone}
@@ -53,9 +55,10 @@ fits-same room generation index (suc left) image other same fits =
     λ next.
     let has = fits (subst (λ (b : Block). is_next generation index b ≡ true) here next) in (
       subst (λ (b : Block). used_in b ≤ room) (sym here) has.0,
+      subst (λ (b : Block). AreZeros (rest_in b)) (sym here) has.1,
       λ full. fits-same room generation (index + 1) left image other
           (λ i from to. same i (omega (arith, from)) (omega (arith, to)))
-          (has.1 (subst (λ (b : Block). used_in b ≡ room) here full)),
+          (has.2 (subst (λ (b : Block). used_in b ≡ room) here full)),
     )
 
 pub spells-same : (geometry : Geometry) (image other : Image) (content : Content)
@@ -124,9 +127,16 @@ join-full true true true used room payload rest some roomy part short long = (re
 join-full true true false used room payload rest some roomy part short long =
     absurd (part refl (omega (arith, roomy refl, short, long, length-append payload [])))
 
+-- a full block has nothing past its bytes
+full-rest : (room : ℕ) (block : Block) → length block ≡ 16 + room → used_in block ≡ room
+    → AreZeros (rest_in block)
+full-rest room block size full =
+    subst AreZeros (sym (drop_all (16 + used_in block) block (omega (arith, size, full))))
+    (All-none (λ (n : ℕ). n ≡ 0))
+
 -- The block of each place that the bytes fill is full, and has them.
 pub deep : (room generation : ℕ) (image : Image) (index from left : ℕ) → 0 < room
-    → ((i : ℕ) → from ≤ i → i < from + left → 16 + room ≤ length (block_at image (1 + i)))
+    → ((i : ℕ) → from ≤ i → i < from + left → length (block_at image (1 + i)) ≡ 16 + room)
     → from ≤ index → index < from + left
     → (index + 1) * room ≤ from * room + length (bytes_from room generation from left image)
     → IsFull room generation index (block_at image (1 + index))
@@ -146,10 +156,12 @@ deep room generation image index from (suc left) some sizes low high long =
     (λ fits. leb-true (used_in block) room fits)
     (λ part. eqb-false (used_in block) room part) (payload-short block) enough in
     let full : IsFull room generation from block =
-    record { next = tests.0; used = eqb-true (used_in block) room tests.1 } in
+    let whole = eqb-true (used_in block) room tests.1 in
+    let size_is : length block ≡ 16 + room = sizes from (omega arith) (omega arith) in
+    record { next = tests.0; used = whole; zeros = full-rest room block size_is whole } in
     let is : all ≡ payload_in block ++ rest = full-bytes room generation from left image full in
     let size : length (payload_in block) ≡ room =
-    payload-long room block full.used (sizes from (omega arith) (omega arith)) in
+    payload-long room block full.used (omega (arith, sizes from (omega arith) (omega arith))) in
     elim (cases_lt from index) [
       | inl less ↦
           let d = index - (from + 1) in
@@ -285,6 +297,7 @@ module _ (geometry : Geometry) (content : Content) (seen : Seen) (allowed : IsAl
             ∙ (let z : room ≡ length (place_of room bytes index) =
             omega (arith, length-take room (drop (index * room) bytes), enough) in z);
         payload = found.1 ∙ place;
+        zeros = found.0.zeros;
       }
 
   each : (index : ℕ) → index < geometry.log → (index ≡ open_index log → ⊥)
@@ -305,6 +318,7 @@ module _ (geometry : Geometry) (content : Content) (seen : Seen) (allowed : IsAl
         within = record {
           used = λ next. absurd (ends.none_on index below past next);
           payload = λ next. absurd (ends.none_on index below past next);
+          zeros = λ next. absurd (ends.none_on index below past next);
         };
         reaches = λ some. absurd (omega (arith, some, high, forced-same));
       })

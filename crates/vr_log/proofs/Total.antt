@@ -1,12 +1,10 @@
 -- Blocks spell a log, or one of them is the first that is misspelled.
 use Rattle.std.proofs.Common.{◌≡◌, ◌⊎◌, inl, inr, ⊎_elim, ℕ, zero, suc, ◌+◌, ◌-◌, ◌/◌, ◌<◌, ◌≤◌}
 use Rattle.std.proofs.Common.{Bool, true, false, List, [], ◌∷◌, ◌++◌, length, take, drop, All}
-use Rattle.std.proofs.Common.{Option}
-use Rattle.std.proofs.Common.{Some, None, get_or, nat_eq, nat_le, refl, sym, ap, subst, ◌∙◌, arith}
-use Rattle.std.proofs.Common.{true≢false}
+use Rattle.std.proofs.Common.{Option, Some, None, get_or, nat_eq, nat_le, refl, sym, ap, subst, ◌∙◌}
+use Rattle.std.proofs.Common.{arith, true≢false}
 use Rattle.std.proofs.lemmas.Bool.{cases_lt, cases_eq}
-use Rattle.std.proofs.lemmas.List.{append_assoc, length-drop, length-take}
-use Rattle.std.proofs.lemmas.List.{take_all, nil_from_length}
+use Rattle.std.proofs.lemmas.List.{append_assoc, length-drop, length-take, nil_from_length}
 use Rattle.std.proofs.lemmas.List.Elements.{All-append}
 use Rattle.vr_types.specs.Fields.{IsBytes, AreZeros, two_at, four_at}
 use Rattle.vr_types.specs.Image.{Block, Image, block_at}
@@ -16,15 +14,16 @@ use Rattle.vr_log.specs.declared.record.EndKind.TheVariants.{Committed, BackedOu
 use Rattle.vr_log.specs.declared.record.LogRecord.{LogRecord}
 use Rattle.vr_log.specs.declared.record.LogRecord.TheVariants.{Before}
 use Rattle.vr_log.specs.Content.{Content}
-use Rattle.vr_log.specs.Damage.{IsMisspelled, IsFirst, IsFull, IsOver, IsDamagedAt}
+use Rattle.vr_log.specs.Damage.{IsMisspelled, IsFirst, IsFull, IsBadNext, IsDamagedAt}
 use Rattle.vr_log.specs.Decoding.{IsOldCut, IsOldWrong, IsOld, IsWhole}
-use Rattle.vr_log.specs.LogBlock.{generation_in, index_in, used_in, payload_in, is_next, room_of}
+use Rattle.vr_log.specs.LogBlock.{generation_in, index_in, used_in, payload_in, rest_in, is_next}
+use Rattle.vr_log.specs.LogBlock.{room_of}
 use Rattle.vr_log.specs.Records.{HasFields, record_bytes, bytes_of, IsCut, SpellsRecords}
 use Rattle.vr_log.specs.Spells.{joined, bytes_from, log_bytes, Fits, Spells}
 use Rattle.vr_log.proofs.BeforeBytes.{read-cut, read-whole, read-wrong}
-use Rattle.vr_log.proofs.Codec.{none-cut, All-none, All-one}
-use Rattle.vr_log.proofs.RecordBytes.{no-kind, end-whole, end-cut, no-flag, absent-wrong}
-use Rattle.vr_log.proofs.RecordBytes.{absent-whole, present-cut}
+use Rattle.vr_log.proofs.Codec.{All-none, All-one}
+use Rattle.vr_log.proofs.Cuts.{none-cut}
+use Rattle.vr_log.proofs.RecordBytes.{no-kind, end-whole, no-flag, absent-wrong, absent-whole}
 use Rattle.vr_log.proofs.RecordBytes.{present-whole, IsBytes-append}
 
 -- all zeros, or not
@@ -47,38 +46,32 @@ Old : List ℕ → Type 0
 Old bytes = ((old : Option (List ℕ)) × (count : ℕ) × IsOld bytes old count)
     ⊎ (IsOldCut bytes ⊎ IsOldWrong bytes)
 
-absent-or : (bytes : List ℕ) → 5 ≤ length bytes → get_or bytes 0 0 ≡ 0 → Old bytes
+absent-or : (bytes : List ℕ) → 5 + four_at 1 bytes ≤ length bytes → get_or bytes 0 0 ≡ 0 → Old bytes
 unfolding Old
 absent-or bytes long first =
     ⊎_elim
     (λ (zeros : AreZeros (take 4 (drop 1 bytes))). inl
-    (None, 5, absent-whole bytes long first zeros))
+    (None, 5, absent-whole bytes (omega (arith, long)) first zeros))
     (λ (other : AreZeros (take 4 (drop 1 bytes))
     → ⊥). inr (inr (absent-wrong bytes long first other)))
     (zeros-or (take 4 (drop 1 bytes)))
 
-present-or : (bytes : List ℕ) → IsBytes bytes → 5 ≤ length bytes → get_or bytes 0 0 ≡ 1
-    → Old bytes
-unfolding Old
-present-or bytes fits long first =
-    elim (cases_lt (length bytes) (5 + four_at 1 bytes)) [
-      | inl less ↦ inr (inl (present-cut bytes fits long less first))
-      | inr all ↦ inl (
-        Some (take (four_at 1 bytes) (drop 5 bytes)),
-        5 + four_at 1 bytes,
-        present-whole bytes fits long all first,
-      )
-    ]
-
 old-or : (bytes : List ℕ) → IsBytes bytes → 5 ≤ length bytes → Old bytes
 unfolding Old
 old-or bytes fits long =
-    elim (cases_eq (get_or bytes 0 0) 0) [
-      | inl is ↦ absent-or bytes long is
-      | inr more ↦ elim (cases_eq (get_or bytes 0 0) 1) [
-        | inl is ↦ present-or bytes fits long is
-        | inr other ↦ inr (inr (no-flag bytes long (λ flag. flag-two (get_or bytes 0 0) more
-            other flag)))
+    elim (cases_lt (length bytes) (5 + four_at 1 bytes)) [
+      | inl less ↦ inr (inl less)
+      | inr all ↦ elim (cases_eq (get_or bytes 0 0) 0) [
+        | inl is ↦ absent-or bytes all is
+        | inr more ↦ elim (cases_eq (get_or bytes 0 0) 1) [
+          | inl is ↦ inl (
+            Some (take (four_at 1 bytes) (drop 5 bytes)),
+            5 + four_at 1 bytes,
+            present-whole bytes fits long all is,
+          )
+          | inr other ↦ inr (inr (no-flag bytes all (λ flag. flag-two (get_or bytes 0 0) more
+              other flag)))
+        ]
       ]
     ]
   where
@@ -93,17 +86,16 @@ Found : List ℕ → Type 0
 Found bytes = ((rec : LogRecord) × (count : ℕ) × IsWhole bytes rec count)
     ⊎ (IsCut bytes ⊎ IsMisspelled bytes)
 
-before-or : (bytes : List ℕ) → IsBytes bytes → 0 < length bytes → get_or bytes 0 0 ≡ 1
+before-or : (bytes : List ℕ) → IsBytes bytes → get_or bytes 0 0 ≡ 1
     → Found bytes
 unfolding Found Old
-before-or bytes fits some first =
+before-or bytes fits first =
     elim (cases_lt (length bytes) 15) [
-      | inl short ↦ inr (inl (inr (record { some = some; kind = first; short = inl short })))
+      | inl short ↦ inr (inl (inr (record { kind = first; short = inl short })))
       | inr long ↦
           let n = two_at 13 bytes in
           elim (cases_lt (length bytes) (20 + n)) [
-            | inl cut ↦ inr (inl (inr
-                (record { some = some; kind = first; short = inr cut })))
+            | inl cut ↦ inr (inl (inr (record { kind = first; short = inr (inl cut) })))
             | inr within ↦
                 let tail = take (length bytes - (15 + n)) (drop (15 + n) bytes) in
                 let room : 15 + n ≤ length bytes = omega (arith, within) in
@@ -134,22 +126,15 @@ before-or bytes fits some first =
 record-or : (bytes : List ℕ) → IsBytes bytes → Found bytes
 unfolding Found
 record-or bytes fits =
-    elim (cases_lt 0 (length bytes)) [
-      | inr none ↦ inr (inl (subst IsCut
-          (sym (nil_from_length bytes (omega (arith, none)))) none-cut))
-      | inl some ↦ elim (cases_eq (get_or bytes 0 0) 1) [
-        | inl is ↦ before-or bytes fits some is
+    elim (cases_lt (length bytes) 9) [
+      | inl few ↦ inr (inl (inl few))
+      | inr long ↦ elim (cases_eq (get_or bytes 0 0) 1) [
+        | inl is ↦ before-or bytes fits is
         | inr one ↦ elim (cases_eq (get_or bytes 0 0) 2) [
-          | inl is ↦ elim (cases_lt (length bytes) 9) [
-            | inl short ↦ inr (inl (end-cut Committed bytes fits some short is))
-            | inr long ↦ inl (_, 9, end-whole Committed bytes fits long is)
-          ]
+          | inl is ↦ inl (_, 9, end-whole Committed bytes fits long is)
           | inr two ↦ elim (cases_eq (get_or bytes 0 0) 3) [
-            | inl is ↦ elim (cases_lt (length bytes) 9) [
-              | inl short ↦ inr (inl (end-cut BackedOut bytes fits some short is))
-              | inr long ↦ inl (_, 9, end-whole BackedOut bytes fits long is)
-            ]
-            | inr three ↦ inr (inr (no-kind bytes some (λ kind.
+            | inl is ↦ inl (_, 9, end-whole BackedOut bytes fits long is)
+            | inr three ↦ inr (inr (no-kind bytes long (λ kind.
                 kind-four (get_or bytes 0 0) one two three kind.0 kind.1)))
           ]
         ]
@@ -248,7 +233,7 @@ module _ (geometry : Geometry) (generation : ℕ) (image : Image) where
   fits-or : (index left : ℕ) → index + left ≡ geometry.log
       → ((i : ℕ) → i < index → IsFull Room generation i (At i))
       → Fits Room generation index left image
-      ⊎ ((i : ℕ) × IsOver geometry generation image i)
+      ⊎ ((i : ℕ) × IsBadNext geometry generation image i)
   fits-or index zero all full = inl tt
   fits-or index (suc left) all full =
       ⊎_elim
@@ -256,22 +241,28 @@ module _ (geometry : Geometry) (generation : ℕ) (image : Image) where
       elim (cases_lt Room (used_in (At index))) [
         | inl over ↦ inr (
           index,
-          record { within = omega (arith, all); full = full; next = next; over = over },
+          record { within = omega (arith, all); full = full; next = next; bad = inl over },
         )
-        | inr within ↦ elim (cases_eq (used_in (At index)) Room) [
-          | inr part ↦ inl (λ _. (within, λ same. absurd (part same)))
-          | inl used ↦
-              let here : IsFull Room generation index (At index) =
-              record { next = next; used = used } in
-              ⊎_elim
-              (λ (fits : Fits Room generation (index + 1) left image). inl
-              (λ _. (within, λ same. fits)))
-              inr
-              (fits-or (index + 1) left (omega (arith, all)) (λ i below. ⊎_elim
-              (λ (less : i < index). full i less)
-              (λ (most : index ≤ i). let same : index ≡ i = omega (arith, most, below) in
-              subst (λ (n : ℕ). IsFull Room generation n (At n)) same here)
-              (cases_lt i index)))
+        | inr within ↦ elim (zeros-or (rest_in (At index))) [
+          | inr other ↦ inr (
+            index,
+            record { within = omega (arith, all); full = full; next = next; bad = inr other },
+          )
+          | inl zeros ↦ elim (cases_eq (used_in (At index)) Room) [
+            | inr part ↦ inl (λ _. (within, zeros, λ same. absurd (part same)))
+            | inl used ↦
+                let here : IsFull Room generation index (At index) =
+                record { next = next; used = used; zeros = zeros } in
+                ⊎_elim
+                (λ (fits : Fits Room generation (index + 1) left image). inl
+                (λ _. (within, zeros, λ same. fits)))
+                inr
+                (fits-or (index + 1) left (omega (arith, all)) (λ i below. ⊎_elim
+                (λ (less : i < index). full i less)
+                (λ (most : index ≤ i). let same : index ≡ i = omega (arith, most, below) in
+                subst (λ (n : ℕ). IsFull Room generation n (At n)) same here)
+                (cases_lt i index)))
+          ]
         ]
       ])
       (λ (out : is_next generation index (At index) ≡ false). inl
@@ -302,17 +293,17 @@ module _ (geometry : Geometry) (generation : ℕ) (image : Image) where
           records = spelled;
         }),
       ))
-      (λ (over : (i : ℕ) × IsOver geometry generation image i). inr (
-        1 + over.0,
+      (λ (bad : (i : ℕ) × IsBadNext geometry generation image i). inr (
+        1 + bad.0,
         inr (record {
           generation = generation;
           first = first;
           bad = inl (record {
-            index = over.0;
+            index = bad.0;
             block = refl;
-            over = over.1;
+            bad = bad.1;
             records = parts.records;
-            before = spelled;
+            spelled = spelled;
           });
         }),
       ))

@@ -1,10 +1,10 @@
 -- A block of a log that is full, and the one after it; and the last block of a record.
 use Rattle.std.proofs.Common.{◌≡◌, ⊎_elim, ℕ, ◌+◌, ◌*◌, ◌<◌, ◌≤◌, Bool, IsTrue, true, false, List}
 use Rattle.std.proofs.Common.{◌++◌, length, take, drop, slice_set, Some, vec_len, refl, sym, ap}
-use Rattle.std.proofs.Common.{subst, ◌∙◌, arith, true≢false}
-use Rattle.std.proofs.lemmas.Bool.{cases_lt, cases_eq}
+use Rattle.std.proofs.Common.{subst, ◌∙◌, arith, true≢false, ◌-◌, replicate}
 use Rattle.std.proofs.Math.Nat.{mul-le-mul_right}
-use Rattle.std.proofs.lemmas.List.{drop_all}
+use Rattle.std.proofs.lemmas.Bool.{cases_lt, cases_eq}
+use Rattle.std.proofs.lemmas.List.{drop_all, length-drop, take_at}
 use Rattle.vr_types.specs.Image.{Block, Image, block_at}
 use Rattle.vr_types.specs.Seen.{Seen, Only}
 use Rattle.vr_types.specs.Blocks.{Keeps, Puts}
@@ -14,8 +14,8 @@ use Rattle.vr_log.specs.Content.{Content}
 use Rattle.vr_log.specs.LogBlock.{is_next, head_of, room_of}
 use Rattle.vr_log.specs.LogNow.{LogNow}
 use Rattle.vr_log.specs.Standing.{IsExact, IsLeft, open_index, Leaves, forced_length}
-use Rattle.vr_log.specs.Writing.{IsPrefix, IsWriting, IsCurrent, log_during}
-use Rattle.vr_log.proofs.Heads.{rest-headed}
+use Rattle.vr_log.specs.Writing.{IsPrefix, IsWriting, IsCurrent, block_of, log_during}
+use Rattle.vr_log.proofs.Heads.{padded-headed, rest-headed}
 use Rattle.vr_log.proofs.Leaving.{exact-left, leaves-fewer, positive}
 use Rattle.vr_log.proofs.Putting.{exact-more, log-room, log-inside, exact, left-now}
 
@@ -97,8 +97,8 @@ leaves-settled log total count index may now new false within some fewer left ne
 
 module _ (told : Bool) (log : LogNow) (total written : List ℕ) (tail : Tail) (a : Seen)
     (w : IsWriting log total written tail told a) (prefix : IsPrefix written total)
-    (block : Block) (b : Seen) (is : block ≡ head_of tail.generation tail.index tail.used
-    ++ drop 16 tail.block.items) (put : Puts told (1 + tail.index) block a b)
+    (block : Block) (b : Seen) (is : block ≡ block_of tail)
+    (put : Puts told (1 + tail.index) block a b)
     (long : IsTrue told → length a.cur ≡ a.count) (put_ok : IsTrue told
     → b.cur ≡ slice_set a.cur (1 + tail.index) block) where
   here : 1 + tail.index < a.count
@@ -203,6 +203,25 @@ module _ (told : Bool) (log : LogNow) (total written : List ℕ) (tail : Tail) (
             (cases_lt index tail.index));
       }
 
+  -- the bytes used stay in the buffer
+  used-kept : take tail.used (drop 16 (block_of tail)) ≡ take tail.used (drop 16 tail.block.items)
+  used-kept =
+      let bytes = take tail.used (drop 16 tail.block.items) in
+      let zeros : List ℕ = replicate (vec_len tail.block
+      - length (head_of tail.generation tail.index tail.used ++ bytes)) 0 in
+      let long : length bytes ≡ tail.used =
+      omega (
+        arith,
+        ap length w.buffer.payload,
+        length-drop (tail.index * room_of log.geometry) written,
+        w.buffer.used,
+      ) in
+      ap (λ (x : List ℕ). take tail.used (drop 16 x))
+      (padded-headed (vec_len tail.block) tail.generation tail.index tail.used bytes)
+      ∙ ap (λ (x : List ℕ). take tail.used x)
+      (rest-headed tail.generation tail.index tail.used (bytes ++ zeros))
+      ∙ take_at bytes zeros tail.used long
+
   -- after a put alone
   pub put-kept : (next : Tail) → next.generation ≡ tail.generation → next.blocks ≡ tail.blocks
       → next.index ≡ tail.index → next.used ≡ tail.used → next.begun ≡ tail.begun
@@ -228,9 +247,8 @@ module _ (told : Bool) (log : LogNow) (total written : List ℕ) (tail : Tail) (
           fits = omega (arith, same_used, w.buffer.fits);
           payload = ap (λ (n : ℕ). take n (drop 16 next.block.items)) same_used
               ∙ ap (λ (x : List ℕ). take tail.used (drop 16 x)) (same_block ∙ is)
-              ∙ ap (λ (x : List ℕ). take tail.used x)
-              (rest-headed tail.generation tail.index tail.used (drop 16 tail.block.items))
-              ∙ w.buffer.payload ∙ ap (λ (n : ℕ). drop (n * room) written) (sym same_index);
+              ∙ used-kept ∙ w.buffer.payload
+              ∙ ap (λ (n : ℕ). drop (n * room) written) (sym same_index);
         };
         opened = λ not. same_index ∙ w.opened (sym same_begun ∙ not);
         behind = λ not. w.behind (sym same_begun ∙ not);

@@ -1,8 +1,8 @@
 -- Bytes spell one list of records at most, and blocks one log.
-use Rattle.std.proofs.Common.{◌≡◌, ⊎_elim, inl, inr, ℕ, ◌+◌, ◌-◌, ◌^◌, ◌<◌, ◌≤◌, List, [], ◌∷◌, ◌++◌}
+use Rattle.std.proofs.Common.{◌≡◌, inl, inr, ℕ, ◌+◌, ◌-◌, ◌^◌, ◌<◌, ◌≤◌, List, [], ◌∷◌, ◌++◌}
 use Rattle.std.proofs.Common.{length, take, drop, All, Option, Some, None, get_or, replicate, refl}
 use Rattle.std.proofs.Common.{sym, ap, subst, ◌∙◌, arith}
-use Rattle.std.proofs.lemmas.List.{append-nil, append_assoc, append_cancel_left, length-append}
+use Rattle.std.proofs.lemmas.List.{append_assoc, append_cancel_left}
 use Rattle.std.proofs.lemmas.List.{take_at, drop_at}
 use Rattle.std.proofs.lemmas.List.Elements.{All-head, All-tail}
 use Rattle.vr_types.specs.Fields.{two, four, two_at, four_at, eight_at, AreZeros}
@@ -21,9 +21,9 @@ use Rattle.vr_log.specs.declared.record.EndKind.TheVariants.{Committed, BackedOu
 use Rattle.vr_log.specs.declared.record.LogRecord.{LogRecord}
 use Rattle.vr_log.specs.declared.record.LogRecord.TheVariants.{Before, End}
 use Rattle.vr_log.specs.Records.{record_bytes, bytes_of, unit_bytes, old_bytes, end_number}
-use Rattle.vr_log.specs.Records.{HasFields, IsUnit, IsBefore, IsBegun, IsShort, IsCut}
+use Rattle.vr_log.specs.Records.{HasFields, IsUnit, IsBefore}
 use Rattle.vr_log.specs.Records.{SpellsRecords}
-use Rattle.vr_log.proofs.Lives.{length-before}
+use Rattle.vr_log.proofs.Cuts.{BeginsNone, cut-none, end-number}
 
 pub two-both : (a b : ℕ) (x y : List ℕ) → a < 2 ^ 16 → b < 2 ^ 16 → two a ++ x ≡ two b ++ y
     → (a ≡ b) × (x ≡ y)
@@ -70,10 +70,6 @@ end-kind Committed Committed same = refl
 end-kind BackedOut BackedOut same = refl
 end-kind Committed BackedOut same = absurd (omega (arith, same))
 end-kind BackedOut Committed same = absurd (omega (arith, same))
-
-pub end-number : (kind : EndKind) → 2 ≤ end_number kind
-end-number Committed = omega arith
-end-number BackedOut = omega arith
 
 old-both : (one other : Option (List ℕ)) (x y : List ℕ) (u v : UnitOfRecovery) (n m : PartNo)
     (p q : List ℕ) → IsBefore u n p one → IsBefore v m q other → old_bytes one
@@ -123,62 +119,6 @@ record_one (Before u n p o) (Before v m q r) x y fits under same =
     ∙ ap (λ (k : ℕ). let w : PartNo = record { 0 = k } in Before v w p o) part.0
     ∙ ap (λ (s : List ℕ). Before v m s o) place.0
     ∙ ap (λ (t : Option (List ℕ)). Before v m q t) old
-
--- bytes that begin with no record
-abbrev pub BeginsNone : List ℕ → Type 0
-BeginsNone bytes = (r : LogRecord) (more : List ℕ) → HasFields r → bytes ≡ record_bytes r ++ more
-    → ⊥
-
-begun-none : (cut : List ℕ) → IsBegun cut → BeginsNone cut
-begun-none cut is r more fields same =
-    let begins : record_bytes r ++ (more ++ is.missing) ≡ record_bytes is.whole ++ [] =
-    sym (append_assoc (record_bytes r) more is.missing)
-    ∙ ap (λ (l : List ℕ). l ++ is.missing) (sym same) ∙ is.begins
-    ∙ sym (append-nil (record_bytes is.whole)) in
-    let one : r ≡ is.whole =
-    record_one r is.whole (more ++ is.missing) [] fields is.fields begins in
-    omega (
-      arith,
-      is.some,
-      ap length begins,
-      length-append (record_bytes r) (more
-          ++ is.missing),
-      length-append more is.missing,
-      length-append (record_bytes is.whole) [],
-      ap
-          (λ (w : LogRecord). length (record_bytes w)) one,
-    )
-
--- the flag and the length of an old record are five bytes
-old-five : (old : Option (List ℕ)) → 5 ≤ length (old_bytes old)
-unfolding old_bytes four
-old-five None = omega arith
-old-five (Some bytes) = omega arith
-
--- the length that a before-image says of its place
-said-place : (unit : UnitOfRecovery) (part : PartNo) (place more : List ℕ)
-    (old : Option (List ℕ)) → length place < 2 ^ 16
-    → two_at 13 (record_bytes (Before unit part place old) ++ more) ≡ length place
-unfolding record_bytes unit_bytes four two two_at
-said-place unit part place more old below = two_at-two (length place) [] below
-
-short-none : (cut : List ℕ) → IsShort cut → BeginsNone cut
-unfolding record_bytes
-short-none cut is (End unit kind) more fields same =
-    omega (arith, end-number kind, is.kind, ap (λ (l : List ℕ). get_or l 0 0) same)
-short-none cut is (Before unit part place old) more fields same =
-    let said : two_at 13 cut ≡ length place =
-    ap (λ (l : List ℕ). two_at 13 l) same ∙ said-place unit part place more old fields.at_place in
-    let long : length cut ≡ 15 + length place + length (old_bytes old) + length more =
-    ap length same ∙ length-append (record_bytes (Before unit part place old)) more
-    ∙ ap (λ (n : ℕ). n + length more) (length-before unit part place old) in
-    ⊎_elim (λ (few : length cut < 15). omega (arith, few, long))
-    (λ (few : length cut < 20 + two_at 13 cut). omega (arith, few, said, long, old-five old))
-    is.short
-
--- a record that isn't whole begins with none
-pub cut-none : (cut : List ℕ) → IsCut cut → BeginsNone cut
-cut-none cut is = ⊎_elim (begun-none cut) (short-none cut) is
 
 -- bytes are those of one list of records, up to bytes that begin with none
 pub ends_one : (one other : List LogRecord) (cut rest : List ℕ) → All HasFields one

@@ -3,14 +3,13 @@
 use Rattle.std.proofs.Common.{◌≡◌, ◌≢◌, ◌<◌, ◌≤◌, ◌+◌, ◌-◌, ◌*◌, ◌/◌, ℕ, zero, suc, Bool, true}
 use Rattle.std.proofs.Common.{false, List, [], ◌++◌, length, take, drop, refl, sym, ap, subst}
 use Rattle.std.proofs.Common.{◌∙◌, arith, inl, inr, get_or-set_other, get_or-set_same}
-use Rattle.std.proofs.Common.{append_assoc}
 use Rattle.std.proofs.Common.{true≢false}
 use Rattle.std.specs.Prelude.{min, max, nat_eq, nat_le, slice_set}
 use Rattle.std.proofs.Math.Nat.{mul-le-mul_right}
 use Rattle.std.proofs.Math.Seq.{take-append-add, take-nil}
 use Rattle.std.proofs.lemmas.Bool.{cases_lt, eqb-true, leb-true}
-use Rattle.std.proofs.lemmas.List.{length-append, length-drop, length-take, take-append-drop}
-use Rattle.std.proofs.lemmas.List.{nil_from_length, take_all}
+use Rattle.std.proofs.lemmas.List.{length-append, length-drop, length-take}
+use Rattle.std.proofs.lemmas.List.{take_all}
 use Rattle.std.proofs.lemmas.Nat.{div-add-mod'}
 use Rattle.vr_types.specs.Fields.{AreZeros}
 use Rattle.vr_types.specs.Geometry.{IsAllowed}
@@ -19,15 +18,15 @@ use Rattle.vr_types.specs.declared.geometry.Geometry.{Geometry}
 use Rattle.vr_types.proofs.CallerLemmas.{block_size_least}
 use Rattle.vr_log.specs.Clearing.{IsStale}
 use Rattle.vr_log.specs.Content.{Content}
-use Rattle.vr_log.specs.LogBlock.{generation_in, index_in, is_next, payload_in, room_of, used_in}
+use Rattle.vr_log.specs.LogBlock.{generation_in, index_in, is_next, payload_in, rest_in, room_of}
+use Rattle.vr_log.specs.LogBlock.{used_in}
 use Rattle.vr_log.specs.LogNow.{last_index}
-use Rattle.vr_log.specs.Records.{IsBegun, IsCut, IsShort, SpellsRecords, bytes_of}
+use Rattle.vr_log.specs.Records.{SpellsRecords, bytes_of}
 use Rattle.vr_log.specs.Spells.{Fits, Spells, bytes_from, joined, log_bytes}
 use Rattle.vr_log.specs.Standing.{InLog}
 use Rattle.vr_log.specs.declared.record.LogRecord.{LogRecord}
-use Rattle.vr_log.proofs.Codec.{none-cut}
+use Rattle.vr_log.proofs.Cuts.{cut-more}
 use Rattle.vr_log.proofs.Leaving.{next-has}
-use Rattle.vr_log.proofs.RecordBytes.{short-less}
 use Rattle.vr_log.proofs.Settled.{deep, last-low}
 use Rattle.vr_log.proofs.Unique.{zeros-generation}
 
@@ -37,27 +36,6 @@ unfolding payload_in
 length-payload block =
     omega (arith, length-take (used_in block) (drop 16 block), length-drop 16 block)
 
-begun-more : (n : ℕ) (bytes : List ℕ) → IsBegun bytes → IsBegun (take n bytes)
-begun-more n bytes is = record {
-  whole = is.whole;
-  fields = is.fields;
-  missing = drop n bytes ++ is.missing;
-  some = omega (arith, length-append (drop n bytes) is.missing, is.some);
-  begins = sym (append_assoc (take n bytes) (drop n bytes) is.missing)
-      ∙ ap (λ (x : List ℕ). x ++ is.missing) (take-append-drop n bytes) ∙ is.begins;
-}
-
--- what is left of a record that isn't whole, cut once more
-cut-more : (n : ℕ) (bytes : List ℕ) → IsCut bytes → IsCut (take n bytes)
-cut-more n bytes (inl begun) = inl (begun-more n bytes begun)
-cut-more n bytes (inr short) =
-    elim (cases_lt 0 (length (take n bytes))) [
-      | inl some ↦ inr (short-less (take n bytes) (drop n bytes) some
-          (subst IsShort (sym (take-append-drop n bytes)) short))
-      | inr none ↦ subst IsCut
-          (sym (nil_from_length (take n bytes) (omega (arith, none)))) none-cut
-    ]
-
 module _ (room generation last : ℕ) (old new : Image)
     (same : (index : ℕ) → index ≢ last → block_at new (1 + index) ≡ block_at old (1 + index))
     (gone : is_next generation last (block_at new (1 + last)) ≡ true → ⊥) where
@@ -66,13 +44,14 @@ module _ (room generation last : ℕ) (old new : Image)
       → Fits room generation index left new
   fits-on zero index fits = tt
   fits-on (suc left) index fits = by (nat_eq index last) refl
-      (λ next full. fits-on left (index + 1) ((fits next).1 full))
+      (λ next full. fits-on left (index + 1) ((fits next).2 full))
     where
       by : (b : Bool) → nat_eq index last ≡ b
           → ((next : is_next generation index (block_at old (1 + index)) ≡ true)
           → used_in (block_at old (1 + index)) ≡ room → Fits room generation (index + 1) left new)
           → is_next generation index (block_at new (1 + index)) ≡ true
           → (used_in (block_at new (1 + index)) ≤ room)
+          × AreZeros (rest_in (block_at new (1 + index)))
           × (used_in (block_at new (1 + index)) ≡ room → Fits room generation (index + 1) left new)
       by true here more next = absurd (gone (subst
           (λ (i : ℕ). is_next generation i (block_at new (1 + i)) ≡ true)
@@ -84,6 +63,7 @@ module _ (room generation last : ℕ) (old new : Image)
           let was : is_next generation index (block_at old (1 + index)) ≡ true =
           subst (λ (b : Block). is_next generation index b ≡ true) kept next in (
             subst (λ (b : Block). used_in b ≤ room) (sym kept) (fits was).0,
+            subst (λ (b : Block). AreZeros (rest_in b)) (sym kept) (fits was).1,
             λ full. more was (ap used_in (sym kept) ∙ full),
           )
 

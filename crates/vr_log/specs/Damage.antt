@@ -5,11 +5,11 @@ use Rattle.vr_types.specs.Fields.{AreZeros}
 use Rattle.vr_types.specs.Image.{Block, Image, block_at}
 use Rattle.vr_types.specs.declared.geometry.Geometry.{Geometry}
 use Rattle.vr_log.specs.declared.record.LogRecord.{LogRecord}
-use Rattle.vr_log.specs.LogBlock.{generation_in, index_in, used_in, is_next, room_of}
+use Rattle.vr_log.specs.LogBlock.{generation_in, index_in, used_in, rest_in, is_next, room_of}
 use Rattle.vr_log.specs.Records.{HasFields, record_bytes, bytes_of, IsCut, SpellsRecords}
 use Rattle.vr_log.specs.Spells.{log_bytes}
 
--- The bytes begin with no record, and no record begins with them.
+-- The bytes begin with no record, and are as many as theirs needs by its fields that are there.
 pub record IsMisspelled (bytes : List ℕ) : Type 0 where
   pub no_record : (rec : LogRecord) (rest : List ℕ) → HasFields rec
       → bytes ≡ record_bytes rec ++ rest → ⊥
@@ -26,27 +26,30 @@ pub record IsBadFirst (block : Block) : Type 0 where
   pub some : AreZeros block → ⊥
   pub bad : (generation_in block ≡ 0) ⊎ (index_in block ≢ 0)
 
--- the block goes on with the generation, and is full
+-- the block goes on with the generation, is full, and has nothing but zeros past that
 pub record IsFull (room generation index : ℕ) (block : Block) : Type 0 where
   pub next : is_next generation index block ≡ true
   pub used : used_in block ≡ room
+  pub zeros : AreZeros (rest_in block)
 
 -- The blocks before this index are full, and the block goes on, but says that it uses more bytes
--- than it has room for.
-pub record IsOver (geometry : Geometry) (generation : ℕ) (image : Image) (index : ℕ) : Type 0 where
-  pub within : index < geometry.log
-  pub full : (i : ℕ) → i < index
-      → IsFull (room_of geometry) generation i (block_at image (1 + i))
-  pub next : is_next generation index (block_at image (1 + index)) ≡ true
-  pub over : room_of geometry < used_in (block_at image (1 + index))
+-- than it has room for, or has a byte past them that isn't zero.
+pub record IsBadNext (geometry : Geometry) (generation : ℕ) (image : Image) (index : ℕ) : Type 0
+  where
+    pub within : index < geometry.log
+    pub full : (i : ℕ) → i < index
+        → IsFull (room_of geometry) generation i (block_at image (1 + i))
+    pub next : is_next generation index (block_at image (1 + index)) ≡ true
+    pub bad : (room_of geometry < used_in (block_at image (1 + index)))
+        ⊎ (AreZeros (rest_in (block_at image (1 + index))) → ⊥)
 
--- Such a block, where the bytes before it are those of records.
+-- Such a block, where the bytes of the log are those of records.
 pub record IsBadBlock (geometry : Geometry) (generation : ℕ) (image : Image) (n : ℕ) : Type 0 where
   pub index : ℕ
   pub block : n ≡ 1 + index
-  pub over : IsOver geometry generation image index
+  pub bad : IsBadNext geometry generation image index
   pub records : List LogRecord
-  pub before : SpellsRecords (log_bytes geometry generation image) records
+  pub spelled : SpellsRecords (log_bytes geometry generation image) records
 
 -- After the bytes of these records come some that are misspelled, and this is their block.
 pub record IsBadRecord (geometry : Geometry) (generation : ℕ) (image : Image) (n : ℕ) : Type 0 where

@@ -1,6 +1,7 @@
 -- What bytes begin with, while the records of a log are read.
 use Rattle.std.specs.Prelude.{◌≡◌, ℕ, ◌+◌, ◌^◌, ◌<◌, ◌≤◌, List, [], ◌∷◌, ◌++◌, length, take, drop}
 use Rattle.std.specs.Prelude.{All, Option, Some, None, IfSome}
+use Rattle.vr_types.specs.Fields.{four_at}
 use Rattle.vr_log.specs.declared.record.LogRecord.{LogRecord}
 use Rattle.vr_log.specs.declared.decoding.Found.{Found}
 use Rattle.vr_log.specs.declared.decoding.Found.TheVariants.{Whole, Cut, Misspelled}
@@ -12,18 +13,14 @@ use Rattle.vr_log.specs.Content.{Content}
 use Rattle.vr_log.specs.Damage.{IsMisspelled}
 use Rattle.vr_log.specs.Records.{HasFields, old_bytes, record_bytes, bytes_of, IsCut, SpellsRecords}
 
--- bytes of an old record that isn't whole
-pub record IsOldCut (bytes : List ℕ) : Type 0 where
-  pub old : Option (List ℕ)
-  pub was : IfSome old (λ b. length b < 2 ^ 32)
-  pub missing : List ℕ
-  pub some : 0 < length missing
-  pub begins : bytes ++ missing ≡ old_bytes old
+-- fewer bytes than the length of the old record says, whatever they are
+abbrev pub IsOldCut : List ℕ → Type 0
+IsOldCut bytes = length bytes < 5 + four_at 1 bytes
 
--- Their flag and length are there, and whatever follows these bytes, no old record begins with them
--- or they with it.
+-- They are as many as its length says, and whatever follows them, no old record begins with them or
+-- they with it.
 pub record IsOldWrong (bytes : List ℕ) : Type 0 where
-  pub long : 5 ≤ length bytes
+  pub long : 5 + four_at 1 bytes ≤ length bytes
   pub none : (old : Option (List ℕ)) (x y : List ℕ) → bytes ++ x ≡ old_bytes old ++ y → ⊥
 
 -- the bytes begin with those of the old record

@@ -1,6 +1,7 @@
 -- A block of the log: 8 bytes of generation, 4 of the block's index, which is 0 in the first, 4 of
--- the number of bytes used, and from byte 16 on these bytes. The fields are this project's own.
-use Rattle.std.specs.Prelude.{ℕ, ◌-◌, List, ◌++◌, take, drop, Bool, nat_eq, ◌&&◌}
+-- the number of bytes used, from byte 16 on these bytes, and zeros past them. The fields are this
+-- project's own.
+use Rattle.std.specs.Prelude.{ℕ, ◌+◌, ◌-◌, List, ◌++◌, take, drop, Bool, nat_eq, ◌&&◌}
 use Rattle.vr_types.specs.Fields.{four, eight, four_at, eight_at}
 use Rattle.vr_types.specs.Image.{Block}
 use Rattle.vr_types.specs.declared.geometry.Geometry.{Geometry}
@@ -17,6 +18,10 @@ used_in block = four_at 12 block
 -- the bytes of records in the block
 unfoldable pub payload_in : Block → List ℕ
 payload_in block = take (used_in block) (drop 16 block)
+
+-- the bytes past those used
+abbrev pub rest_in : Block → List ℕ
+rest_in block = drop (16 + used_in block) block
 
 -- how many bytes of records a block has room for
 abbrev pub room_of : Geometry → ℕ

@@ -12,9 +12,9 @@ use Rattle.vr_log.specs.declared.read_no.LogReadNo.TheVariants.{Damaged, Fault, 
 use Rattle.vr_log.specs.declared.gathering.First.{First}
 use Rattle.vr_log.specs.declared.gathering.First.TheVariants.{Zeros, Begins, Bad}
 use Rattle.vr_log.specs.declared.gathering.Next.{Next}
-use Rattle.vr_log.specs.declared.gathering.Next.TheVariants.{Full, Last, Over}
-use Rattle.vr_log.specs.Damage.{IsFirst, IsBadFirst, IsFull, IsOver, IsDamagedAt}
-use Rattle.vr_log.specs.LogBlock.{used_in, payload_in, is_next, room_of}
+use Rattle.vr_log.specs.declared.gathering.Next.TheVariants.{Full, Last, Wrong}
+use Rattle.vr_log.specs.Damage.{IsFirst, IsBadFirst, IsFull, IsBadNext, IsDamagedAt}
+use Rattle.vr_log.specs.LogBlock.{used_in, payload_in, rest_in, is_next, room_of}
 use Rattle.vr_log.specs.Spells.{Fits, bytes_from, log_bytes}
 
 -- what block 1 says
@@ -23,19 +23,27 @@ IsFirstFound block Zeros = AreZeros block
 IsFirstFound block (Begins generation) = IsFirst block generation
 IsFirstFound block Bad = IsBadFirst block
 
--- the last block of the log: it goes on and isn't full, or it doesn't go on
+-- the last block of the log: it goes on and isn't full, with zeros past its bytes, or it doesn't go
+-- on
 pub record IsLast (room generation index : ℕ) (block : Block) (old new : List ℕ) : Type 0 where
   pub is : ((is_next generation index block ≡ false) × (new ≡ old))
       ⊎ ((is_next generation index block ≡ true) × (used_in block < room)
-      × (new ≡ old ++ payload_in block))
+      × AreZeros (rest_in block) × (new ≡ old ++ payload_in block))
+
+-- a block that goes on, but says more bytes than it has room for, or has others than zeros past
+-- them
+pub record IsWrong (room generation index : ℕ) (block : Block) (old new : List ℕ) : Type 0 where
+  pub next : is_next generation index block ≡ true
+  pub is : ((room < used_in block) × (new ≡ old))
+      ⊎ ((used_in block < room) × (AreZeros (rest_in block) → ⊥) × (new ≡ old ++ payload_in block))
 
 -- what a block says, and the bytes with those of it
 abbrev pub IsNextFound : ℕ → ℕ → ℕ → Block → List ℕ → List ℕ → Next → Type 0
 IsNextFound room generation index block old new Full = IsFull room generation index block
     × (new ≡ old ++ payload_in block)
 IsNextFound room generation index block old new Last = IsLast room generation index block old new
-IsNextFound room generation index block old new Over =
-    (is_next generation index block ≡ true) × (room < used_in block) × (new ≡ old)
+IsNextFound room generation index block old new Wrong =
+    IsWrong room generation index block old new
 
 -- The blocks before this index are full, and these are their bytes.
 pub record IsGatheredTo (geometry : Geometry) (generation : ℕ) (image : Image) (index : ℕ)
@@ -47,16 +55,16 @@ pub record IsGatheredTo (geometry : Geometry) (generation : ℕ) (image : Image)
   pub fits : Fits (room_of geometry) generation index (geometry.log - index) image
       → Fits (room_of geometry) generation 0 geometry.log image
 
--- No block uses more than it has room for, or the one of this index is the first that does.
+-- No block is wrong, or the one of this index is the first that is.
 abbrev pub IsEnd : Geometry → ℕ → Image → Option ℕ → Type 0
 IsEnd geometry generation image None = Fits (room_of geometry) generation 0 geometry.log image
-IsEnd geometry generation image (Some index) = IsOver geometry generation image index
+IsEnd geometry generation image (Some index) = IsBadNext geometry generation image index
 
 -- these are all bytes of the log
 pub record IsGathered (geometry : Geometry) (generation : ℕ) (image : Image) (bytes : List ℕ)
-    (over : Option ℕ) : Type 0 where
+    (wrong : Option ℕ) : Type 0 where
   pub bytes_is : log_bytes geometry generation image ≡ bytes
-  pub end : IsEnd geometry generation image over
+  pub end : IsEnd geometry generation image wrong
 
 -- the blocks spell no log, and this is the block to be shown
 abbrev pub IsDamageOf : Geometry → Image → LogReadNo → Type 0

@@ -3,7 +3,7 @@
 use Rattle.std.specs.Prelude.{◌≡◌, ◌⊎◌, ℕ, ◌^◌, ◌+◌, ◌<◌, List, ◌∷◌, ◌++◌, length, All, Option}
 use Rattle.std.specs.Prelude.{Some, None, IfSome, slice_index}
 use Rattle.std.specs.List.{flat_map}
-use Rattle.vr_types.specs.Fields.{two, four, two_at}
+use Rattle.vr_types.specs.Fields.{two, four, two_at, four_at}
 use Rattle.vr_types.specs.declared.unit.Unit.{Unit as UnitOfRecovery}
 use Rattle.vr_types.specs.declared.unit.PartNo.{PartNo}
 use Rattle.vr_log.specs.declared.record.EndKind.{EndKind}
@@ -58,24 +58,18 @@ HasLengths (Before unit part place old) = (length place < 2 ^ 16)
     × IfSome old (λ bytes. length bytes < 2 ^ 32)
 HasLengths (End unit kind) = Unit {0}
 
--- Bytes that begin a record and don't end it.
-pub record IsBegun (bytes : List ℕ) : Type 0 where
-  pub whole : LogRecord
-  pub fields : HasFields whole
-  pub missing : List ℕ
-  pub some : 0 < length missing
-  pub begins : bytes ++ missing ≡ record_bytes whole
-
--- A before-image that ends before the flag and the length of its old record are there, whatever
--- stands of these: fewer bytes than 20 and the length that it says of its place.
+-- A before-image of which bytes are missing, by those of its fields that are there: the length of
+-- its place, the flag and the length of its old record, or bytes of that. No other byte of it
+-- counts.
 pub record IsShort (bytes : List ℕ) : Type 0 where
-  pub some : 0 < length bytes
   pub kind : slice_index bytes 0 ≡ 1
   pub short : (length bytes < 15) ⊎ (length bytes < 20 + two_at 13 bytes)
+      ⊎ (length bytes < 20 + two_at 13 bytes + four_at (16 + two_at 13 bytes) bytes)
 
--- what is left of a record that isn't whole
+-- What is left of a record that isn't whole, whatever its bytes are. Each record has 9 bytes or
+-- more: its kind and its unit.
 abbrev pub IsCut : List ℕ → Type 0
-IsCut bytes = IsBegun bytes ⊎ IsShort bytes
+IsCut bytes = (length bytes < 9) ⊎ IsShort bytes
 
 -- The bytes are those of the records. A last record that isn't whole doesn't count.
 pub record SpellsRecords (bytes : List ℕ) (records : List LogRecord) : Type 0 where

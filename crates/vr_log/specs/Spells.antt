@@ -6,7 +6,8 @@ use Rattle.vr_types.specs.Fields.{AreZeros}
 use Rattle.vr_types.specs.Image.{Image, block_at}
 use Rattle.vr_types.specs.declared.geometry.Geometry.{Geometry}
 use Rattle.vr_log.specs.Content.{Content}
-use Rattle.vr_log.specs.LogBlock.{generation_in, index_in, used_in, payload_in, is_next, room_of}
+use Rattle.vr_log.specs.LogBlock.{generation_in, index_in, used_in, payload_in, rest_in, is_next}
+use Rattle.vr_log.specs.LogBlock.{room_of}
 use Rattle.vr_log.specs.Records.{SpellsRecords}
 
 -- The payload of a block that goes on with the log and has room for it, and where it is full what
@@ -25,13 +26,14 @@ bytes_from room generation index (suc left) image =
     (nat_eq (used_in block) room) (payload_in block)
     (bytes_from room generation (index + 1) left image)
 
--- each block that goes on uses no more bytes than it has room for
+-- Each block that goes on uses no more bytes than it has room for, and past them are zeros.
 abbrev pub Fits : ℕ → ℕ → ℕ → ℕ → Image → Type 0
 Fits room generation index zero image = Unit {0}
 Fits room generation index (suc left) image =
     let block = block_at image (1 + index) in
     is_next generation index block ≡ true
-    → (used_in block ≤ room) × (used_in block ≡ room → Fits room generation (index + 1) left image)
+    → (used_in block ≤ room) × AreZeros (rest_in block)
+    × (used_in block ≡ room → Fits room generation (index + 1) left image)
 
 -- the bytes of the whole log of this generation
 abbrev pub log_bytes : Geometry → ℕ → Image → List ℕ

@@ -2,6 +2,7 @@
 -- rules are this project's own.
 use Rattle.std.specs.Prelude.{◌≡◌, ◌⊎◌, ℕ, ◌+◌, ◌*◌, ◌<◌, ◌≤◌, List, length, take, drop, Some, None}
 use Rattle.std.specs.Prelude.{true, All}
+use Rattle.vr_types.specs.Fields.{AreZeros}
 use Rattle.vr_types.specs.Geometry.{IsAllowed}
 use Rattle.vr_types.specs.LogSpace.{log_size}
 use Rattle.vr_types.specs.Image.{Block, Image, block_at}
@@ -9,7 +10,7 @@ use Rattle.vr_types.specs.Regions.{IsImageOn}
 use Rattle.vr_types.specs.Seen.{Seen, Only}
 use Rattle.vr_types.specs.declared.geometry.Geometry.{Geometry}
 use Rattle.vr_log.specs.Content.{Content}
-use Rattle.vr_log.specs.LogBlock.{generation_in, used_in, payload_in, is_next, room_of}
+use Rattle.vr_log.specs.LogBlock.{generation_in, used_in, payload_in, rest_in, is_next, room_of}
 use Rattle.vr_log.specs.LogNow.{LogNow, IsBehind, IsForced, IsOf, last_index}
 use Rattle.vr_log.specs.Records.{bytes_of, HasFields}
 use Rattle.vr_log.specs.Spells.{Spells}
@@ -22,13 +23,14 @@ InLog geometry n = (1 ≤ n) × (n ≤ geometry.log)
 abbrev pub place_of : ℕ → List ℕ → ℕ → List ℕ
 place_of room bytes index = take room (drop (index * room) bytes)
 
--- Where the block goes on with the log, it has a prefix of the bytes whose place it is.
+-- Where the block goes on with the log, it has a prefix of the bytes whose place it is, and zeros.
 pub record IsWithin (room generation : ℕ) (bytes : List ℕ) (index : ℕ) (block : Block) : Type 0
   where
     pub used : is_next generation index block ≡ true
         → used_in block ≤ length (place_of room bytes index)
     pub payload : is_next generation index block ≡ true
         → payload_in block ≡ take (used_in block) (place_of room bytes index)
+    pub zeros : is_next generation index block ≡ true → AreZeros (rest_in block)
 
 -- The block goes on with the log, and has at least the first `count` bytes, as far as their place
 -- is there.
@@ -36,11 +38,12 @@ pub record Reaches (room generation count index : ℕ) (block : Block) : Type 0 
   pub next : is_next generation index block ≡ true
   pub used : (count ≤ index * room + used_in block) ⊎ (used_in block ≡ room)
 
--- The block goes on with the log, and has all bytes whose place is there.
+-- The block goes on with the log, and has all bytes whose place is there, and zeros.
 pub record IsExact (room generation : ℕ) (bytes : List ℕ) (index : ℕ) (block : Block) : Type 0 where
   pub next : is_next generation index block ≡ true
   pub used : used_in block ≡ length (place_of room bytes index)
   pub payload : payload_in block ≡ place_of room bytes index
+  pub zeros : AreZeros (rest_in block)
 
 -- the bytes of the records that were forced
 abbrev pub forced_length : LogNow → ℕ

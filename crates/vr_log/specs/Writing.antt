@@ -1,19 +1,20 @@
 -- A log while the bytes of a record are put.
 use Rattle.std.specs.Prelude.{◌≡◌, ◌⊎◌, ℕ, ◌+◌, ◌-◌, ◌*◌, ◌^◌, ◌<◌, ◌≤◌, List, [], ◌++◌, length}
-use Rattle.std.specs.Prelude.{Some, None, Bool, IsTrue, false, if◌then◌else◌, vec_len}
+use Rattle.std.specs.Prelude.{take, drop, Some, None, Bool, IsTrue, false, if◌then◌else◌, vec_len}
+use Rattle.std.specs.Prelude.{Result, OnOk}
 use Rattle.vr_types.specs.Image.{Image, block_at}
 use Rattle.vr_types.specs.Seen.{Seen}
 use Rattle.vr_types.specs.declared.geometry.Geometry.{Geometry}
-use Rattle.vr_log.specs.declared.tail.Tail.{Tail}
-use Rattle.vr_log.specs.Content.{Content}
-use Rattle.vr_log.specs.LogBlock.{generation_in, index_in, room_of}
-use Rattle.vr_log.specs.LogNow.{LogNow, IsOf}
-use Rattle.vr_log.specs.Memory.{IsTail}
+use Rattle.vr_types.specs.Fields.{padded}
 use Rattle.vr_types.specs.Geometry.{IsAllowed}
-use Rattle.vr_log.specs.Spells.{Spells, Fits, log_bytes}
-use Rattle.std.specs.Prelude.{Result, OnOk}
 use Rattle.vr_types.specs.Regions.{Touches}
 use Rattle.vr_types.specs.declared.fault.DeviceFault.{DeviceFault}
+use Rattle.vr_log.specs.declared.tail.Tail.{Tail}
+use Rattle.vr_log.specs.Content.{Content}
+use Rattle.vr_log.specs.LogBlock.{generation_in, index_in, head_of, room_of}
+use Rattle.vr_log.specs.LogNow.{LogNow, IsOf}
+use Rattle.vr_log.specs.Memory.{IsTail}
+use Rattle.vr_log.specs.Spells.{Spells, Fits, log_bytes}
 use Rattle.vr_log.specs.Standing.{InLog, Leaves, IsExact, open_index, forced_length}
 
 abbrev pub IsPrefix : List ℕ → List ℕ → Type 0
@@ -34,6 +35,12 @@ pub record IsSound (tail : Tail) : Type 0 where
   pub head : 16 < vec_len tail.block
   pub index : tail.index < tail.blocks
   pub fits : tail.used + 16 ≤ vec_len tail.block
+
+-- the block that is put: its head, the bytes used, and zeros past them
+abbrev pub block_of : Tail → List ℕ
+block_of tail =
+    padded (vec_len tail.block)
+    (head_of tail.generation tail.index tail.used ++ take tail.used (drop 16 tail.block.items))
 
 -- how many bytes the log has so far
 abbrev pub position : Tail → ℕ

@@ -11,9 +11,9 @@ use vr_types::{
     Bytes, OutOfMemory, PartNo, Unit, are_zeros, bytes as copied, four_at, place, two_at,
 };
 
-/// What bytes begin with: a record of that many of them, one that isn't whole, or none. A
-/// before-image whose flag and length of the old record aren't all there isn't whole, whatever
-/// stands of these.
+/// What bytes begin with: a record of that many of them, one that isn't whole, or none. A record
+/// isn't whole where there are fewer bytes than it needs by those of its fields that are there,
+/// whatever else they are.
 #[derive(Drop)]
 pub(crate) enum Found {
     Whole { rec: LogRecord, count: usize },
@@ -22,7 +22,7 @@ pub(crate) enum Found {
 }
 
 /// What the five or more bytes after the place of a before-image begin with: that there was no
-/// record, a record of that many bytes, one that isn't whole, or neither.
+/// record, a record of that many bytes, fewer than its length says, or neither.
 #[derive(Clone, Copy)]
 enum OldFound {
     Absent,
@@ -35,7 +35,7 @@ enum OldFound {
 pub(crate) fn read_record(alloc: Global, bytes: &[u8]) -> Result<Found, OutOfMemory>
     ensures { IfOk result (λ found. IsFound bytes.now found) }
 {
-    if bytes.is_empty() {
+    if bytes.len() < 9 {
         return Ok(Found::Cut);
     }
     match bytes[0] {
@@ -48,13 +48,10 @@ pub(crate) fn read_record(alloc: Global, bytes: &[u8]) -> Result<Found, OutOfMem
 
 /// The end of a unit.
 fn read_end(bytes: &[u8], kind: EndKind) -> Found
-    requires some { 0 < length bytes.now }
+    requires long { 9 ≤ length bytes.now }
     requires first { slice_index bytes.now 0 ≡ end_number kind }
     ensures { IsFound bytes.now result }
 {
-    if bytes.len() < 9 {
-        return Found::Cut;
-    }
     let unit = Unit {
         deck: four_at(bytes, 1),
         number: four_at(bytes, 5),
@@ -128,9 +125,13 @@ fn old_found(bytes: &[u8]) -> OldFound
     requires { 5 ≤ length bytes.now }
     ensures { IsOldFound bytes.now result }
 {
+    let length = four_at(bytes, 1) as usize;
+    if bytes.len() < 5 + length {
+        return OldFound::Broken;
+    }
     match bytes[0] {
         0 => absent(bytes),
-        1 => present(bytes),
+        1 => OldFound::Present(length),
         _ => OldFound::Wrong,
     }
 }
@@ -138,6 +139,7 @@ fn old_found(bytes: &[u8]) -> OldFound
 /// That there was no record, which four zeros follow.
 fn absent(bytes: &[u8]) -> OldFound
     requires long { 5 ≤ length bytes.now }
+    requires all { 5 + four_in 1 bytes.now ≤ length bytes.now }
     requires first { slice_index bytes.now 0 ≡ 0 }
     ensures { IsOldFound bytes.now result }
 {
@@ -146,17 +148,4 @@ fn absent(bytes: &[u8]) -> OldFound
     } else {
         OldFound::Wrong
     }
-}
-
-/// A record, after its length.
-fn present(bytes: &[u8]) -> OldFound
-    requires long { 5 ≤ length bytes.now }
-    requires first { slice_index bytes.now 0 ≡ 1 }
-    ensures { IsOldFound bytes.now result }
-{
-    let length = four_at(bytes, 1) as usize;
-    if bytes.len() < 5 + length {
-        return OldFound::Broken;
-    }
-    OldFound::Present(length)
 }

@@ -22,12 +22,12 @@ pub(crate) enum First {
 }
 
 /// What a block says: it goes on with the log and is full, the log ends with it or before it, or it
-/// goes on and says more bytes than it has room for.
+/// goes on and says more bytes than it has room for, or has others than zeros past them.
 #[derive(Clone, Copy)]
 enum Next {
     Full,
     Last,
-    Over,
+    Wrong,
 }
 
 /// What block 1 says.
@@ -56,8 +56,8 @@ fn first_of(block: &[u8]) -> First
     First::Begins(generation)
 }
 
-/// Adds the bytes of all blocks of a generation. Where one says more bytes than it has room for, it
-/// answers its index.
+/// Adds the bytes of all blocks of a generation. Where one says more bytes than it has room for, or
+/// has others than zeros past them, it answers its index.
 pub(crate) fn gather<B: Blocks>(
     blocks: &mut B,
     geometry: Geometry,
@@ -70,7 +70,7 @@ pub(crate) fn gather<B: Blocks>(
     ensures bytes { IsTrue B.tells → IfOk result (IsGathered geometry generation
         (B.seen blocks.old).cur bytes.new.items) }
     ensures most { OnOk result (vec_len bytes.new ≤ geometry.log * room_of geometry) }
-    ensures within { IfOk result (λ over. IfSome over (λ index. index < geometry.log)) }
+    ensures within { IfOk result (λ wrong. IfSome wrong (λ index. index < geometry.log)) }
     ensures no_damage { IfErr result IsNoDamage }
     ensures keeps { Keeps B.tells (B.seen blocks.old) (B.seen blocks.new) }
     ensures cause { HasReadCause (B.faults blocks.old) (B.faults blocks.new) result }
@@ -79,7 +79,7 @@ pub(crate) fn gather<B: Blocks>(
         match take_block(blocks, generation, index, bytes)? {
             Next::Full => {}
             Next::Last => return Ok(None),
-            Next::Over => return Ok(Some(index)),
+            Next::Wrong => return Ok(Some(index)),
         }
     }
     Ok(None)
@@ -135,8 +135,11 @@ fn add_payload(
     let used = four_at(block, 12) as usize;
     let room = block.len() - 16;
     if room < used {
-        return Ok(Next::Over);
+        return Ok(Next::Wrong);
     }
     bytes.extend_from_slice(&block[16..16 + used])?;
+    if !are_zeros(&block[16 + used..]) {
+        return Ok(Next::Wrong);
+    }
     Ok(if used == room { Next::Full } else { Next::Last })
 }

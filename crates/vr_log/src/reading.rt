@@ -92,9 +92,9 @@ fn read_into<B: Blocks>(
     ensures keeps { Keeps B.tells (B.seen blocks.old) (B.seen blocks.new) }
     ensures cause { HasReadCause (B.faults blocks.old) (B.faults blocks.new) result }
 {
-    let over = gather(blocks, geometry, content.generation(), bytes)?;
+    let wrong = gather(blocks, geometry, content.generation(), bytes)?;
     let stop = read_records(alloc, bytes, content)?;
-    match (stop, over) {
+    match (stop, wrong) {
         (Some(at), _) => {
             let index = at / (geometry.size as usize - 16);
             Err(LogReadNo::Damaged {

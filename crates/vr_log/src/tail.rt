@@ -21,9 +21,11 @@ ghost use Rattle.std.specs.Prelude.{
   false,
   IfOk,
   slice_set,
+  replicate,
 };
 ghost use Rattle.vr_types.specs.Blocks.{Keeps, Puts};
 ghost use Rattle.vr_types.specs.Faults.{HasWriteCause};
+ghost use Rattle.vr_types.specs.Fields.{padded};
 ghost use Rattle.vr_types.specs.Image.{block_at};
 ghost use Rattle.vr_types.specs.Regions.{Touches};
 ghost use Rattle.vr_types.specs.Seen.{Only};
@@ -34,7 +36,7 @@ ghost use Rattle.vr_log.specs.Memory.{IsTail};
 ghost use Rattle.vr_types.specs.declared.geometry.Geometry.{Geometry};
 ghost use Rattle.vr_log.specs.Writing.{IsSafe, IsSound, IsPassedBy, position, HasRoom, IsReady};
 ghost use Rattle.vr_log.specs.Writing.{IsPrefix, IsWriting, IsFound, IsSame, IsKeptBy, IsSettledOf};
-ghost use Rattle.vr_log.specs.Writing.{Follows, Ends};
+ghost use Rattle.vr_log.specs.Writing.{Follows, Ends, block_of};
 
 use vr_types::{Blocks, DeviceFault, put_eight, put_four};
 
@@ -72,12 +74,10 @@ impl Tail {
         count
     }
 
-    /// Puts the block, with its head.
+    /// Puts the block, with its head, and with zeros past the bytes used.
     pub(crate) fn put<B: Blocks>(&mut self, blocks: &mut B) -> Result<(), DeviceFault>
         requires safe { IsSafe self.old (B.seen blocks.old) }
-        ensures block { self.new.block.items
-            ≡ head_of self.old.generation self.old.index self.old.used
-            ++ drop 16 self.old.block.items }
+        ensures block { self.new.block.items ≡ block_of self.old }
         ensures size { vec_len self.new.block ≡ vec_len self.old.block }
         ensures same { IsSame self.old self.new }
         ensures put { IsTrue B.tells → OnOk result ((B.seen blocks.new).cur
@@ -86,7 +86,7 @@ impl Tail {
             (B.seen blocks.old) (B.seen blocks.new) }
         ensures cause { HasWriteCause (B.faults blocks.old) (B.faults blocks.new) result }
     {
-        write_head(&mut self.block, self.generation, self.index, self.used);
+        make_block(&mut self.block, self.generation, self.index, self.used);
         blocks.put(1 + self.index, &self.block)
     }
 
@@ -245,6 +245,25 @@ impl Tail {
         self.put(blocks)?;
         Ok(())
     }
+}
+
+/// Makes the block that of the log with so many bytes used: it writes its head, and zeros past
+/// them.
+fn make_block(block: &mut [u8], generation: u64, index: u32, used: u32)
+    requires { 16 + used ≤ length block.old }
+    ensures { block.new ≡ padded (length block.old)
+        (head_of generation index used ++ take used (drop 16 block.old)) }
+{
+    clear_from(block, 16 + used as usize);
+    write_head(block, generation, index, used);
+}
+
+/// Makes zeros of the bytes from a place on.
+fn clear_from(block: &mut [u8], from: usize)
+    requires { from ≤ length block.old }
+    ensures { block.new ≡ take from block.old ++ replicate (length block.old - from) 0 }
+{
+    block[from..].fill(0);
 }
 
 /// Writes the head of a block of the log.

@@ -71,33 +71,29 @@ fn record_length(bytes: &[u8]) -> usize {
     0
 }
 
-/// Whether the bytes are what is left of a record that isn't whole: its beginning, or of a before-image
-/// whatever ends before its flag and length.
+/// Whether the bytes are fewer than the record needs that they begin.
 fn is_cut(bytes: &[u8]) -> bool {
-    match bytes.first() {
-        None => true,
-        Some(1) => is_before_cut(bytes),
-        Some(2) | Some(3) => bytes.len() < 9,
-        _ => false,
-    }
+    (bytes.len() as u64) < needed(bytes)
 }
 
-fn is_before_cut(bytes: &[u8]) -> bool {
-    let flag_at = number_at(bytes, 13, 2).saturating_add(15) as usize;
-    let rest = bytes.get(flag_at..).unwrap_or(&[]);
-    if bytes.len() < 15 || rest.len() < 5 {
-        return true;
+/// How many bytes a record needs, by those of its fields that are there.
+fn needed(bytes: &[u8]) -> u64 {
+    if bytes.len() < 9 || bytes.first() != Some(&1) {
+        return 9;
     }
-    match rest.first() {
-        Some(1) => {
-            let length = number_at(rest, 1, 4).saturating_add(5);
-            (rest.len() as u64) < length
-        }
-        _ => false,
+    if bytes.len() < 15 {
+        return 15;
     }
+    let length_at = number_at(bytes, 13, 2).saturating_add(16);
+    let rest_at = length_at.saturating_add(4);
+    if (bytes.len() as u64) < rest_at {
+        return rest_at;
+    }
+    rest_at.saturating_add(number_at(bytes, length_at as usize, 4))
 }
 
-/// Adds the bytes of the generation's blocks, and answers the block that says too many, or 0.
+/// Adds the bytes of the generation's blocks, and answers the block that says too many, or has
+/// others than zeros past them, or 0.
 fn gather(blocks: Blocks<'_>, generation: u64, into: &mut Vec<u8>) -> Result<u64, Stop> {
     let room = blocks.size.saturating_sub(16);
     for index in 0..blocks.log {
@@ -111,6 +107,10 @@ fn gather(blocks: Blocks<'_>, generation: u64, into: &mut Vec<u8>) -> Result<u64
             return Ok((index as u64).saturating_add(1));
         }
         into.extend_from_slice(slice(block, 16, used as usize))?;
+        let rest = room.saturating_sub(used as usize);
+        if !are_zeros(slice(block, blocks.size.saturating_sub(rest), rest)) {
+            return Ok((index as u64).saturating_add(1));
+        }
         if used < room as u64 {
             return Ok(0);
         }
@@ -141,10 +141,10 @@ pub fn find(blocks: Blocks<'_>, into: &mut Vec<u8>) -> Result<Found, Stop> {
     if generation == 0 || number_at(first, 8, 4) != 0 {
         return Ok(found_of(0, 0, 1));
     }
-    let over = gather(blocks, generation, into)?;
+    let wrong = gather(blocks, generation, into)?;
     let end = records_end(into);
     if is_cut(into.get(end..).unwrap_or(&[])) {
-        return Ok(found_of(generation, end, over));
+        return Ok(found_of(generation, end, wrong));
     }
     let room = blocks.size.saturating_sub(16).max(1);
     let block = (end / room).saturating_add(1) as u64;

@@ -1,5 +1,5 @@
--- What the crates above cite: the areas of a volume, the parts of a catalog and who owns their blocks,
--- and calls of which only the blocks are said.
+-- What the crates above cite: the areas of a volume, the parts of a catalog and who owns their
+-- blocks, and calls of which only the blocks are said.
 pub use Rattle.vr_mount.proofs.Blocks.{area-before, area-on, two-areas}
 pub use Rattle.vr_mount.proofs.PartContents.{AreSame, keyed-same, none-ascend, part-fits}
 pub use Rattle.vr_mount.proofs.PartContents.{rooms-same, stands-same, stays-same}
@@ -13,7 +13,7 @@ use Rattle.vr_types.specs.declared.unit.PartNo.{PartNo}
 use Rattle.vr_catalog.specs.declared.entry.CatEntry.{CatEntry}
 use Rattle.vr_log.specs.LogNow.{IsOf}
 use Rattle.vr_space.specs.Owners.{Owners}
-use Rattle.vr_space.specs.Part.{InFirstArea, IsOn, KeyedShape, RelativeShape, Shape, Stands}
+use Rattle.vr_space.specs.Part.{InFirstArea, IsOn, KeyedShape, NumberedShape, Shape, Stands}
 use Rattle.vr_space.specs.Part.{StaysIn, part_no}
 use Rattle.vr_space.specs.Rosters.{IsNumbered, Numbered}
 use Rattle.vr_attach.specs.Laid.{IsInside, shape_in}
@@ -23,15 +23,15 @@ use Rattle.vr_attach.proofs.CallerLemmas.{reached-stays}
 use Rattle.vr_mount.specs.Areas.{AreOn, AreOwners, EndsBefore}
 use Rattle.vr_mount.proofs.Laying.{IsAt, inside-first, shape_at}
 
--- A part that is laid is on blocks that the volume has, where its first area is on some. What a
--- relative part has to be beside that is known of its entry.
+-- A part that is laid is on blocks that the volume has, where its first area is on some. What an
+-- entry-sequenced or relative part has to be beside that is known of its entry.
 abbrev pub IsNumberedIf : Shape → Type 0
-IsNumberedIf shape = (part : Numbered) → shape ≡ RelativeShape part → IsNumbered part
+IsNumberedIf shape = (part : Numbered) → shape ≡ NumberedShape part → IsNumbered part
 
 at_inside : (geometry : Geometry) (area : ℕ) (shape : Shape) → IsAt geometry area shape
     → EndsBefore geometry.blocks shape → IsNumberedIf shape → IsInside geometry shape
 at_inside geometry area (KeyedShape part) at ends numbered = (ends, at.2)
-at_inside geometry area (RelativeShape part) at ends numbered = (numbered part refl, at.2)
+at_inside geometry area (NumberedShape part) at ends numbered = (numbered part refl, at.2)
 
 pub laid-inside : (geometry : Geometry) (entries : List CatEntry) → AreOn geometry entries
     → (part : ℕ) (shape : Shape) → shape_in geometry entries part ≡ Some shape

@@ -12,10 +12,10 @@ use Rattle.vr_seqset.specs.Entry.{Entry}
 use Rattle.vr_space.specs.Room.{Range, is_in}
 use Rattle.vr_space.specs.Keyed.{Keyed, HoldRanges, IsKept, entry_block, entries_of, items_of}
 use Rattle.vr_space.specs.Keyed.{placed, records_of, records_in, range_of, content_from}
-use Rattle.vr_space.specs.Part.{Shape, KeyedShape, RelativeShape, Stands, record_read}
+use Rattle.vr_space.specs.Part.{Shape, KeyedShape, NumberedShape, Stands, record_read}
 use Rattle.vr_space.specs.Part.{place_length}
 use Rattle.vr_space.specs.Rosters.{Numbered}
-use Rattle.vr_space.specs.Slots.{IsSlotPlace, number_of, slot_way}
+use Rattle.vr_space.specs.Numbered.{IsNumberPlace, number_of, numbered_way}
 use Rattle.vr_space.specs.Way.{found_on}
 use Rattle.vr_space.proofs.CallerLemmas.{NoneAt, none-record, content_item, found-place}
 
@@ -74,12 +74,12 @@ none_of n (entry ∷ content) place keys other = (
   none_of n content place keys.1 other,
 )
 
--- the number of a slot has four bytes
-none_slot : (part : Numbered) (image : Image) (place : List ℕ) → (length place ≡ 4 → ⊥)
-    → (found : Option Item) → found_on image (slot_way part place) ≡ found → found ≡ None
-none_slot part image place other None is = refl
-none_slot part image place other (Some item) is =
-    let there : IsSlotPlace place =
+-- the number at a place has four bytes
+none_numbered : (part : Numbered) (image : Image) (place : List ℕ) → (length place ≡ 4 → ⊥)
+    → (found : Option Item) → found_on image (numbered_way part place) ≡ found → found ≡ None
+none_numbered part image place other None is = refl
+none_numbered part image place other (Some item) is =
+    let there : IsNumberPlace part place =
     found-place part image place (λ none. some-none (sym is ∙ none)) in
     absurd (other (ap length there.bytes ∙ length-four (number_of place)))
   where
@@ -97,5 +97,5 @@ none_elsewhere (KeyedShape part) image stands place other =
     ap (option_and_then record_of)
     (sym (content_item (KeyedShape part) image content stands.1 place)
     ∙ none-record place content (none_of part.key content place keys other))
-none_elsewhere (RelativeShape part) image stands place other = ap (option_and_then record_of)
-    (none_slot part image place other (found_on image (slot_way part place)) refl)
+none_elsewhere (NumberedShape part) image stands place other = ap (option_and_then record_of)
+    (none_numbered part image place other (found_on image (numbered_way part place)) refl)

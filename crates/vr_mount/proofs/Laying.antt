@@ -2,7 +2,7 @@
 use Rattle.std.proofs.Common.{◌≡◌, ◌⊎◌, ℕ, ◌+◌, ◌<◌, ◌≤◌, Bool, true, false, List, refl, sym, ap}
 use Rattle.std.proofs.Common.{◌∙◌, subst, arith, inl, inr, Option, Some, None, get_or, length}
 use Rattle.std.specs.Prelude.{if◌then◌else◌, ◌==◌, All, IfSome}
-use Rattle.std.specs.Option.{option_and_then}
+use Rattle.std.specs.Option.{option_and_then, option_map}
 use Rattle.std.proofs.lemmas.Bool.{ne_eqb}
 use Rattle.std.proofs.lemmas.Bool.Decides.{Decides-eqb, eqb_tells}
 use Rattle.vr_types.specs.Geometry.{area_count, head_block}
@@ -13,13 +13,13 @@ use Rattle.vr_types.specs.declared.unit.Kind.TheVariants as kinds
 use Rattle.vr_catalog.specs.Catalog.{entry_with_part, cluster_definition}
 use Rattle.vr_catalog.specs.declared.definition.Definition.{Definition}
 use Rattle.vr_catalog.specs.declared.entry.CatEntry.{CatEntry}
-use Rattle.vr_space.specs.Part.{Shape, KeyedShape, RelativeShape, InFirstArea}
+use Rattle.vr_space.specs.Part.{Shape, KeyedShape, NumberedShape, InFirstArea}
 use Rattle.vr_attach.specs.Laid.{keyed_shape, catalog_shape, numbered_part, shape_by_kind}
 use Rattle.vr_attach.specs.Laid.{shape_from, shape_of}
 use Rattle.vr_attach.specs.Laid.{shape_in}
 use Rattle.vr_attach.specs.Laid.{AreApart}
 use Rattle.vr_mount.specs.Areas.{area_in, area_length, AreOn, EndsBefore, first_block, IsBelow}
-use Rattle.vr_mount.specs.Numbers.{area_by_kind, laid_area, number_by, numbers_by, AreToldApart}
+use Rattle.vr_mount.specs.Numbers.{area_number, laid_area, number_by, numbers_by, AreToldApart}
 use Rattle.vr_mount.specs.declared.distinct.Which.TheVariants.{Part, Area}
 use Rattle.vr_mount.proofs.Blocks.{one_area, area_ends, area_there}
 use Rattle.vr_mount.proofs.Telling.{distinct_from_zero, zero_is_new, others_distinct, found_not_new}
@@ -34,79 +34,60 @@ some_is x y same = cc
 -- its blocks have the size that those of the volume have
 abbrev pub IsSized : Geometry → Shape → Type 0
 IsSized geometry (KeyedShape part) = part.size ≡ geometry.size
-IsSized geometry (RelativeShape part) = part.geometry ≡ geometry
+IsSized geometry (NumberedShape part) = part.geometry ≡ geometry
 
 -- the first area of a shape is on the blocks of an area
 abbrev pub IsAt : Geometry → ℕ → Shape → Type 0
 IsAt geometry area shape = (first_block shape ≡ head_block geometry area)
     × (area_length shape ≡ geometry.area) × IsSized geometry shape
 
-by_kind : (geometry : Geometry) (part a : ℕ) (area : AreaNo) (d : Definition) (kind : Kind)
-    (shape : Shape) → area.0 ≡ a → shape_by_kind geometry part a d kind ≡ Some shape
-    → (area_by_kind (Some area) kind ≡ Some a) × IsAt geometry a shape
-by_kind geometry part a area d kinds.Keyed shape is laid = (
-  ap Some is,
-  subst (IsAt geometry a) (some_is (keyed_shape geometry part a d) shape laid) (refl, refl, refl),
-)
-by_kind geometry part a area d kinds.Entry shape is laid = absurd cc
-by_kind geometry part a area d kinds.Relative shape is laid = (
-  ap Some is,
-  subst (IsAt geometry a) (some_is (RelativeShape (numbered_part geometry part a d)) shape laid)
-      (refl, refl, refl),
-)
+by_kind : (geometry : Geometry) (part a : ℕ) (d : Definition) (kind : Kind) (shape : Shape)
+    → shape_by_kind geometry part a d kind ≡ Some shape → IsAt geometry a shape
+by_kind geometry part a d kinds.Keyed shape laid =
+    subst (IsAt geometry a) (some_is (keyed_shape geometry part a d) shape laid) (refl, refl, refl)
+by_kind geometry part a d kinds.Entry shape laid =
+    subst (IsAt geometry a) (some_is (NumberedShape (numbered_part geometry part a d)) shape laid)
+    (refl, refl, refl)
+by_kind geometry part a d kinds.Relative shape laid =
+    subst (IsAt geometry a) (some_is (NumberedShape (numbered_part geometry part a d)) shape laid)
+    (refl, refl, refl)
 
 by_area : (geometry : Geometry) (part : ℕ) (area : Option AreaNo) (d : Definition) (shape : Shape)
     → shape_from geometry part area d ≡ Some shape
-    → (a : ℕ) × (area_by_kind area d.kind ≡ Some a) × IsAt geometry a shape
+    → (a : ℕ) × (option_map area_number area ≡ Some a) × IsAt geometry a shape
 by_area geometry part None d shape laid = absurd cc
 by_area geometry part (Some area) d shape laid =
-    let found = by_kind geometry part area.0 area d d.kind shape refl laid in
-    (area.0, found.0, found.1)
+    (area.0, refl, by_kind geometry part area.0 d d.kind shape laid)
 
 by_definition : (geometry : Geometry) (part : ℕ) (area : Option AreaNo) (o : Option Definition)
     (shape : Shape) → option_and_then (shape_from geometry part area) o ≡ Some shape
-    → (a : ℕ) × (option_and_then (λ (d : Definition). area_by_kind area d.kind) o ≡ Some a)
+    → (a : ℕ) × (option_and_then (λ (d : Definition). option_map area_number area) o ≡ Some a)
     × IsAt geometry a shape
 by_definition geometry part area None shape laid = absurd cc
 by_definition geometry part area (Some d) shape laid = by_area geometry part area d shape laid
 
-kind_lays : (geometry : Geometry) (part a : ℕ) (area : Option AreaNo) (d : Definition)
-    (kind : Kind) → area_by_kind area kind ≡ Some a
-    → (named : AreaNo) × (shape : Shape) × (area ≡ Some named) × (named.0 ≡ a)
-    × (shape_by_kind geometry part a d kind ≡ Some shape) × IsAt geometry a shape
-kind_lays geometry part a None d kinds.Keyed is = absurd cc
-kind_lays geometry part a (Some named) d kinds.Keyed is = (
-  named,
-  keyed_shape geometry part a d,
-  refl,
-  some_is named.0 a is,
-  refl,
-  (refl, refl, refl),
-)
-kind_lays geometry part a area d kinds.Entry is = absurd cc
-kind_lays geometry part a None d kinds.Relative is = absurd cc
-kind_lays geometry part a (Some named) d kinds.Relative is = (
-  named,
-  RelativeShape (numbered_part geometry part a d),
-  refl,
-  some_is named.0 a is,
-  refl,
-  (refl, refl, refl),
-)
+kind_lays : (geometry : Geometry) (part a : ℕ) (d : Definition) (kind : Kind)
+    → (shape : Shape) × (shape_by_kind geometry part a d kind ≡ Some shape) × IsAt geometry a shape
+kind_lays geometry part a d kinds.Keyed =
+    (keyed_shape geometry part a d, refl, (refl, refl, refl))
+kind_lays geometry part a d kinds.Entry =
+    (NumberedShape (numbered_part geometry part a d), refl, (refl, refl, refl))
+kind_lays geometry part a d kinds.Relative =
+    (NumberedShape (numbered_part geometry part a d), refl, (refl, refl, refl))
 
 area_lays : (geometry : Geometry) (part a : ℕ) (area : Option AreaNo) (d : Definition)
-    → area_by_kind area d.kind ≡ Some a
+    → option_map area_number area ≡ Some a
     → (shape : Shape) × (shape_from geometry part area d ≡ Some shape) × IsAt geometry a shape
-area_lays geometry part a area d is =
-    let found = kind_lays geometry part a area d d.kind is in (
-      found.1,
-      ap (λ (named : Option AreaNo). shape_from geometry part named d) found.2
-          ∙ ap (λ (n : ℕ). shape_by_kind geometry part n d d.kind) found.3 ∙ found.4,
-      found.5,
+area_lays geometry part a None d is = absurd cc
+area_lays geometry part a (Some named) d is =
+    let found = kind_lays geometry part a d d.kind in (
+      found.0,
+      ap (λ (n : ℕ). shape_by_kind geometry part n d d.kind) (some_is named.0 a is) ∙ found.1,
+      found.2,
     )
 
 definition_lays : (geometry : Geometry) (part a : ℕ) (area : Option AreaNo) (o : Option Definition)
-    → option_and_then (λ (d : Definition). area_by_kind area d.kind) o ≡ Some a
+    → option_and_then (λ (d : Definition). option_map area_number area) o ≡ Some a
     → (shape : Shape) × (option_and_then (shape_from geometry part area) o ≡ Some shape)
     × IsAt geometry a shape
 definition_lays geometry part a area None is = absurd cc
@@ -158,12 +139,12 @@ at_shape geometry entries part a is =
 pub inside-first : (shape : Shape) (n : ℕ) → InFirstArea shape n
     → (first_block shape ≤ n) × (n ≤ first_block shape + area_length shape)
 inside-first (KeyedShape part) n inside = inside
-inside-first (RelativeShape part) n inside = (inside.from, inside.to)
+inside-first (NumberedShape part) n inside = (inside.from, inside.to)
 
 first-inside : (shape : Shape) (n : ℕ) → first_block shape ≤ n
     → n ≤ first_block shape + area_length shape → InFirstArea shape n
 first-inside (KeyedShape part) n from to = (from, to)
-first-inside (RelativeShape part) n from to = record { from = from; to = to }
+first-inside (NumberedShape part) n from to = record { from = from; to = to }
 
 first_in : (geometry : Geometry) (a : ℕ) (shape : Shape) → IsAt geometry a shape
     → InFirstArea shape (head_block geometry a)

@@ -10,5 +10,5 @@ pub mod Owning
 pub mod Keys
 pub mod Reading
 pub mod PartContents
-pub mod SlotRecords
+pub mod ChainRecords
 pub mod Touched

@@ -1,5 +1,5 @@
 -- What the blocks of a part stand for: no other block changes it, and there is room for it.
-use Rattle.std.proofs.Common.{◌≡◌, ◌<◌, ◌+◌, ℕ, List, [], ◌∷◌, ◌++◌, refl, sym, ap, subst, ◌∙◌}
+use Rattle.std.proofs.Common.{◌≡◌, ◌<◌, ℕ, List, [], ◌∷◌, ◌++◌, refl, sym, ap, subst, ◌∙◌}
 use Rattle.std.proofs.Common.{arith, Option, Some, None, ◌≤◌, Bool, true, false, map}
 use Rattle.std.specs.Prelude.{slice_index, cond, filter}
 use Rattle.std.specs.List.Sorted.{IsStrictlySortedBy}
@@ -15,15 +15,16 @@ use Rattle.vr_space.specs.Keyed.{HoldRanges, InArea, IsHead, Keyed, KeyedStandsF
 use Rattle.vr_space.specs.Keyed.{entries_of, entry_block, range_of, records_in, HoldsRange}
 use Rattle.vr_space.specs.Keyed.{HaveRooms, items_of, key_of, length_of, lengths_of, placed}
 use Rattle.vr_space.specs.Owners.{Owners}
-use Rattle.vr_space.specs.Part.{HasRoom, InPart, KeyedShape, RelativeShape, Shape, StandsFor}
+use Rattle.vr_space.specs.Part.{HasRoom, InPart, KeyedShape, NumberedShape, Shape, StandsFor}
 use Rattle.vr_space.specs.Part.{StaysIn}
 use Rattle.vr_space.specs.Room.{HaveRoom, Lengths, Range, is_in, weight}
-use Rattle.vr_space.specs.Rosters.{IsChained, IsInArea, IsOf, IsOwnArea, Numbered, roster_block}
-use Rattle.vr_space.specs.Slots.{IsSlots, KeepsSlots, SlotsStandFor, SlotsStayIn}
-use Rattle.vr_space.proofs.CallerLemmas.{AreIn, area-below, chain-less, head-in, roster-inside}
-use Rattle.vr_space.proofs.CallerLemmas.{slots-less}
+use Rattle.vr_space.specs.Rosters.{IsChained, IsInArea, IsOf, IsOwnArea, Numbered}
+use Rattle.vr_space.specs.Numbered.{IsFilled, KeepsNumbered, NumberedStandsFor, NumberedStaysIn}
+use Rattle.vr_space.specs.Numbered.{start_of}
+use Rattle.vr_space.proofs.CallerLemmas.{AreIn, area-below, chain-less, head-in}
+use Rattle.vr_space.proofs.CallerLemmas.{numbered-less}
 use Rattle.vr_attach.specs.Laid.{IsInside}
-use Rattle.vr_mount.proofs.SlotRecords.{records-same}
+use Rattle.vr_mount.proofs.ChainRecords.{records-same}
 
 -- no content ascends
 pub none-ascend : Ascends []
@@ -96,8 +97,8 @@ module _ (part : Keyed) (old new : Image)
 
 -- what a part of chained areas stands for and keeps room for, where the blocks that it owns stay
 module _ (part : Numbered) (owners : Owners) (old new : Image)
-    (within : SlotsStayIn part owners old)
-    (same : (n : ℕ) → n < part.geometry.blocks → InPart (RelativeShape part) owners n
+    (within : NumberedStaysIn part owners old)
+    (same : (n : ℕ) → n < part.geometry.blocks → InPart (NumberedShape part) owners n
     → block_at new n ≡ block_at old n) where
   own-same : (area : ℕ) → IsOwnArea part owners area → (n : ℕ) → IsInArea part area n
       → block_at new n ≡ block_at old n
@@ -105,23 +106,23 @@ module _ (part : Numbered) (owners : Owners) (old new : Image)
       same n (area-below part area n own.there inside) (own.owned n inside)
 
   chain-same : (Wider : ℕ → Type 0) → ((area : ℕ) → IsOwnArea part owners area → Wider area)
-      → IsChained part Wider (IsSlots part) (IsOf new)
-  chain-same Wider wider = chain-less part (IsOwnArea part owners) Wider (IsSlots part) (IsOf new)
+      → IsChained part Wider (IsFilled part) (IsOf new)
+  chain-same Wider wider = chain-less part (IsOwnArea part owners) Wider (IsFilled part) (IsOf new)
       (IsOf old) wider (λ area own n inside block is. is ∙ own-same area own n inside)
       (area_count part.geometry) part.first within
 
-  slots-room : (kept : Lengths) → KeepsSlots part kept (IsOf old) → KeepsSlots part kept (IsOf new)
-  slots-room kept room = slots-less part (IsOwnArea part owners) (IsSlots part) (IsOf new)
-      (IsOf old) kept (λ area own top is. is
-      ∙ own-same area own (roster_block part area) (roster-inside part area)) within room
+  numbered-room : (kept : Lengths) → KeepsNumbered part kept (IsOf old)
+      → KeepsNumbered part kept (IsOf new)
+  numbered-room kept room = numbered-less part (IsOwnArea part owners) (IsFilled part) (IsOf new)
+      (IsOf old) kept (λ area own n inside block is. is ∙ own-same area own n inside) within room
 
-  slots-same : (content : Content) → SlotsStandFor part old content
-      → SlotsStandFor part new content
-  slots-same content stands = record {
+  numbered-same : (content : Content) → NumberedStandsFor part old content
+      → NumberedStandsFor part new content
+  numbered-same content stands = record {
     part_is = stands.part_is;
     chain = chain-same (λ area. area < area_count part.geometry) (λ area own. own.there);
     records = stands.records ∙ sym (records-same part (IsOwnArea part owners) old new
-        own-same (area_count part.geometry) 1 part.first within);
+        own-same (area_count part.geometry) (start_of part) part.first within);
   }
 
 -- the blocks that the part owns are as they were, where the volume has them
@@ -137,9 +138,9 @@ keyed-blocks geometry part owners old new inside within same n here =
     same n (omega (arith, inside.0, here.1)) (within n here)
 
 numbered-blocks : (geometry : Geometry) (part : Numbered) (owners : Owners) (old new : Image)
-    → IsInside geometry (RelativeShape part)
-    → AreSame geometry (RelativeShape part) owners old new
-    → AreSame part.geometry (RelativeShape part) owners old new
+    → IsInside geometry (NumberedShape part)
+    → AreSame geometry (NumberedShape part) owners old new
+    → AreSame part.geometry (NumberedShape part) owners old new
 numbered-blocks geometry part owners old new inside same n below =
     same n (subst (λ (g : Geometry). n < g.blocks) inside.1 below)
 
@@ -148,7 +149,7 @@ pub stays-same : (geometry : Geometry) (shape : Shape) (owners : Owners) (old ne
     → IsInside geometry shape → StaysIn shape owners old
     → AreSame geometry shape owners old new → StaysIn shape owners new
 stays-same geometry (KeyedShape part) owners old new inside within same = within
-stays-same geometry (RelativeShape part) owners old new inside within same =
+stays-same geometry (NumberedShape part) owners old new inside within same =
     chain-same part owners old new within
     (numbered-blocks geometry part owners old new inside same) (IsOwnArea part owners)
     (λ area own. own)
@@ -160,8 +161,8 @@ pub stands-same : (geometry : Geometry) (shape : Shape) (owners : Owners) (old n
     → StandsFor shape old content → StandsFor shape new content
 stands-same geometry (KeyedShape part) owners old new inside within same =
     keyed-same part old new (keyed-blocks geometry part owners old new inside within same)
-stands-same geometry (RelativeShape part) owners old new inside within same =
-    slots-same part owners old new within
+stands-same geometry (NumberedShape part) owners old new inside within same =
+    numbered-same part owners old new within
     (numbered-blocks geometry part owners old new inside same)
 
 -- and has the room that it had.
@@ -172,8 +173,8 @@ pub rooms-same : (geometry : Geometry) (shape : Shape) (owners : Owners) (old ne
 rooms-same geometry (KeyedShape part) owners old new inside within same kept content stands =
     keyed-rooms part old new (keyed-blocks geometry part owners old new inside within same) kept
     content stands
-rooms-same geometry (RelativeShape part) owners old new inside within same kept content stands =
-    slots-room part owners old new within
+rooms-same geometry (NumberedShape part) owners old new inside within same kept content stands =
+    numbered-room part owners old new within
     (numbered-blocks geometry part owners old new inside same) kept
 
 -- ---- room
@@ -218,5 +219,5 @@ pub part-fits : (shape : Shape) (image : Image) (content : Content) → StandsFo
     → HasRoom shape [] image
 part-fits (KeyedShape part) image content stands =
     have-rooms part image None (entries_of (block_at image part.head)) stands.intervals
-part-fits (RelativeShape part) image content stands = λ at entry below.
+part-fits (NumberedShape part) image content stands = λ at entry below.
     absurd (omega (arith, below))

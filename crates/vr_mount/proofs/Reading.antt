@@ -13,7 +13,7 @@ use Rattle.vr_types.specs.Image.{Image}
 use Rattle.vr_types.proofs.CallerLemmas.{same_place}
 use Rattle.vr_space.specs.Room.{is_above}
 use Rattle.vr_space.specs.Known.{Known}
-use Rattle.vr_space.specs.Part.{IsOn, IsUnderWay, KeyedShape, Knows, RelativeShape, Shape, Stands}
+use Rattle.vr_space.specs.Part.{IsOn, IsUnderWay, KeyedShape, Knows, NumberedShape, Shape, Stands}
 use Rattle.vr_space.specs.Part.{StandsFor, record_read}
 use Rattle.vr_space.specs.Split.{SplitNow}
 use Rattle.vr_space.specs.UnderWay.{KeyedUnderWay}
@@ -269,7 +269,7 @@ knows_now shape known now knows = record { way = way_now shape; blocks = knows.m
     way_now : (shape : Shape) → IsUnderWay shape known now
     way_now (KeyedShape part) =
         subst (λ (split : Option SplitNow). KeyedUnderWay part split now) (sym knows.no_split) tt
-    way_now (RelativeShape part) = tt
+    way_now (NumberedShape part) = tt
 
 pub still_knows : (tells : Bool) (shape other : Shape) (known now : Known) (a b : Seen)
     → Keeps tells a b → other ≡ shape → now ≡ known

@@ -10,7 +10,7 @@ use Rattle.vr_types.specs.declared.geometry.Geometry.{Geometry}
 use Rattle.vr_types.specs.declared.unit.PartNo.{PartNo}
 use Rattle.vr_catalog.specs.Catalog.{entry_with_part}
 use Rattle.vr_catalog.specs.declared.entry.CatEntry.{CatEntry}
-use Rattle.vr_space.specs.Part.{Shape, KeyedShape, RelativeShape, owned_count}
+use Rattle.vr_space.specs.Part.{Shape, KeyedShape, NumberedShape, owned_count}
 use Rattle.vr_attach.specs.Laid.{ReachesArea, shape_in}
 use Rattle.vr_mount.specs.Numbers.{laid_area}
 
@@ -22,11 +22,11 @@ area_in entries part =
 -- the first block of a part's first area, and how many blocks of the area come after it
 abbrev pub first_block : Shape → ℕ
 first_block (KeyedShape part) = part.head
-first_block (RelativeShape part) = head_block part.geometry part.first
+first_block (NumberedShape part) = head_block part.geometry part.first
 
 abbrev pub area_length : Shape → ℕ
 area_length (KeyedShape part) = part.area
-area_length (RelativeShape part) = part.geometry.area
+area_length (NumberedShape part) = part.geometry.area
 
 -- the first area of a part is on blocks below this one
 abbrev pub EndsBefore : ℕ → Shape → Type 0

@@ -5,23 +5,19 @@ use Rattle.std.specs.List.{AllByRecursion, IsDistinct, filter_map}
 use Rattle.std.specs.Prelude.{◌≡◌, false}
 use Rattle.std.specs.Option.{option_and_then, option_map}
 use Rattle.vr_types.specs.declared.unit.AreaNo.{AreaNo}
-use Rattle.vr_types.specs.declared.unit.Kind.{Kind}
-use Rattle.vr_types.specs.declared.unit.Kind.TheVariants as kinds
 use Rattle.vr_catalog.specs.Catalog.{cluster_definition}
 use Rattle.vr_catalog.specs.declared.definition.Definition.{Definition}
 use Rattle.vr_catalog.specs.declared.entry.CatEntry.{CatEntry}
 use Rattle.vr_mount.specs.declared.distinct.Which.{Which}
 use Rattle.vr_mount.specs.declared.distinct.Which.TheVariants.{Part, Area}
 
-abbrev pub area_by_kind : Option AreaNo → Kind → Option ℕ
-area_by_kind area kinds.Keyed = option_map (λ (area : AreaNo). area.0) area
-area_by_kind area kinds.Entry = None
-area_by_kind area kinds.Relative = option_map (λ (area : AreaNo). area.0) area
+abbrev pub area_number : AreaNo → ℕ
+area_number area = area.0
 
--- the first area of a key-sequenced or relative cluster
+-- the first area of a cluster, of whichever kind
 abbrev pub laid_area : CatEntry → Option ℕ
 laid_area entry = option_and_then
-    (λ (definition : Definition). area_by_kind entry.first_area definition.kind)
+    (λ (definition : Definition). option_map area_number entry.first_area)
     (cluster_definition entry.entry_kind entry)
 
 abbrev pub number_by : Which → CatEntry → Option ℕ

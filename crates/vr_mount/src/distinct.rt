@@ -6,7 +6,6 @@ ghost use Rattle.vr_mount.specs.Numbers.{AreToldApart, IsLone, IsNew, number_by,
 ghost use Rattle.vr_mount.specs.Numbers.{laid_area as area_of};
 
 use vr_catalog::CatEntry;
-use vr_types::Kind;
 
 /// Which number of an entry: that of its part, or of the area that it lays.
 #[derive(Clone, Copy)]
@@ -15,15 +14,12 @@ pub(crate) enum Which {
     Area,
 }
 
-/// The area that an entry lays: the first one of a key-sequenced or relative cluster.
+/// The area that an entry lays: the first one of a cluster.
 pub(crate) fn laid_area(entry: &CatEntry) -> Option<u32>
     ensures { result ≡ area_of entry.now }
 {
-    let definition = entry.cluster_definition()?;
-    match definition.kind {
-        Kind::Keyed | Kind::Relative => entry.first_area.map(|area| area.0),
-        Kind::Entry => None,
-    }
+    entry.cluster_definition()?;
+    entry.first_area.map(|area| area.0)
 }
 
 fn number_of(entry: &CatEntry, which: Which) -> Option<u32>

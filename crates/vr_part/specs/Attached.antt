@@ -4,20 +4,20 @@ use Rattle.vr_types.specs.Geometry.{area_count, head_block}
 use Rattle.vr_types.specs.Image.{Image}
 use Rattle.vr_types.specs.declared.geometry.Geometry.{Geometry}
 use Rattle.vr_space.specs.Known.{Known}
-use Rattle.vr_space.specs.Part.{KeyedShape, RelativeShape, Shape}
-use Rattle.vr_space.specs.Rosters.{chain_of, used_of}
+use Rattle.vr_space.specs.Part.{KeyedShape, NumberedShape, Shape}
+use Rattle.vr_space.specs.Numbered.{KnowsChain}
 use Rattle.vr_attach.specs.Chain.{IsChainShown}
 use Rattle.vr_attach.specs.declared.part_no.PartNo2.{PartNo2}
 use Rattle.vr_attach.specs.declared.part_no.PartNo2.TheVariants.{Damaged, Fault, Memory}
 use Rattle.vr_keyed.specs.Attached.{IsRuleShown}
 
--- What a part keeps in memory as it is attached: of a keyed one nothing, and of a relative one its
--- chain.
-abbrev pub attached_known : Shape → Image → Known
-attached_known (KeyedShape part) image =
-    record { split = None; met = []; areas = []; used = 0 }
-attached_known (RelativeShape part) image =
-    record { split = None; met = []; areas = chain_of part image; used = used_of part image }
+-- What a part keeps in memory as it is attached: of a keyed one nothing, of another its chain, and
+-- where its last item ends.
+abbrev pub IsAttachedWith : Shape → Known → Image → Type 0
+IsAttachedWith (KeyedShape part) known image =
+    known ≡ record { split = None; met = []; areas = []; used = 0; tail = None }
+IsAttachedWith (NumberedShape part) known image =
+    (known.split ≡ None) × (known.met ≡ []) × KnowsChain part known image
 
 -- The part is damaged: this block is the first of the walk that breaks a rule, and this is the
 -- number of the least rule that it breaks. A chain may not lead to an area of which Taken is true.
@@ -25,7 +25,7 @@ abbrev pub IsAnyShown : Geometry → Shape → (ℕ → Type 0) → Image → �
 IsAnyShown geometry (KeyedShape part) Taken image block rule = (area : ℕ)
     × (part.head ≡ head_block geometry area)
     × IsRuleShown part area (area_count geometry) image block rule
-IsAnyShown geometry (RelativeShape part) Taken image block rule =
+IsAnyShown geometry (NumberedShape part) Taken image block rule =
     IsChainShown part Taken image block rule
 
 -- where a part is refused as damaged, this is true of the block and the rule that are shown

@@ -6,19 +6,19 @@ ghost use Rattle.vr_space.specs.Part.{HasRoom, IsOn, IsPlaceOf, IsRecordOf, Know
 ghost use Rattle.vr_space.specs.Part.{given, part_no};
 ghost use Rattle.vr_part.specs.Any.{known_any, shape_any};
 
+use vr_chained::Chained;
 use vr_keyed::Keyed;
-use vr_relative::Relative;
 use vr_space::{Kept, Part, Room, Whence};
 use vr_types::{Blocks, DeviceFault, PartNo, Place, PlaceBuffer, Space, StageKind};
 
-/// A part of a volume, of any kind that one may hold (DFSMS Using Data Sets, key-sequenced and
-/// relative record data sets).
+/// A part of a volume, of any kind that one may hold (DFSMS Using Data Sets: key-sequenced,
+/// entry-sequenced and relative record data sets).
 #[derive(Drop)]
 pub enum AnyPart {
     /// The records of a key-sequenced cluster, or the catalog.
     Keyed(Keyed),
-    /// The slots of a relative one.
-    Relative(Relative),
+    /// Those of an entry-sequenced or relative one.
+    Chained(Chained),
 }
 
 impl AnyPart {
@@ -28,7 +28,7 @@ impl AnyPart {
     {
         match self {
             AnyPart::Keyed(part) => part.number(),
-            AnyPart::Relative(part) => part.number(),
+            AnyPart::Chained(part) => part.number(),
         }
     }
 
@@ -40,7 +40,7 @@ impl AnyPart {
     {
         match self {
             AnyPart::Keyed(part) => part.may_stand(place, bytes),
-            AnyPart::Relative(part) => part.may_stand(place, bytes),
+            AnyPart::Chained(part) => part.may_stand(place, bytes),
         }
     }
 
@@ -66,7 +66,7 @@ impl AnyPart {
     {
         match self {
             AnyPart::Keyed(part) => part.has_rooms(blocks, kept),
-            AnyPart::Relative(part) => Ok(part.has_rooms(kept)),
+            AnyPart::Chained(part) => part.has_rooms(blocks, kept),
         }
     }
 }
@@ -87,7 +87,7 @@ impl Part for AnyPart {
     ) -> Result<Option<&'a [u8]>, DeviceFault> {
         match part {
             AnyPart::Keyed(part) => Keyed::look(blocks, part, place),
-            AnyPart::Relative(part) => Relative::look(blocks, part, place),
+            AnyPart::Chained(part) => Chained::look(blocks, part, place),
         }
     }
 
@@ -99,7 +99,7 @@ impl Part for AnyPart {
     ) -> Result<bool, DeviceFault> {
         match self {
             AnyPart::Keyed(part) => part.next(blocks, from, into),
-            AnyPart::Relative(part) => part.next(blocks, from, into),
+            AnyPart::Chained(part) => part.next(blocks, from, into),
         }
     }
 
@@ -113,7 +113,7 @@ impl Part for AnyPart {
     ) -> Result<Room, DeviceFault> {
         match self {
             AnyPart::Keyed(part) => part.room(blocks, space, kept, place, length),
-            AnyPart::Relative(part) => part.room(blocks, space, kept, place, length),
+            AnyPart::Chained(part) => part.room(blocks, space, kept, place, length),
         }
     }
 
@@ -127,7 +127,7 @@ impl Part for AnyPart {
     ) -> Result<StageKind, DeviceFault> {
         match self {
             AnyPart::Keyed(part) => part.advance(blocks, space, kept, place, length),
-            AnyPart::Relative(part) => part.advance(blocks, space, kept, place, length),
+            AnyPart::Chained(part) => part.advance(blocks, space, kept, place, length),
         }
     }
 
@@ -140,21 +140,28 @@ impl Part for AnyPart {
     ) -> Result<(), DeviceFault> {
         match self {
             AnyPart::Keyed(part) => part.set(blocks, kept, place, bytes),
-            AnyPart::Relative(part) => part.set(blocks, kept, place, bytes),
+            AnyPart::Chained(part) => part.set(blocks, kept, place, bytes),
+        }
+    }
+
+    fn address(&self, length: u32) -> Option<u32> {
+        match self {
+            AnyPart::Keyed(part) => part.address(length),
+            AnyPart::Chained(part) => part.address(length),
         }
     }
 
     fn areas(&self) -> u32 {
         match self {
             AnyPart::Keyed(part) => part.areas(),
-            AnyPart::Relative(part) => part.areas(),
+            AnyPart::Chained(part) => part.areas(),
         }
     }
 
     fn put_blocks(&self) -> &[u32] {
         match self {
             AnyPart::Keyed(part) => part.put_blocks(),
-            AnyPart::Relative(part) => part.put_blocks(),
+            AnyPart::Chained(part) => part.put_blocks(),
         }
     }
 }

@@ -3,20 +3,19 @@ ghost use Rattle.std.specs.Prelude.{◌≡◌, ◌≢◌, ◌⊎◌, ◌<◌, �
 ghost use Rattle.std.specs.Prelude.{IfErr, IfOk, length, slice_index_or};
 ghost use Rattle.vr_types.specs.Blocks.{Keeps};
 ghost use Rattle.vr_types.specs.Geometry.{IsAllowed, area_count};
-ghost use Rattle.vr_types.specs.declared.unit.Kind.TheVariants as kinds;
 ghost use Rattle.vr_space.specs.Part.{OwnsChain, Shape, Stands, owned_count};
 ghost use Rattle.vr_attach.specs.Attached.{HasPartCause};
 ghost use Rattle.vr_attach.specs.Laid.{HasArea, shape_by_kind};
-ghost use Rattle.vr_relative.specs.Walked.{IsTakenIn};
+ghost use Rattle.vr_chained.specs.Walked.{IsTakenIn};
 ghost use Rattle.vr_part.specs.Any.{known_any, shape_any};
-ghost use Rattle.vr_part.specs.Attached.{IsAnyShown, ShowsDamage, attached_known};
+ghost use Rattle.vr_part.specs.Attached.{IsAnyShown, IsAttachedWith, ShowsDamage};
 
 use crate::any::AnyPart;
 use std::alloc::Global;
 use vr_attach::{PartNo2, chain_layout_of, layout_of};
 use vr_catalog::Definition;
+use vr_chained::Chained;
 use vr_keyed::Keyed;
-use vr_relative::Relative;
 use vr_types::{Blocks, Geometry, Kind, PartNo, Space};
 
 /// The part of a definition, as its blocks stand, from this area on: with no split under way, and
@@ -39,7 +38,6 @@ pub fn attach_part<B: Blocks>(
     requires area { area < area_count geometry.now }
     requires some { 0 < definition.now.maximum }
     requires room { definition.now.maximum + 7 ≤ geometry.now.size }
-    requires kind { definition.now.kind ≢ kinds.Entry }
     requires areas { length space.old ≡ area_count geometry.now }
     requires first { slice_index_or space.old area None ≡ Some part }
     requires alone { owned_count part space.old ≡ 1 }
@@ -48,7 +46,7 @@ pub fn attach_part<B: Blocks>(
     ensures split { IfOk result (λ it. (known_any it).split ≡ None) }
     ensures met { IfOk result (λ it. (known_any it).met ≡ []) }
     ensures known { IsTrue B.tells → IfOk result (λ it.
-        known_any it ≡ attached_known (shape_any it) (B.seen blocks.old).cur) }
+        IsAttachedWith (shape_any it) (known_any it) (B.seen blocks.old).cur) }
     ensures stands { IsTrue B.tells → IfOk result (λ it.
         Stands (shape_any it) (B.seen blocks.old).cur) }
     ensures first { IfOk result (λ it. HasArea geometry.now (shape_any it) (known_any it) area) }
@@ -71,17 +69,12 @@ pub fn attach_part<B: Blocks>(
     ensures keeps { Keeps B.tells (B.seen blocks.old) (B.seen blocks.new) }
     ensures cause { HasPartCause (B.faults blocks.old) (B.faults blocks.new) result }
 {
-    match definition.kind {
-        Kind::Keyed => {
-            let layout = layout_of(*geometry, part, area, definition);
-            let keyed = Keyed::attach_layout(alloc, blocks, layout, area, geometry.areas())?;
-            Ok(AnyPart::Keyed(keyed))
-        }
-        Kind::Relative => {
-            let layout = chain_layout_of(*geometry, part, area, definition);
-            let relative = Relative::attach(alloc, blocks, layout, space)?;
-            Ok(AnyPart::Relative(relative))
-        }
-        Kind::Entry => unreachable!("no entry-sequenced part is laid"),
+    if definition.kind == Kind::Keyed {
+        let layout = layout_of(*geometry, part, area, definition);
+        let keyed = Keyed::attach_layout(alloc, blocks, layout, area, geometry.areas())?;
+        return Ok(AnyPart::Keyed(keyed));
     }
+    let layout = chain_layout_of(*geometry, part, area, definition);
+    let chained = Chained::attach(alloc, blocks, layout, space)?;
+    Ok(AnyPart::Chained(chained))
 }

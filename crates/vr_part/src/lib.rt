@@ -1,5 +1,5 @@
-//! A part of a volume of any kind that one may hold: key-sequenced or relative. It stands on
-//! `vr_keyed` and `vr_relative`, whose parts it has, and on what they stand on.
+//! A part of a volume of any kind that one may hold: key-sequenced, entry-sequenced or relative. It
+//! stands on `vr_keyed` and `vr_chained`, whose parts it has, and on what they stand on.
 //!
 //! It promises what every `Part` promises, of each kind; and that a part is attached as its
 //! definition says, with areas that nobody else has, or the first damage of its blocks is shown.

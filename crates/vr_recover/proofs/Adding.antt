@@ -27,7 +27,7 @@ use Rattle.vr_part.specs.declared.any.AnyPart.{AnyPart}
 use Rattle.vr_part.specs.declared.any.AnyPart.TheVariants.{Keyed}
 use Rattle.vr_space.specs.Keyed.{Keyed as KeyedPart}
 use Rattle.vr_space.specs.Known.{Known}
-use Rattle.vr_space.specs.Part.{KeyedShape, OwnsChain, RelativeShape, Shape, owned_count, part_no}
+use Rattle.vr_space.specs.Part.{KeyedShape, OwnsChain, NumberedShape, Shape, owned_count, part_no}
 use Rattle.vr_recover.specs.Found.{AreAdded, HasFirst, IsFirstAlone, MayAdd}
 use Rattle.vr_recover.specs.Opening.{AreOwnersBy, HasNoSplit, IsHeldBy, OwnsAreas, shapes_laid}
 use Rattle.vr_recover.specs.Undone.{HasPart}
@@ -61,7 +61,7 @@ has-or-not geometry (KeyedShape part) known area =
       | inl same ↦ inl same.1
       | inr differ ↦ inr differ.1
     ]
-has-or-not geometry (RelativeShape part) known area = in-or-not known.areas area
+has-or-not geometry (NumberedShape part) known area = in-or-not known.areas area
 
 -- an area begins with a block of its own
 pub head-is : (geometry : Geometry) (one other : ℕ)
@@ -250,7 +250,7 @@ module _ (geometry : Geometry) (entry : CatEntry) (it : AnyPart) (old new : List
   owns-still : (shape : Shape) (known : Known) → part_no shape ≢ entry.part
       → OwnsChain shape known old → OwnsChain shape known new
   owns-still (KeyedShape part) known differs owns = tt
-  owns-still (RelativeShape part) known differs owns =
+  owns-still (NumberedShape part) known differs owns =
       count-stays (record { 0 = part.part }) differs ∙ owns
 
   module _ (entries : List CatEntry) (at : ℕ) (parts : List AnyPart) (may : MayAdd geometry entries)

@@ -30,13 +30,13 @@ use Rattle.vr_mount.specs.Areas.{AreOn, EndsBefore}
 use Rattle.vr_mount.proofs.CallerLemmas.{area-on}
 use Rattle.vr_mount.proofs.Headers.{one_shape}
 use Rattle.vr_part.specs.Attached.{IsAnyShown}
-use Rattle.vr_space.specs.Part.{HasRoom, IsPlaceOf, IsRecordOf, KeyedShape, RelativeShape, Shape}
+use Rattle.vr_space.specs.Part.{HasRoom, IsPlaceOf, IsRecordOf, KeyedShape, NumberedShape, Shape}
 use Rattle.vr_space.specs.Part.{Stands, StandsFor, part_no}
-use Rattle.vr_volume.specs.PutBack.{AreAlone, images_of, lengths_kept, put_back}
+use Rattle.vr_volume.specs.PutBack.{AreAlone, images_of, lengths_kept, put_back, standing}
 use Rattle.vr_volume.specs.Volume.{CanPutBack, IsInside, Recovers, catalog_back, shapes_by}
-use Rattle.vr_recover.specs.Found.{AreEntriesOf, AreOff, HasRoomOf, IsAreaNo}
-use Rattle.vr_recover.specs.Found.{IsMountShown, MayGoBack}
-use Rattle.vr_recover.specs.Found.{AtAreas, AtCatalog, AtPart, Misspelled}
+use Rattle.vr_volume.proofs.CallerLemmas.{catalog-whole, shape-stands}
+use Rattle.vr_recover.specs.Found.{AreEntriesOf, AreOff, AtAreas, AtCatalog, AtPart, HasRoomOf}
+use Rattle.vr_recover.specs.Found.{IsAreaNo, IsMountShown, MayGoBack, Misspelled}
 use Rattle.vr_recover.specs.Opening.{IsNoVolume, IsTaken, IsVolume, shapes_laid}
 use Rattle.vr_recover.specs.Undone.{FitsPart, IsCovered}
 use Rattle.vr_recover.proofs.Shapes.{entry-laid, laid-number, laid-there, shape-laid}
@@ -95,15 +95,17 @@ module _ (geometry : Geometry) (number : ℕ) (image : Image) (recovered : ℕ �
   images-same : images_of is.log.records ≡ images_of content.records
   images-same = ap (λ (l : LogContent). images_of l.records) log-same
 
-  catalog-same : catalog_back is.log is.contents ≡ is.contents 0
-  catalog-same = ap (λ (images : List BeforeImage). put_back 0 images (is.contents 0)) images-same
-      ∙ off-back (images_of content.records) (is.contents 0) off
+  catalog-same : catalog_back is.log is.contents ≡ standing (is.contents 0)
+  catalog-same = ap (λ (images : List BeforeImage). put_back 0 images (standing (is.contents 0)))
+      images-same
+      ∙ off-back (images_of content.records) (standing (is.contents 0)) off
 
   pub catalog-stands : StandsFor (catalog_shape geometry) image (is.contents 0)
   catalog-stands = is.stands.laid 0 (catalog_shape geometry) refl
 
   pub catalog-rules : IsCatalog geometry (is.contents 0)
-  catalog-rules = subst (IsCatalog geometry) catalog-same is.stands.catalog
+  catalog-rules = catalog-whole geometry (is.contents 0)
+      (subst (IsCatalog geometry) catalog-same is.stands.catalog)
 
   pub misspelled-none : (IsCatalog geometry (is.contents 0) → ⊥) → ⊥
   misspelled-none none = none catalog-rules
@@ -115,6 +117,7 @@ module _ (geometry : Geometry) (number : ℕ) (image : Image) (recovered : ℕ �
     pub shapes-same : (part : ℕ) → shapes_by geometry is.log is.contents part
         ≡ shape_in geometry entries part
     shapes-same part = ap (λ (c : Content). shape_by geometry c part) catalog-same
+        ∙ shape-stands geometry (is.contents 0) part
         ∙ ap (λ (es : List CatEntry). shape_in geometry es part) (sym entries-same)
 
     pub is-laid : (part : ℕ) (shape : Shape) → shape_in geometry entries part ≡ Some shape
@@ -126,7 +129,7 @@ module _ (geometry : Geometry) (number : ℕ) (image : Image) (recovered : ℕ �
       where
         ends : (shape : Shape) → IsInside geometry shape → EndsBefore geometry.blocks shape
         ends (KeyedShape part) inside = inside.0
-        ends (RelativeShape part) inside = subst
+        ends (NumberedShape part) inside = subst
             (λ (g : Geometry). head_block part.geometry part.first + part.geometry.area < g.blocks)
             inside.1
             (area-on part.geometry part.first inside.0.first)

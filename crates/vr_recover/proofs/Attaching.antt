@@ -23,10 +23,10 @@ use Rattle.vr_attach.specs.declared.part_no.PartNo2.TheVariants as whys
 use Rattle.vr_log.specs.LogNow.{IsOf}
 use Rattle.vr_mount.specs.Areas.{BeginsWith, IsBelow}
 use Rattle.vr_part.specs.Any.{known_any, shape_any}
-use Rattle.vr_part.specs.Attached.{IsAnyShown, ShowsDamage, attached_known}
+use Rattle.vr_part.specs.Attached.{IsAnyShown, IsAttachedWith, ShowsDamage}
 use Rattle.vr_part.specs.declared.any.AnyPart.{AnyPart}
 use Rattle.vr_space.specs.Keyed.{Keyed}
-use Rattle.vr_space.specs.Part.{KeyedShape, RelativeShape, Shape, Stands, StandsFor}
+use Rattle.vr_space.specs.Part.{KeyedShape, NumberedShape, Shape, Stands, StandsFor}
 use Rattle.vr_space.specs.Rosters.{Numbered}
 use Rattle.vr_recover.specs.Found.{AllStand, AreEntries, AreEntriesOf, AreKnown, AtAreas, AtPart}
 use Rattle.vr_recover.specs.Found.{HasLength, IsAreaNo, IsEntryNo, IsMountShown, LaysIn}
@@ -37,7 +37,7 @@ use Rattle.vr_recover.specs.declared.open_no.OpenNo.{OpenNo}
 use Rattle.vr_recover.specs.declared.open_no.OpenNo.TheVariants as nos
 use Rattle.vr_recover.specs.declared.open_no.OpenNo.TheVariants.{Damaged, Version, Read, Write, Memory}
 use Rattle.vr_recover.specs.declared.open_no.Unserved.{Unserved}
-use Rattle.vr_recover.specs.Unserved.{IsCatalogUnserved, IsEntryCause, IsPlain, IsServedKind}
+use Rattle.vr_recover.specs.Unserved.{IsCatalogUnserved, IsEntryCause, IsPlain}
 
 -- ---- answers
 
@@ -92,10 +92,10 @@ stand-more parts part image all here =
     here)
 
 pub known-more : (parts : List AnyPart) (part : AnyPart) (image : Image) → AreKnown parts image
-    → known_any part ≡ attached_known (shape_any part) image
+    → IsAttachedWith (shape_any part) (known_any part) image
     → AreKnown (parts ++ part ∷ []) image
 known-more parts part image all here = All-push
-    (λ (one : AnyPart). known_any one ≡ attached_known (shape_any one) image) parts part all here
+    (λ (one : AnyPart). IsAttachedWith (shape_any one) (known_any one) image) parts part all here
 
 -- an entry that lays no part adds none
 pub none-laid : (shapes : List Shape) (found : Option Shape) → found ≡ None
@@ -114,7 +114,7 @@ pub record IsLaidShape (geometry : Geometry) (entry : CatEntry) (area : ℕ) : T
   pub shape : Shape
   pub laid : shape_of geometry entry ≡ Some shape
   pub begins : BeginsWith (head_block geometry area) shape
-  pub same : (part : Numbered) → shape ≡ RelativeShape part → part.geometry ≡ geometry
+  pub same : (part : Numbered) → shape ≡ NumberedShape part → part.geometry ≡ geometry
 
 module _ (geometry : Geometry) (entry : CatEntry) (area : ℕ) (definition : Definition)
     (lays : LaysIn entry area definition) where
@@ -124,30 +124,35 @@ module _ (geometry : Geometry) (entry : CatEntry) (area : ℕ) (definition : Def
 
   -- its part is laid there
   pub entry-shape : IsLaidShape geometry entry area
-  entry-shape = by definition.kind lays.kind (lays.shape geometry)
+  entry-shape = by definition.kind (lays.shape geometry)
     where
-      by : (kind : Kind) → IsServedKind kind
+      no-keyed : (x : Keyed) (y : Numbered) → KeyedShape x ≡ NumberedShape y → ⊥
+      no-keyed x y equal = cc
+
+      numbered-is : (x y : Numbered) → NumberedShape x ≡ NumberedShape y → x ≡ y
+      numbered-is x y equal = cc
+
+      by-numbered : shape_of geometry entry
+          ≡ Some (NumberedShape (numbered_part geometry entry.part.0 area definition))
+          → IsLaidShape geometry entry area
+      by-numbered is = record {
+        shape = NumberedShape (numbered_part geometry entry.part.0 area definition);
+        laid = is;
+        begins = refl;
+        same = λ part equal. ap (λ (n : Numbered). n.geometry) (sym (numbered-is _ part equal));
+      }
+
+      by : (kind : Kind)
           → shape_of geometry entry ≡ shape_by_kind geometry entry.part.0 area definition kind
           → IsLaidShape geometry entry area
-      by kinds.Keyed served is = record {
+      by kinds.Keyed is = record {
         shape = keyed_shape geometry entry.part.0 area definition;
         laid = is;
         begins = refl;
         same = λ part equal. absurd (no-keyed _ part equal);
       }
-        where
-          no-keyed : (x : Keyed) (y : Numbered) → KeyedShape x ≡ RelativeShape y → ⊥
-          no-keyed x y equal = cc
-      by kinds.Entry served is = absurd served
-      by kinds.Relative served is = record {
-        shape = RelativeShape (numbered_part geometry entry.part.0 area definition);
-        laid = is;
-        begins = refl;
-        same = λ part equal. ap (λ (n : Numbered). n.geometry) (sym (numbered-is _ part equal));
-      }
-        where
-          numbered-is : (x y : Numbered) → RelativeShape x ≡ RelativeShape y → x ≡ y
-          numbered-is x y equal = cc
+      by kinds.Entry is = by-numbered is
+      by kinds.Relative is = by-numbered is
 
   -- a record of the longest length has room in an interval of its own, and has a byte
   pub longest-fits : IsPlain geometry entry → definition.maximum + 7 ≤ geometry.size

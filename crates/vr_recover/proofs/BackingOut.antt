@@ -28,9 +28,12 @@ use Rattle.vr_log.specs.declared.record.LogRecord.{LogRecord}
 use Rattle.vr_log.specs.declared.record.LogRecord.TheVariants.{Before, End}
 use Rattle.vr_volume.specs.Ended.{IsEndOf, ended}
 use Rattle.vr_volume.specs.Laid.{shape_by}
-use Rattle.vr_volume.specs.PutBack.{AreAlone, images_of, oldest}
+use Rattle.vr_volume.specs.PutBack.{AreAlone, images_of, oldest, standing, standing_of}
+use Rattle.vr_recover.specs.Recovered.{standing_all}
 use Rattle.vr_volume.specs.Safe.{AreCommitted, IsSafeBy, IsSafeImage}
 use Rattle.vr_volume.specs.Volume.{CanPutBack, Recovers}
+use Rattle.vr_undo.proofs.CallerLemmas.{stands-item}
+use Rattle.vr_volume.proofs.CallerLemmas.{shape-stands}
 use Rattle.vr_volume.proofs.Endings.{in-without as in-fewer}
 use Rattle.vr_volume.proofs.Images.{live-append}
 use Rattle.vr_volume.proofs.Living.{in-without, left-images, live-once}
@@ -49,14 +52,17 @@ safe-recovers geometry number owners log contents image safe =
 module _ (number : ℕ) (owners : Owners) (log : LogNow) (contents : ℕ → Content) (a : Seen)
     (undone : IsUndone number owners log contents a) where
   pub left-recovers : (image : Image) → Left a image
-      → Recovers log.geometry number image contents
-  left-recovers image left = safe-recovers log.geometry number owners log contents image
-      (each_image_is_safe log.geometry number owners log (alike contents) a undone.safe image left)
+      → Recovers log.geometry number image (standing_all contents)
+  left-recovers image left = safe-recovers log.geometry number owners log (standing_all contents)
+      image
+      (each_image_is_safe log.geometry number owners log (alike (standing_all contents)) a
+      undone.safe image left)
 
   module _ (most : log.forced ≤ length log.records) where
     -- by all records that there are
-    by-all : IsSafeBy log.geometry owners log.records contents a
-    by-all = subst (λ (records : List LogRecord). IsSafeBy log.geometry owners records contents a)
+    by-all : IsSafeBy log.geometry owners log.records (standing_all contents) a
+    by-all = subst (λ (records : List LogRecord). IsSafeBy log.geometry owners records
+        (standing_all contents) a)
         (take_all (length log.records) log.records (omega arith))
         (undone.safe.by_log (first_of log (length log.records)) (inl (record {
           count = length log.records;
@@ -70,7 +76,8 @@ module _ (number : ℕ) (owners : Owners) (log : LogNow) (contents : ℕ → Con
         → ((n : ℕ) (block : Block) → n < a.count → Outside (InLog log.geometry) n
         → b.may n block → a.may n block) → HasAll log.geometry contents b
     all-stays b fewer part shape laid place found may = undone.all part shape laid place found
-        (holds-less shape owners a b.may (by-all.parts part shape laid).sound
+        (holds-less shape owners a b.may
+        (by-all.parts part shape (shape-stands log.geometry (contents 0) part ∙ laid)).sound
         (λ n block is may. fewer n block is.0 (λ there.
         omega (arith, there.1, undone.safe.past n (part_no shape).0 is.1)) may)
         place found may)
@@ -79,16 +86,16 @@ module _ (number : ℕ) (owners : Owners) (log : LogNow) (contents : ℕ → Con
       abbrev keeps : BeforeImage → Bool
       keeps image = is_other unit image.unit
 
-      abbrev was : AreCommitted log.geometry log.records contents
+      abbrev was : AreCommitted log.geometry log.records (standing_all contents)
       was = by-all.committed
 
       abbrev Back : BeforeImage → Type 0
-      Back = CanPutBack (shape_by log.geometry (contents 0))
+      Back = CanPutBack (shape_by log.geometry (standing (contents 0)))
 
       images-left : images_of (ended log unit kind) ≡ filter keeps (images_of log.records)
       images-left = left-images log.records unit kind
 
-      committed-end : AreCommitted log.geometry (ended log unit kind) contents
+      committed-end : AreCommitted log.geometry (ended log unit kind) (standing_all contents)
       committed-end = record {
         each = was.each;
         catalog = was.catalog;
@@ -103,12 +110,15 @@ module _ (number : ℕ) (owners : Owners) (log : LogNow) (contents : ℕ → Con
       }
 
       -- What has to hold before the end is written.
-      pub end-undone : IsEndOf log.geometry log (alike contents) unit kind a
+      pub end-undone : IsEndOf log.geometry log (alike (standing_all contents)) unit kind a
       end-undone = record {
         forced = most;
         contents = committed-end;
         laid = λ part shape is. is;
-        items = λ part shape laid place found may none. undone.all part shape laid place found may;
+        items = λ part shape laid place found may none.
+            ap standing_of (undone.all part shape
+            (sym (shape-stands log.geometry (contents 0) part) ∙ laid) place found may)
+            ∙ sym (stands-item (contents part) place (undone.ascends part));
       }
 
 -- ---- who is live

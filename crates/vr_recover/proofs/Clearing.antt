@@ -1,21 +1,21 @@
 -- A volume that was found recovers to the same while what an earlier log left is cleared, and may
 -- then be undone.
-use Rattle.std.proofs.Common.{◌≡◌, ℕ, ◌<◌, ◌≤◌, List, [], Option, Some, None, length}
+use Rattle.std.proofs.Common.{◌≡◌, ℕ, ◌<◌, ◌≤◌, List, Option, Some, length}
 use Rattle.std.proofs.Common.{refl, sym, ap, subst, ◌∙◌, arith, map, get_or}
 use Rattle.std.specs.Prelude.{All}
 use Rattle.vr_types.specs.Blocks.{AllForced}
-use Rattle.vr_types.specs.Content.{Content}
-use Rattle.vr_types.specs.Geometry.{IsAllowed, area_count}
+use Rattle.vr_types.specs.Content.{Ascends, Content}
+use Rattle.vr_types.specs.Geometry.{IsAllowed}
 use Rattle.vr_types.specs.Image.{Image, block_at}
 use Rattle.vr_types.specs.Moments.{Guards}
 use Rattle.vr_types.specs.Regions.{IsImageOn, Outside, Touches}
 use Rattle.vr_types.specs.Seen.{Left, Seen}
 use Rattle.vr_types.specs.declared.geometry.Geometry.{Geometry}
 use Rattle.vr_types.specs.declared.unit.PartNo.{PartNo}
-use Rattle.vr_types.proofs.CallerLemmas.{during-weaken, guards-then}
+use Rattle.vr_types.proofs.CallerLemmas.{during-weaken, guards-then, guards-weaken}
 use Rattle.vr_catalog.specs.declared.entry.CatEntry.{CatEntry}
 use Rattle.vr_catalog.specs.Definition.{catalog_definition}
-use Rattle.vr_attach.specs.Laid.{IsInside, keyed_part, shape_in}
+use Rattle.vr_attach.specs.Laid.{keyed_part, shape_in}
 use Rattle.vr_attach.specs.Owning.{owner_of}
 use Rattle.vr_history.specs.State.{BeforeImage}
 use Rattle.vr_log.specs.Content.{Content as LogContent}
@@ -25,58 +25,49 @@ use Rattle.vr_log.specs.Standing.{InLog, LogStands}
 use Rattle.vr_log.proofs.CallerLemmas.{one_log}
 use Rattle.vr_mount.proofs.Laying.{IsAt, shape_at}
 use Rattle.vr_part.specs.Any.{known_any, shape_any}
-use Rattle.vr_part.specs.Attached.{attached_known}
+use Rattle.vr_part.specs.Attached.{IsAttachedWith}
 use Rattle.vr_part.specs.declared.any.AnyPart.{AnyPart}
 use Rattle.vr_space.specs.Known.{Known}
 use Rattle.vr_space.specs.Owners.{Owners}
-use Rattle.vr_space.specs.Part.{IsOn, KeyedShape, RelativeShape, Shape, StaysIn, part_no}
-use Rattle.vr_space.specs.Rosters.{IsOf as IsOfImage, IsOwnArea, chain_of, roster_block}
-use Rattle.vr_space.specs.Rosters.{used_of}
-use Rattle.vr_space.specs.Slots.{IsSlots}
-use Rattle.vr_space.proofs.CallerLemmas.{area-below, areas-same, roster-inside, used-same}
-use Rattle.vr_volume.specs.PutBack.{images_of, lengths_kept}
+use Rattle.vr_space.specs.Part.{IsOn, IsSound, KeyedShape, NumberedShape, Shape, Stands, StaysIn}
+use Rattle.vr_space.specs.Part.{item_of, part_no}
+use Rattle.vr_space.proofs.CallerLemmas.{StaysPart, content_item, knows-stays, rest-sound}
+use Rattle.vr_volume.specs.Laid.{shape_by}
+use Rattle.vr_volume.specs.PutBack.{images_of, lengths_kept, oldest}
+use Rattle.vr_recover.specs.Recovered.{AreBackOf, IsRecovered, item_back, standing_all}
 use Rattle.vr_volume.specs.Volume.{Recovers, shapes_by}
-use Rattle.vr_mount.proofs.CallerLemmas.{AreSame, OwnParts, area-on, first_at, keyed-same, stays-same}
-use Rattle.vr_mount.proofs.CallerLemmas.{two-areas}
+use Rattle.vr_volume.proofs.CallerLemmas.{shape-stands}
+use Rattle.vr_volume.proofs.Calls.{stays-part}
+use Rattle.vr_mount.proofs.CallerLemmas.{AreSame, OwnParts, area-on, first_at, keyed-same}
+use Rattle.vr_mount.proofs.CallerLemmas.{stands-same, stays-same, two-areas}
 use Rattle.vr_mount.proofs.Telling.{mapped_all}
 use Rattle.vr_recover.specs.Found.{AreEntriesOf, AreKnown, IsFound, IsPartReady, IsPlanned}
 use Rattle.vr_recover.specs.Found.{IsUndoable, MayAdd}
 use Rattle.vr_recover.specs.Opening.{HasNoSplit}
-use Rattle.vr_recover.specs.Undone.{HaveOwnNumbers, IsCovered, IsLaidPastLog, IsReady}
-use Rattle.vr_recover.specs.Undone.{IsSettled}
+use Rattle.vr_recover.specs.Undone.{HaveOwnNumbers, IsCovered, IsLaidPastLog, IsReady, IsSettled}
 use Rattle.vr_recover.proofs.Agreeing.{log-same, shapes-same}
 use Rattle.vr_recover.proofs.Keeping.{all-more}
 use Rattle.vr_recover.proofs.Numbering.{inside-of, on-of}
-use Rattle.vr_recover.proofs.Settled.{part-opened, settled-undone}
+use Rattle.vr_recover.proofs.Settled.{attached-knows, forced-rests, part-opened, settled-undone}
 use Rattle.vr_recover.proofs.Recovery.{AreOffLog, found-own, found-recovers, moved-recovers}
-use Rattle.vr_recover.proofs.Recovery.{recovered}
+use Rattle.vr_recover.proofs.Recovery.{recovered, stand-of}
 use Rattle.vr_recover.proofs.Shapes.{each-laid, shapes-differ}
+use Rattle.vr_recover.proofs.Wholes.{recovers-same, whole, whole-ascend, whole-records}
+use Rattle.vr_recover.proofs.Wholes.{whole-recovered, whole-recovers}
 
 -- ---- what a part knows
 
--- A part whose blocks are as they were has the chain that it had.
-known-same : (geometry : Geometry) (shape : Shape) (owners : Owners) (old new : Image)
-    → IsInside geometry shape → StaysIn shape owners old → AreSame geometry shape owners old new
-    → attached_known shape new ≡ attached_known shape old
-known-same geometry (KeyedShape part) owners old new inside stays same = refl
-known-same geometry (RelativeShape part) owners old new inside stays same =
-    ap (λ (areas : List ℕ). known areas (used_of part new))
-    (areas-same part (IsOwnArea part owners) (IsSlots part) (IsOfImage old) old new
-    (λ area own. refl) rosters (area_count part.geometry) part.first stays)
-    ∙ ap (λ (used : ℕ). known (chain_of part old) used)
-    (used-same part (IsOwnArea part owners) (IsSlots part) (IsOfImage old) old new
-    (λ area own. refl) rosters (area_count part.geometry) part.first stays)
-  where
-    known : List ℕ → ℕ → Known
-    known areas used = record { split = None; met = []; areas = areas; used = used }
-
-    rosters : (area : ℕ) → IsOwnArea part owners area
-        → block_at new (roster_block part area) ≡ block_at old (roster_block part area)
-    rosters area own =
-        let n = roster_block part area in
-        same n (subst (λ (g : Geometry). n < g.blocks) inside.1
-        (area-below part area n own.there (roster-inside part area)))
-        (own.owned n (roster-inside part area))
+-- A part whose blocks are as they were knows as it was attached what they have.
+attached-stays : (shape : Shape) (owners : Owners) (known : Known) (a b : Seen)
+    → StaysPart shape owners a b → IsSound shape owners a → Left a a.cur
+    → IsAttachedWith shape known a.cur → IsAttachedWith shape known b.cur
+attached-stays (KeyedShape part) owners known a b stays sound left attached = attached
+attached-stays (NumberedShape part) owners known a b stays sound left attached = (
+  attached.0,
+  attached.1,
+  (knows-stays a b (NumberedShape part) owners known stays sound left
+      (attached-knows (NumberedShape part) known a attached)).blocks,
+)
 
 -- ---- while it is cleared
 
@@ -119,11 +110,26 @@ module _ (geometry : Geometry) (content : LogContent) (a b : Seen) (allowed : Is
           (same-blocks shape);
     }
 
-    pub known-still : (shape : Shape) → shape_in geometry entries (part_no shape).0 ≡ Some shape
-        → attached_known shape b.cur ≡ attached_known shape a.cur
-    known-still shape laid = known-same geometry shape owners a.cur b.cur
-        (inside-of geometry entries allowed may (part_no shape).0 shape laid)
-        (own.within (part_no shape).0 shape laid) (same-blocks shape)
+    pub known-still : Left a a.cur → (shape : Shape) (known : Known)
+        → shape_in geometry entries (part_no shape).0 ≡ Some shape → Stands shape a.cur
+        → IsAttachedWith shape known a.cur → IsAttachedWith shape known b.cur
+    known-still left shape known laid stands = attached-stays shape owners known a b
+        (stays-part geometry shape owners (λ image. Spells geometry image content) a b own.past
+        call)
+        (rest-sound shape owners a (forced-rests shape owners a
+        (on-of geometry entries allowed may a of (part_no shape).0 shape laid) forced stands.0
+        stands.1 (own.within (part_no shape).0 shape laid)))
+        left
+
+    -- and have the items that they had
+    pub item-still : (part : ℕ) (shape : Shape) → shape_in geometry entries part ≡ Some shape
+        → Stands shape a.cur → (place : List ℕ)
+        → item_of shape b.cur place ≡ item_of shape a.cur place
+    item-still part shape laid stands place = sym (content_item shape b.cur stands.0
+        (stands-same geometry shape owners a.cur b.cur
+        (inside-of geometry entries allowed may part shape laid) (own.within part shape laid)
+        (same-blocks shape) stands.0 stands.1) place)
+        ∙ content_item shape a.cur stands.0 stands.1 place
 
   module _ (number : ℕ) (recovered : ℕ → Content)
       (is : Recovers geometry number a.cur recovered) where
@@ -205,6 +211,7 @@ module _ (geometry : Geometry) (content : LogContent) (entries : List CatEntry)
         forced = refl;
         fits = planned.back.fits;
         images_are = refl;
+        alone = planned.back.alone;
       }))
 
   module _ (now : Seen) (of : IsOf geometry now)
@@ -237,32 +244,47 @@ module _ (geometry : Geometry) (content : LogContent) (entries : List CatEntry)
     covered-by = subst (λ (l : LogContent). All (IsCovered (map shape_any parts))
         (images_of l.records)) (sym logs) planned.back.covered
 
-    pub settled-now : LogStands (made geometry content) now
-        → IsSettled number owners (made geometry content) recovered (map shape_any parts) now
-    settled-now stands = subst (λ (l : LogContent). IsSettled number owners (made geometry l)
-        recovered (map shape_any parts) now) logs
-        (settled-undone geometry number now recovered is of forced owners own.past stays-by allowed
-        (subst (λ (l : LogContent). LogStands (made geometry l) now) (sym logs) stands)
-        (map shape_any parts) laid-by covered-by)
-
     ready-at : (part : AnyPart)
-        → known_any part ≡ attached_known (shape_any part) now.cur
+        → IsAttachedWith (shape_any part) (known_any part) now.cur
         → shapes_by geometry is.log is.contents (part_no (shape_any part)).0
         ≡ Some (shape_any part) → IsPartReady owners images now part
     ready-at part known laid =
         let shape = shape_any part in
         let opened = part-opened geometry number now recovered is of forced owners own.past
         stays-by shape laid in
-        subst (λ (k : Known). IsReady shape owners k (lengths_kept images (part_no shape).0) now)
-        (sym known)
-        (subst (λ (l : LogContent). IsReady shape owners (attached_known shape now.cur)
-        (lengths_kept (images_of l.records) (part_no shape).0) now) logs opened.ready)
+        subst (λ (l : LogContent). IsReady shape owners (known_any part)
+        (lengths_kept (images_of l.records) (part_no shape).0) now) logs
+        (opened.ready (known_any part) known)
 
     pub ready-now : AreKnown parts now.cur → All (IsPartReady owners images now) parts
     ready-now known k d below = ready-at (get_or parts k d) (known k d below)
         (mapped_all shape_any
         (λ (shape : Shape). shapes_by geometry is.log is.contents (part_no shape).0 ≡ Some shape)
         parts laid-by k d below)
+
+  module _ (now : Seen) (of : IsOf geometry now)
+      (forced : AllForced now.count now.cur now.may) (long : 8 ≤ length (block_at now.cur 1))
+      (spelled : Spells geometry now.cur content)
+      (are : AreEntriesOf geometry now.cur entries) (number : ℕ) (contents : ℕ → Content)
+      (is : Recovers geometry number now.cur (standing_all contents)) (owners : Owners)
+      (own : OwnParts geometry entries owners now.cur) where
+    log-is : is.log ≡ content
+    log-is = logs now of forced long spelled are number (standing_all contents) is owners own
+
+    pub settled-now : AreBackOf geometry content.records contents now.cur
+        → ((part : ℕ) → Ascends (contents part)) → LogStands (made geometry content) now
+        → IsSettled number owners (made geometry content) contents (map shape_any parts) now
+    settled-now back ascends stands = subst (λ (l : LogContent). IsSettled number owners
+        (made geometry l) contents (map shape_any parts) now) log-is
+        (settled-undone geometry number now contents is of forced owners own.past
+        (stays-by now of forced long spelled are number (standing_all contents) is owners own)
+        allowed
+        (subst (λ (l : LogContent). LogStands (made geometry l) now) (sym log-is) stands)
+        (subst (λ (l : LogContent). AreBackOf geometry l.records contents now.cur) (sym log-is)
+        back)
+        ascends (map shape_any parts)
+        (laid-by now of forced long spelled are number (standing_all contents) is owners own)
+        (covered-by now of forced long spelled are number (standing_all contents) is owners own))
 
 -- ---- the whole
 
@@ -274,6 +296,7 @@ pub record IsCleared (geometry : Geometry) (content : LogContent) (entries : Lis
   pub of_then : IsOf geometry b
   pub forced : AllForced a.count a.cur a.may
   pub forced_then : AllForced b.count b.cur b.may
+  pub left : Left a a.cur
   pub long : 8 ≤ length (block_at a.cur 1)
   pub long_then : 8 ≤ length (block_at b.cur 1)
   pub number : ℕ
@@ -297,17 +320,23 @@ module _ (geometry : Geometry) (content : LogContent) (entries : List CatEntry)
       (found-own geometry content entries (map shape_any parts) planned cleared.number areas a.cur
       cleared.found)
 
+  stood : (part : ℕ) (shape : Shape) → shape_in geometry entries part ≡ Some shape
+      → Stands shape a.cur
+  stood = stand-of geometry content entries (map shape_any parts) planned cleared.number areas
+      a.cur cleared.found
+
   then-known : AreKnown parts b.cur
   then-known k d below =
       let part = get_or parts k d in
-      cleared.known k d below
-      ∙ sym (known-still geometry content a b cleared.allowed cleared.of cleared.forced
+      let laid : shape_in geometry entries (part_no (shape_any part)).0 ≡ Some (shape_any part) =
+      mapped_all shape_any
+      (λ (shape : Shape). shape_in geometry entries (part_no shape).0 ≡ Some shape) parts
+      (laid-all geometry content entries parts planned cleared.allowed) k d below in
+      known-still geometry content a b cleared.allowed cleared.of cleared.forced
       cleared.long cleared.found.spelled cleared.call entries planned.may owners
       (found-own geometry content entries (map shape_any parts) planned cleared.number areas a.cur
-      cleared.found) (shape_any part)
-      (mapped_all shape_any
-      (λ (shape : Shape). shape_in geometry entries (part_no shape).0 ≡ Some shape) parts
-      (laid-all geometry content entries parts planned cleared.allowed) k d below))
+      cleared.found) cleared.left (shape_any part) (known_any part) laid
+      (stood (part_no (shape_any part)).0 (shape_any part) laid) (cleared.known k d below)
 
   then-recovers : (number : ℕ) (contents : ℕ → Content)
       → Recovers geometry number a.cur contents → Recovers geometry number b.cur contents
@@ -325,14 +354,42 @@ module _ (geometry : Geometry) (content : LogContent) (entries : List CatEntry)
   then-entries = entries-still geometry content a b cleared.allowed cleared.of cleared.forced
       cleared.long cleared.found.spelled cleared.call entries cleared.found.entries_are
 
-  pub then-settled : (number : ℕ) (contents : ℕ → Content) (log : LogNow)
-      → log ≡ made geometry content → Recovers geometry number a.cur contents
-      → IsSettled number owners log contents (map shape_any parts) b
-  then-settled number contents log same is = subst
-      (λ (l : LogNow). IsSettled number owners l contents (map shape_any parts) b) (sym same)
-      (settled-now geometry content entries parts planned cleared.allowed b
-      cleared.of_then cleared.forced_then cleared.long_then cleared.spelled_then then-entries number
-      contents (then-recovers number contents is) owners then-own cleared.stands)
+  module _ (number : ℕ) (contents : ℕ → Content)
+      (is : Recovers geometry number a.cur (standing_all contents)) where
+    -- a part that the contents lay is one of those
+    laid-in : (part : ℕ) (shape : Shape) → shape_by geometry (contents 0) part ≡ Some shape
+        → shape_in geometry entries part ≡ Some shape
+    laid-in part shape laid =
+        sym (shapes-same geometry number a.cur (standing_all contents) is content cleared.long
+        cleared.found.spelled planned.off entries cleared.found.entries_are part)
+        ∙ sym (ap (λ (c : Content). shape_by geometry c part) (is.back 0))
+        ∙ shape-stands geometry (contents 0) part ∙ laid
+
+    back-then : IsRecovered geometry number contents a.cur
+        → AreBackOf geometry content.records contents b.cur
+    back-then whole part shape laid place =
+        let log : whole.log ≡ content =
+        one_log geometry a.cur whole.log content cleared.long whole.spelled cleared.found.spelled
+        in
+        let there = laid-in part shape laid in
+        whole.items part shape laid place
+        ∙ ap (λ (l : LogContent). item_back shape (oldest (images_of l.records) part place)
+        (item_of shape a.cur place)) log
+        ∙ ap (item_back shape (oldest (images_of content.records) part place))
+        (sym (item-still geometry content a b cleared.allowed cleared.of cleared.forced
+        cleared.long cleared.found.spelled cleared.call entries planned.may owners
+        (found-own geometry content entries (map shape_any parts) planned cleared.number areas
+        a.cur cleared.found) part shape there (stood part shape there) place))
+
+    pub then-settled : (log : LogNow) → log ≡ made geometry content
+        → IsRecovered geometry number contents a.cur → ((part : ℕ) → Ascends (contents part))
+        → IsSettled number owners log contents (map shape_any parts) b
+    then-settled log same whole ascends = subst
+        (λ (l : LogNow). IsSettled number owners l contents (map shape_any parts) b) (sym same)
+        (settled-now geometry content entries parts planned cleared.allowed b cleared.of_then
+        cleared.forced_then cleared.long_then cleared.spelled_then then-entries number contents
+        (then-recovers number (standing_all contents) is) owners then-own (back-then whole) ascends
+        cleared.stands)
 
   pub then-ready : (kept : List BeforeImage) → kept ≡ images_of content.records
       → All (IsPartReady owners kept b) parts
@@ -346,13 +403,23 @@ module _ (geometry : Geometry) (content : LogContent) (entries : List CatEntry)
       (found-recovers geometry content entries (map shape_any parts) planned cleared.number areas
       a.cur cleared.found cleared.allowed)) owners then-own then-known)
 
-  pub then-moments : (number : ℕ) (contents : ℕ → Content) (log : LogNow) (d : Seen)
-      → log ≡ made geometry content → Recovers geometry number a.cur contents
-      → (IsSettled number owners log contents (map shape_any parts) b
-      → Guards b d (λ image. Recovers log.geometry number image contents))
-      → Guards a d (λ image. Recovers geometry number image contents)
-  then-moments number contents log d same is further =
-      guards-then a b d (λ image. Recovers geometry number image contents)
-      (then-guards number contents is)
-      (subst (λ (g : Geometry). Guards b d (λ image. Recovers g number image contents))
-      (ap (λ (l : LogNow). l.geometry) same) (further (then-settled number contents log same is)))
+  pub then-moments : (number : ℕ) (recovered : ℕ → Content) (log : LogNow) (d : Seen)
+      → log ≡ made geometry content → Recovers geometry number a.cur recovered
+      → ((contents : ℕ → Content) → IsSettled number owners log contents (map shape_any parts) b
+      → Guards b d (λ image. Recovers log.geometry number image (standing_all contents)))
+      → Guards a d (λ image. Recovers geometry number image recovered)
+  then-moments number recovered log d same is further =
+      let contents = whole geometry number a.cur recovered is in
+      guards-then a b d (λ image. Recovers geometry number image recovered)
+      (then-guards number recovered is)
+      (guards-weaken b d (λ image. Recovers geometry number image (standing_all contents))
+      (λ image. Recovers geometry number image recovered)
+      (subst
+      (λ (g : Geometry). Guards b d (λ image. Recovers g number image (standing_all contents)))
+      (ap (λ (l : LogNow). l.geometry) same)
+      (further contents (then-settled number contents
+      (whole-recovers geometry number a.cur recovered is) log same
+      (whole-recovered geometry number a.cur recovered is)
+      (whole-ascend geometry number a.cur recovered is))))
+      (λ image has. recovers-same geometry number image (standing_all contents) recovered
+      (λ part. sym (whole-records geometry number a.cur recovered is part)) has))

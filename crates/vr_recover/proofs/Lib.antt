@@ -1,4 +1,5 @@
 pub mod CallerLemmas
+pub mod Wholes
 pub mod Settled
 pub mod PuttingBack
 pub mod BackingOut

@@ -1,5 +1,5 @@
--- Relative parts that a catalog lays may be so: their areas are there, and a record has room in an
--- interval.
+-- Entry-sequenced and relative parts that a catalog lays may be so: their areas are there, and a
+-- record has room in an interval.
 use Rattle.std.proofs.Common.{◌≡◌, ⊎_elim, inl, inr, ℕ, ◌+◌, ◌<◌, ◌≤◌, Bool, true, false, List, []}
 use Rattle.std.proofs.Common.{◌∷◌, Option, Some, None, refl, sym, ap, subst, ◌∙◌, arith, get_or, ◌==◌}
 use Rattle.std.proofs.Common.{IsTrue, ◌&&◌}
@@ -28,35 +28,37 @@ use Rattle.vr_mount.specs.Records.{bytes_of}
 use Rattle.vr_mount.proofs.Blocks.{area_there}
 use Rattle.vr_mount.proofs.CallerLemmas.{IsNumberedIf, laid-inside, on_blocks}
 use Rattle.vr_mount.proofs.Telling.{found_place}
-use Rattle.vr_space.specs.Part.{IsOn, RelativeShape, Shape}
+use Rattle.vr_space.specs.Part.{IsOn, NumberedShape, Shape}
 use Rattle.vr_space.specs.Rosters.{Numbered}
 use Rattle.vr_types.specs.Seen.{Seen}
 use Rattle.vr_recover.specs.Found.{AreEntriesBy, HasLength, MayAdd}
 use Rattle.vr_recover.specs.Unserved.{IsPlain}
 use Rattle.vr_recover.proofs.Shapes.{laid-cases}
 
--- What the definition of a relative part says of it.
+-- What the definition of such a part says of it.
 record IsDefined (geometry : Geometry) (part : Numbered) : Type 0 where
   geometry_is : part.geometry ≡ geometry
   some : 0 < part.most
   fits : part.most + 7 ≤ geometry.size
 
+numbered-is : (x y : Numbered) → Some (NumberedShape x) ≡ Some (NumberedShape y) → x ≡ y
+numbered-is x y same = cc
+
 by-kind : (geometry : Geometry) (number area : ℕ) (definition : Definition) (kind : Kind)
     (part : Numbered) → 0 < definition.maximum → definition.maximum + 7 ≤ geometry.size
-    → shape_by_kind geometry number area definition kind ≡ Some (RelativeShape part)
+    → shape_by_kind geometry number area definition kind ≡ Some (NumberedShape part)
     → IsDefined geometry part
 by-kind geometry number area definition kinds.Keyed part some fits is = absurd cc
-by-kind geometry number area definition kinds.Entry part some fits is = absurd cc
+by-kind geometry number area definition kinds.Entry part some fits is =
+    subst (IsDefined geometry) (numbered-is _ part is)
+    (record { geometry_is = refl; some = some; fits = fits })
 by-kind geometry number area definition kinds.Relative part some fits is =
     subst (IsDefined geometry) (numbered-is _ part is)
     (record { geometry_is = refl; some = some; fits = fits })
-  where
-    numbered-is : (x y : Numbered) → Some (RelativeShape x) ≡ Some (RelativeShape y) → x ≡ y
-    numbered-is x y same = cc
 
 by-area : (geometry : Geometry) (number : ℕ) (area : Option AreaNo) (definition : Definition)
     (part : Numbered) → 0 < definition.maximum → definition.maximum + 7 ≤ geometry.size
-    → shape_from geometry number area definition ≡ Some (RelativeShape part)
+    → shape_from geometry number area definition ≡ Some (NumberedShape part)
     → IsDefined geometry part
 by-area geometry number None definition part some fits is = absurd cc
 by-area geometry number (Some area) definition part some fits is =
@@ -66,7 +68,7 @@ by-definition : (geometry : Geometry) (number : ℕ) (area : Option AreaNo)
     (definition : Option Definition) (part : Numbered)
     → IfSome definition (λ (d : Definition). 0 < d.maximum)
     → IfSome definition (λ (d : Definition). d.maximum + 7 ≤ geometry.size)
-    → option_and_then (shape_from geometry number area) definition ≡ Some (RelativeShape part)
+    → option_and_then (shape_from geometry number area) definition ≡ Some (NumberedShape part)
     → IsDefined geometry part
 by-definition geometry number area None part some fits is = absurd cc
 by-definition geometry number area (Some definition) part some fits is =
@@ -76,7 +78,7 @@ module _ (geometry : Geometry) (entries : List CatEntry) (allowed : IsAllowed ge
     (may : MayAdd geometry entries) where
   entry-defined : (part : ℕ) (entry : CatEntry) (numbered : Numbered)
       → entry_with_part entries part ≡ Some entry
-      → shape_of geometry entry ≡ Some (RelativeShape numbered) → IsDefined geometry numbered
+      → shape_of geometry entry ≡ Some (NumberedShape numbered) → IsDefined geometry numbered
   entry-defined part entry numbered found laid =
       let place = found_place (λ (one : CatEntry). one.part.0 == part) entries entry found in
       by-definition geometry entry.part.0 entry.first_area
@@ -85,25 +87,25 @@ module _ (geometry : Geometry) (entries : List CatEntry) (allowed : IsAllowed ge
       (subst (IsPlain geometry) place.2 (may.plain place.0 entry place.1)) laid
 
   defined : (part : ℕ) (numbered : Numbered)
-      → shape_in geometry entries part ≡ Some (RelativeShape numbered)
+      → shape_in geometry entries part ≡ Some (NumberedShape numbered)
       → IsDefined geometry numbered
   defined part numbered laid = ⊎_elim
       (λ zero. absurd (no-keyed zero.1))
       (λ found. entry-defined part found.0 numbered found.1 found.2)
-      (laid-cases geometry entries may.distinct part (RelativeShape numbered) laid)
+      (laid-cases geometry entries may.distinct part (NumberedShape numbered) laid)
     where
-      no-keyed : catalog_shape geometry ≡ RelativeShape numbered → ⊥
+      no-keyed : catalog_shape geometry ≡ NumberedShape numbered → ⊥
       no-keyed same = cc
 
-  -- a relative part that is laid may be so
+  -- an entry-sequenced or relative part that is laid may be so
   pub numbered-laid : (part : ℕ) (shape : Shape) → shape_in geometry entries part ≡ Some shape
       → IsNumberedIf shape
   numbered-laid part shape laid numbered is =
-      let is-laid : shape_in geometry entries part ≡ Some (RelativeShape numbered) =
+      let is-laid : shape_in geometry entries part ≡ Some (NumberedShape numbered) =
       laid ∙ ap Some is in
       let of = defined part numbered is-laid in
-      let ends : EndsBefore geometry.blocks (RelativeShape numbered) =
-      may.on part (RelativeShape numbered) is-laid in
+      let ends : EndsBefore geometry.blocks (NumberedShape numbered) =
+      may.on part (NumberedShape numbered) is-laid in
       record {
         allowed = subst IsAllowed (sym of.geometry_is) allowed;
         first = subst (λ (g : Geometry). numbered.first < area_count g) (sym of.geometry_is)

@@ -6,8 +6,9 @@ use Rattle.std.specs.Prelude.{All, Contains, slice_get}
 use Rattle.std.specs.Option.{option_map}
 use Rattle.std.proofs.lemmas.Option.{get_or_from_slice_get, slice_get-get_or, slice_get-map}
 use Rattle.std.proofs.lemmas.Option.{slice_get_within}
+use Rattle.std.proofs.lemmas.List.Elements.{All-nil}
 use Rattle.vr_types.specs.Blocks.{AllForced, Keeps}
-use Rattle.vr_types.specs.Content.{Content}
+use Rattle.vr_types.specs.Content.{Ascends, Content}
 use Rattle.vr_types.specs.Geometry.{IsAllowed, area_count}
 use Rattle.vr_types.specs.Image.{Image, block_at}
 use Rattle.vr_types.specs.Moments.{Guards}
@@ -32,11 +33,14 @@ use Rattle.vr_mount.proofs.CallerLemmas.{image-same}
 use Rattle.vr_part.specs.Any.{known_any, shape_any}
 use Rattle.vr_part.specs.declared.any.AnyPart.{AnyPart}
 use Rattle.vr_space.specs.Known.{Known}
-use Rattle.vr_space.specs.Part.{IsOn, KeyedShape, Knows, OwnsChain, RelativeShape, Shape, StandsFor}
+use Rattle.vr_space.specs.Part.{IsOn, KeyedShape, Knows, OwnsChain, NumberedShape, Shape, StandsFor}
 use Rattle.vr_space.specs.Part.{part_no}
 use Rattle.vr_space.proofs.CallerLemmas.{fewer-room, rest-sound}
+use Rattle.vr_undo.proofs.CallerLemmas.{stands-entries}
 use Rattle.vr_volume.specs.PutBack.{images_of, lengths_kept}
+use Rattle.vr_recover.specs.Recovered.{IsRecovered, standing_all}
 use Rattle.vr_volume.specs.Volume.{Recovers}
+use Rattle.vr_volume.proofs.CallerLemmas.{catalog-whole, keep-less}
 use Rattle.vr_recover.specs.Found.{IsFound, IsPartReady, IsPlanned, areas_kept}
 use Rattle.vr_recover.specs.Opening.{AreOwnersBy, HasNoSplit, InArea, InCatalog, InImages, InLog}
 use Rattle.vr_recover.specs.Opening.{InPart, IsDamaged, IsHandedOut, OwnsAreas, shapes_laid}
@@ -58,6 +62,8 @@ use Rattle.vr_recover.proofs.Owning.{owners-reached}
 use Rattle.vr_recover.proofs.Recovery.{found-entries, found-recovers, recovered}
 use Rattle.vr_recover.proofs.Settled.{committed-by}
 use Rattle.vr_recover.proofs.Shapes.{are-laid}
+use Rattle.vr_recover.proofs.Wholes.{whole, whole-ascend, whole-lays, whole-none, whole-records}
+use Rattle.vr_recover.proofs.Wholes.{whole-recovered, whole-recovers}
 
 -- ---- calls that put nothing
 
@@ -229,7 +235,8 @@ module _ (a b : Seen) (count : b.count ≡ a.count) (size : b.size ≡ a.size) (
   opened-before number geometry entries parts log owners now is = (
     is.0,
     record {
-      volume = volume-before number geometry is.0 is.1.volume;
+      volume = volume-before number geometry (standing_all is.0) is.1.volume;
+      whole = subst (λ (i : Image). IsRecovered geometry number is.0 i) cur is.1.whole;
       undone = is.1.undone;
       stands = is.1.stands;
       ready = is.1.ready;
@@ -368,7 +375,7 @@ owned-still geometry before parts owners shapes areas own = record {
       where
         by : (s : Shape) → HasArea geometry s there area → HasArea geometry s here area
         by (KeyedShape part) has = has
-        by (RelativeShape part) has =
+        by (NumberedShape part) has =
             subst (λ (list : List ℕ). Contains list area) (sym kept) has
 
     owns-was : (one other : Shape) (here there : Known) → one ≡ other
@@ -378,7 +385,7 @@ owned-still geometry before parts owners shapes areas own = record {
       where
         by : (s : Shape) → OwnsChain s here owners → OwnsChain s there owners
         by (KeyedShape part) owns = tt
-        by (RelativeShape part) owns = owns ∙ ap (λ (list : List ℕ). length list) kept
+        by (NumberedShape part) owns = owns ∙ ap (λ (list : List ℕ). length list) kept
 
     owned-at : (k : ℕ) (one : AnyPart) → slice_get before k ≡ Some one
         → OwnsAreas geometry owners one
@@ -429,6 +436,8 @@ module _ (geometry : Geometry) (content : LogContent) (entries : List CatEntry)
     rests = ready.rests;
     room = fewer-room (shape_any part) (owner_of geometry owners) []
         (lengths_kept kept (part_no (shape_any part)).0) now tt
+        (keep-less (shape_any part) [] (lengths_kept kept (part_no (shape_any part)).0)
+        (All-nil (Contains (lengths_kept kept (part_no (shape_any part)).0))))
         (rest-sound (shape_any part) (owner_of geometry owners) now ready.rests) ready.room;
     knows = ready.knows;
     no_split = ready.no_split;
@@ -437,22 +446,30 @@ module _ (geometry : Geometry) (content : LogContent) (entries : List CatEntry)
   pub opened-by : (number : ℕ) (log : LogNow) (kept : List BeforeImage) (a now : Seen)
       → IsOf geometry a → AllForced a.count a.cur a.may
       → IsFound geometry number content entries (map shape_any before) owners a.cur
-      → ((contents : ℕ → Content) → Recovers geometry number a.cur contents
+      → ((contents : ℕ → Content) → Recovers geometry number a.cur (standing_all contents)
+      → IsRecovered geometry number contents a.cur → ((part : ℕ) → Ascends (contents part))
       → IsUndone number (owner_of geometry owners) log contents now)
       → LogStands log now → All (IsPartReady (owner_of geometry owners) kept now) parts
       → IsOpened number geometry entries parts log owners a now
   opened-by number log kept a now of forced found undone stands ready =
       let shapes = map shape_any before in
-      let contents = recovered geometry content entries shapes planned number owners a.cur found in
+      let records = recovered geometry content entries shapes planned number owners a.cur found in
       let is = found-recovers geometry content entries shapes planned number owners a.cur found
       allowed in
-      let committed = committed-by geometry number a contents is of forced in
+      let contents = whole geometry number a.cur records is in
+      let recovers = whole-recovers geometry number a.cur records is in
+      let recovered-whole = whole-recovered geometry number a.cur records is in
+      let ascends = whole-ascend geometry number a.cur records is in
+      let committed = committed-by geometry number a (standing_all contents) recovers of forced in
       let same-entries : entries ≡ entries_in (contents 0) =
-      found-entries geometry content entries shapes planned number owners a.cur found in (
+      found-entries geometry content entries shapes planned number owners a.cur found
+      ∙ ap entries_in (sym (whole-records geometry number a.cur records is 0))
+      ∙ stands-entries (contents 0) in (
         contents,
         record {
-          volume = record { allowed = allowed; shape = of; recovers = is };
-          undone = undone contents is;
+          volume = record { allowed = allowed; shape = of; recovers = recovers };
+          whole = recovered-whole;
+          undone = undone contents recovers recovered-whole ascends;
           stands = stands;
           ready = all-more (IsPartReady (owner_of geometry owners) kept now)
               (λ (part : AnyPart). IsReady (shape_any part) (owner_of geometry owners)
@@ -465,10 +482,11 @@ module _ (geometry : Geometry) (content : LogContent) (entries : List CatEntry)
               (λ (part : AnyPart). Knows (shape_any part) (known_any part) now)
               (λ part one. one.knows) parts ready);
           catalog = same-entries;
-          rules = committed.catalog;
+          rules = catalog-whole geometry (contents 0) committed.catalog;
           apart = subst (λ (es : List CatEntry). AreApart (shape_in geometry es)) same-entries
               planned.apart;
-          ascends = committed.each;
-          others = committed.others;
+          ascends = ascends;
+          others = λ part none. whole-none geometry number a.cur records is part
+              (sym (whole-lays geometry number a.cur records is part) ∙ none);
         },
       )

@@ -14,7 +14,7 @@ use Rattle.vr_mount.specs.Areas.{AreOwners, IsReachedIn}
 use Rattle.vr_part.specs.Any.{known_any, shape_any}
 use Rattle.vr_part.specs.declared.any.AnyPart.{AnyPart}
 use Rattle.vr_space.specs.Known.{Known}
-use Rattle.vr_space.specs.Part.{KeyedShape, Knows, RelativeShape, Shape, part_no}
+use Rattle.vr_space.specs.Part.{KeyedShape, Knows, NumberedShape, Shape, part_no}
 use Rattle.vr_recover.specs.Found.{AreKnown}
 use Rattle.vr_recover.specs.Opening.{AreOwnersBy, shapes_laid}
 use Rattle.vr_recover.proofs.Adding.{part-at, same-part}
@@ -29,24 +29,23 @@ AllKnow parts now = All (λ (part : AnyPart). Knows (shape_any part) (known_any 
 pub known-know : (parts : List AnyPart) (now : Seen) → AreKnown parts now.cur → AllKnow parts now
 known-know parts now known k d below =
     let one = get_or parts k d in
-    subst (λ (n : Known). Knows (shape_any one) n now) (sym (known k d below))
-    (attached-knows (shape_any one) now)
+    attached-knows (shape_any one) (known_any one) now (known k d below)
 
 -- a part that knows its blocks has the areas that it reaches
 reaches-has : (geometry : Geometry) (shape : Shape) (known : Known) (now : Seen) (area : ℕ)
     → Knows shape known now → ReachesArea geometry shape now.cur area
     → HasArea geometry shape known area
 reaches-has geometry (KeyedShape part) known now area knows reaches = reaches
-reaches-has geometry (RelativeShape part) known now area knows reaches = subst
-    (λ (areas : List ℕ). Contains areas area) (sym knows.blocks.areas)
+reaches-has geometry (NumberedShape part) known now area knows reaches = subst
+    (λ (areas : List ℕ). Contains areas area) (sym knows.blocks.chain.areas)
     reaches
 
 has-reaches : (geometry : Geometry) (shape : Shape) (known : Known) (now : Seen) (area : ℕ)
     → Knows shape known now → HasArea geometry shape known area
     → ReachesArea geometry shape now.cur area
 has-reaches geometry (KeyedShape part) known now area knows has = has
-has-reaches geometry (RelativeShape part) known now area knows has = subst
-    (λ (areas : List ℕ). Contains areas area) knows.blocks.areas has
+has-reaches geometry (NumberedShape part) known now area knows has = subst
+    (λ (areas : List ℕ). Contains areas area) knows.blocks.chain.areas has
 
 module _ (geometry : Geometry) (entries : List CatEntry) (parts : List AnyPart)
     (owners : List (Option PartNo)) (distinct : IsDistinct nat_eq (0 ∷ parts_in entries))

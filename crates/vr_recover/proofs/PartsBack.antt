@@ -1,13 +1,13 @@
 -- What putting before-images back into one part leaves of all parts.
-use Rattle.std.proofs.Common.{◌≡◌, ◌≢◌, ◌<◌, ℕ, Bool, true, false, List, [], ◌∷◌, Option}
+use Rattle.std.proofs.Common.{◌≡◌, ◌≢◌, ◌⊎◌, ⊎_elim, inl, inr, ◌<◌, ℕ, zero, suc, Bool, true, false}
+use Rattle.std.proofs.Common.{List, [], ◌∷◌, Option}
 use Rattle.std.proofs.Common.{Some, None, refl, sym, ap, subst, ◌∙◌, arith, length, set, take, get_or}
 use Rattle.std.proofs.Common.{get_or-set_other, get_or-set_same, length-set}
-use Rattle.std.specs.Prelude.{All, cond, map, nat_eq, slice_get}
+use Rattle.std.specs.Prelude.{All, map, nat_eq, slice_get}
 use Rattle.std.specs.Option.{option_map}
 use Rattle.std.proofs.lemmas.Bool.{true≢false}
-use Rattle.std.proofs.lemmas.Bool.Decides.{Decides-eqb}
+use Rattle.std.proofs.lemmas.Bool.Decides.{Decides-eqb, eqb_tells}
 use Rattle.std.proofs.lemmas.List.{get_or-take, length-take}
-use Rattle.std.proofs.lemmas.List.Elements.{All-cons, All-nil, All-weaker}
 use Rattle.std.proofs.lemmas.Option.{get_or_from_slice_get, slice_get-get_or, slice_get-map}
 use Rattle.std.proofs.lemmas.Option.{slice_get_within}
 use Rattle.vr_types.specs.Content.{Content, item_at}
@@ -17,7 +17,7 @@ use Rattle.vr_types.specs.declared.geometry.Geometry.{Geometry}
 use Rattle.vr_types.specs.declared.unit.PartNo.{PartNo}
 use Rattle.vr_space.specs.Known.{Known}
 use Rattle.vr_space.specs.Owners.{Owners}
-use Rattle.vr_space.specs.Part.{IsSound, MayHold, Shape, part_no}
+use Rattle.vr_space.specs.Part.{IsSound, MayHold, Shape, item_of, part_no}
 use Rattle.vr_space.specs.Room.{Lengths}
 use Rattle.vr_space.proofs.CallerLemmas.{IsPartBlock, StaysPart, holds-less, knows-stays}
 use Rattle.vr_space.proofs.CallerLemmas.{rest-sound, rest-stays, room-stays, same-stays}
@@ -26,11 +26,13 @@ use Rattle.vr_log.specs.LogNow.{HasLog, LogNow}
 use Rattle.vr_log.specs.declared.record.LogRecord.{LogRecord}
 use Rattle.vr_volume.specs.Laid.{shape_by}
 use Rattle.vr_volume.specs.Laying.{IsLaidSo}
-use Rattle.vr_volume.specs.PutBack.{AreAlone, images_of, is_image_of, lengths_kept, oldest}
-use Rattle.vr_volume.specs.Safe.{AreCommitted, IsSafe, IsSafeBy}
-use Rattle.vr_volume.proofs.Alone.{is-own, is-there}
-use Rattle.vr_recover.specs.Undone.{AreOpened, HasAll, HasAllRecords, HasContent, IsAllFirm}
-use Rattle.vr_recover.specs.Undone.{IsCovered, IsItemIn, IsKeptOf, IsReady, alike}
+use Rattle.vr_volume.specs.PutBack.{images_of, is_image_of, lengths_kept, oldest}
+use Rattle.vr_recover.specs.Recovered.{item_back, standing_all}
+use Rattle.vr_volume.specs.Safe.{IsSafe, IsSafeBy}
+use Rattle.vr_volume.proofs.Alone.{is-there}
+use Rattle.vr_volume.proofs.CallerLemmas.{shape-stands}
+use Rattle.vr_recover.specs.Undone.{AreOpened, HasAll, HasAllRecords, HasContent, HasPart}
+use Rattle.vr_recover.specs.Undone.{IsAllFirm, IsCovered, IsKeptOf, IsReady, IsSettledPart, alike}
 use Rattle.vr_recover.proofs.PuttingBack.{found-passes}
 
 -- ---- another part
@@ -56,6 +58,18 @@ module _ (shape : Shape) (owners : Owners) (a b : Seen) (stays : StaysPart shape
     firm-stays left firm place found held =
         firm place found (holds-less shape owners a b.may sound fewer place found held)
         ∙ sym (same-stays a b shape owners stays sound left place)
+
+    -- a part that a crash left is as it left it
+    pub settled-stays : (part : ℕ) (images : List BeforeImage) (content : Content) → Left a a.cur
+        → IsSettledPart shape owners part images content a
+        → IsSettledPart shape owners part images content b
+    settled-stays part images content left settled = record {
+      rests = rest-stays a b shape owners stays settled.rests;
+      firm = firm-stays left settled.firm;
+      back = λ place. settled.back place
+          ∙ ap (item_back shape (oldest images part place))
+          (sym (same-stays a b shape owners stays sound left place));
+    }
 
     pub content-stays : (content : Content) → HasContent shape content a
         → HasContent shape content b
@@ -138,54 +152,16 @@ module _ (geometry : Geometry) (member : ℕ) (owners : Owners) (log : LogNow)
       subst (λ (rs : List LogRecord). IsSafeBy geometry owners rs contents a) (records has.0 has.2)
       (safe.by_log has.0 has.2)
 
--- an image is the one that is found at its place
-each-oldest : (images : List BeforeImage) → AreAlone images
-    → All (λ (image : BeforeImage). oldest images image.part image.place ≡ Some image) images
-each-oldest [] alone =
-    All-nil (λ (image : BeforeImage). oldest [] image.part image.place ≡ Some image)
-each-oldest (first ∷ images) alone = All-cons
-    (λ (image : BeforeImage). oldest (first ∷ images) image.part image.place ≡ Some image) first
-    images
-    (ap (λ (b : Bool). cond b (Some first) (oldest images first.part first.place)) (is-own first))
-    (All-weaker (λ (image : BeforeImage). oldest images image.part image.place ≡ Some image)
-    (λ (image : BeforeImage). oldest (first ∷ images) image.part image.place ≡ Some image)
-    (λ image is. further image (is_image_of image.part image.place first) refl is) images
-    (each-oldest images alone.1))
-  where
-    none-some : (image : BeforeImage) → None ≡ Some image → ⊥
-    none-some image same = cc
-
-    further : (image : BeforeImage) (b : Bool) → is_image_of image.part image.place first ≡ b
-        → oldest images image.part image.place ≡ Some image
-        → cond b (Some first) (oldest images image.part image.place) ≡ Some image
-    further image false same is = is
-    further image true same is =
-        let there : (first.part ≡ image.part) × (image.place ≡ first.place) =
-        is-there image.part image.place first same in
-        absurd (none-some image (sym alone.0
-        ∙ ap (λ (p : ℕ). oldest images p first.place) there.0
-        ∙ ap (oldest images image.part) (sym there.1) ∙ is))
-
--- the before-images of a part are items of what is committed
-pub are-items : (geometry : Geometry) (records : List LogRecord) (contents : ℕ → Content)
-    (shape : Shape) → AreCommitted geometry records contents
-    → All (IsItemIn shape (contents (part_no shape).0)) (images_of records)
-are-items geometry records contents shape committed = All-weaker
-    (λ (image : BeforeImage). oldest (images_of records) image.part image.place ≡ Some image)
-    (IsItemIn shape (contents (part_no shape).0))
-    (λ image is mine. committed.olds image.part image.place image is
-    ∙ ap (λ (p : ℕ). item_at (contents p) image.place) mine)
-    (images_of records) (each-oldest (images_of records) committed.alone)
-
 -- a part is laid by each log that an image may have
 pub laid-opened : (geometry : Geometry) (log : LogNow) (contents : ℕ → Content)
     (kept : PartNo → Lengths) (shapes : List Shape) (at : ℕ) (shape : Shape) (number : PartNo)
     → AreOpened geometry log contents shapes → slice_get shapes at ≡ Some shape
     → IsKeptOf kept log → number ≡ part_no shape
-    → IsLaidSo geometry log (alike contents) number.0 shape (kept number)
+    → IsLaidSo geometry log (alike (standing_all contents)) number.0 shape (kept number)
 laid-opened geometry log contents kept shapes at shape number opened is kept-is same content has =
     record {
-      laid = ap (λ (no : PartNo). shape_by geometry (contents 0) no.0) same
+      laid = shape-stands geometry (contents 0) number.0
+          ∙ ap (λ (no : PartNo). shape_by geometry (contents 0) no.0) same
           ∙ all-at (λ (s : Shape). shape_by geometry (contents 0) (part_no s).0 ≡ Some s) shapes at
           shape is opened.laid;
       kept_is = kept-is number
@@ -193,41 +169,97 @@ laid-opened geometry log contents kept shapes at shape number opened is kept-is 
           (sym (opened.records content has));
     }
 
-none-some : {X : Type 0} {x : X} → None ≡ Some x → ⊥
-none-some same = cc
-
 pub shape-is : (one other : Shape) → Some one ≡ Some other → one ≡ other
 shape-is one other same = cc
 
--- Once each of these parts has its content, so has each part that is laid: one that isn't among them
--- has no before-image.
-pub all-parts : (geometry : Geometry) (owners : Owners) (log : LogNow) (contents : ℕ → Content)
-    (shapes : List Shape) (a : Seen) → IsSafeBy geometry owners log.records contents a
-    → AreOpened geometry log contents shapes
-    → All (IsCovered shapes) (images_of log.records)
-    → All (λ (shape : Shape). HasContent shape (contents (part_no shape).0) a) shapes
-    → HasAll geometry contents a
-all-parts geometry owners log contents shapes a safe opened covered all part shape laid place found
-    held =
-    by_image (oldest (images_of log.records) part place) refl
+-- ---- which of the parts there are
+
+pub part-or-not : (shapes : List Shape) (part : ℕ)
+    → HasPart shapes part ⊎ (HasPart shapes part → ⊥)
+part-or-not [] part = inr (λ has. none-there has.1 has.2)
   where
-    by_image : (image : Option BeforeImage) → oldest (images_of log.records) part place ≡ image
-        → found ≡ item_at (contents part) place
-    by_image None none = (safe.parts part shape laid).items place found held none
+    none-there : (x : Shape) → None ≡ Some x → ⊥
+    none-there x same = cc
+part-or-not (first ∷ shapes) part = elim (eqb_tells part (part_no first).0) [
+  | inl same ↦ inl (0, first, refl, same.1)
+  | inr differ ↦ ⊎_elim
+      (λ has. inl (suc has.0, has.1, has.2, has.3))
+      (λ none. inr (λ has. at has.0 has.1 has.2 has.3 differ.1 none))
+      (part-or-not shapes part)
+]
+  where
+    some-is : (x y : Shape) → Some x ≡ Some y → x ≡ y
+    some-is x y same = cc
+
+    at : (k : ℕ) (shape : Shape) → slice_get (first ∷ shapes) k ≡ Some shape
+        → part ≡ (part_no shape).0 → part ≢ (part_no first).0 → (HasPart shapes part → ⊥) → ⊥
+    at zero shape is same apart none =
+        apart (same ∙ ap (λ (s : Shape). (part_no s).0) (sym (some-is first shape is)))
+    at (suc k) shape is same apart none = none (k, shape, is, same)
+
+-- one of the first is one of them
+pub taken-at : (n : ℕ) (shapes : List Shape) (at : ℕ) (shape : Shape)
+    → slice_get (take n shapes) at ≡ Some shape → (at < n) × (slice_get shapes at ≡ Some shape)
+taken-at n shapes at shape is =
+    let within : at < length (take n shapes) = slice_get_within (take n shapes) at shape is in
+    let less : at < n = omega (arith, within, length-take n shapes) in
+    let below : at < length shapes = omega (arith, within, length-take n shapes) in (
+      less,
+      slice_get-get_or shapes at shape below
+          ∙ ap Some (sym (get_or-take n shapes at shape less)
+          ∙ get_or_from_slice_get (take n shapes) at shape shape is),
+    )
+
+-- and the other way round
+pub at-taken : (n : ℕ) (shapes : List Shape) (at : ℕ) (shape : Shape) → at < n
+    → slice_get shapes at ≡ Some shape → slice_get (take n shapes) at ≡ Some shape
+at-taken n shapes at shape less is =
+    let below : at < length shapes = slice_get_within shapes at shape is in
+    let within : at < length (take n shapes) = omega (arith, less, below, length-take n shapes) in
+    slice_get-get_or (take n shapes) at shape within
+    ∙ ap Some (get_or-take n shapes at shape less ∙ get_or_from_slice_get shapes at shape shape is)
+
+-- ---- once all are put back
+
+-- no before-image is of a part that isn't one of these
+no-image : (shapes : List Shape) (images : List BeforeImage) (part : ℕ)
+    → All (IsCovered shapes) images → (HasPart shapes part → ⊥) → (place : List ℕ)
+    → oldest images part place ≡ None
+no-image shapes images part covered none place = by_image (oldest images part place) refl
+  where
+    by_image : (image : Option BeforeImage) → oldest images part place ≡ image → image ≡ None
+    by_image None is = refl
     by_image (Some image) is =
         let has : (is_image_of part place image ≡ true) × IsCovered shapes image =
-        found-passes (IsCovered shapes) (is_image_of part place) (images_of log.records) image
-        covered is in
-        let mine : image.part ≡ part = (is-there part place image has.0).0 in
-        let other : Shape = has.1.1 in
-        let same : part ≡ (part_no other).0 = sym mine ∙ has.1.3 in
-        let there : shape_by geometry (contents 0) (part_no other).0 ≡ Some other =
-        all-at (λ (s : Shape). shape_by geometry (contents 0) (part_no s).0 ≡ Some s) shapes
-        has.1.0 other has.1.2 opened.laid in
-        let one : shape ≡ other = shape-is shape other
-        (sym laid ∙ ap (shape_by geometry (contents 0)) same ∙ there) in
-        let content : HasContent other (contents (part_no other).0) a =
-        all-at (λ (s : Shape). HasContent s (contents (part_no s).0) a) shapes has.1.0 other has.1.2
-        all in
-        content place found (subst (λ (s : Shape). MayHold s a.may place found) one held)
-        ∙ sym (ap (λ (p : ℕ). item_at (contents p) place) same)
+        found-passes (IsCovered shapes) (is_image_of part place) images image covered is in
+        absurd (none (subst (HasPart shapes) (is-there part place image has.0).0 has.1))
+
+-- Once each of these parts has its content, and each other is as a crash left it, all that are laid
+-- have theirs: one that isn't among them has no before-image.
+pub all-parts : (geometry : Geometry) (owners : Owners) (log : LogNow) (contents : ℕ → Content)
+    (shapes : List Shape) (a : Seen) → AreOpened geometry log contents shapes
+    → All (IsCovered shapes) (images_of log.records)
+    → All (λ (shape : Shape). HasContent shape (contents (part_no shape).0) a) shapes
+    → ((part : ℕ) (shape : Shape) → shape_by geometry (contents 0) part ≡ Some shape
+    → (HasPart shapes part → ⊥)
+    → IsSettledPart shape owners part (images_of log.records) (contents part) a)
+    → HasAll geometry contents a
+all-parts geometry owners log contents shapes a opened covered all others part shape laid place
+    found held = ⊎_elim
+    (λ has. let other : Shape = has.1 in
+    let there : shape_by geometry (contents 0) (part_no other).0 ≡ Some other =
+    all-at (λ (s : Shape). shape_by geometry (contents 0) (part_no s).0 ≡ Some s) shapes
+    has.0 other has.2 opened.laid in
+    let one : shape ≡ other = shape-is shape other
+    (sym laid ∙ ap (shape_by geometry (contents 0)) has.3 ∙ there) in
+    let content : HasContent other (contents (part_no other).0) a =
+    all-at (λ (s : Shape). HasContent s (contents (part_no s).0) a) shapes has.0 other has.2 all in
+    content place found (subst (λ (s : Shape). MayHold s a.may place found) one held)
+    ∙ sym (ap (λ (p : ℕ). item_at (contents p) place) has.3))
+    (λ none. let images = images_of log.records in
+    let settled = others part shape laid none in
+    settled.firm place found held
+    ∙ sym (settled.back place
+    ∙ ap (λ (o : Option BeforeImage). item_back shape o (item_of shape a.cur place))
+    (no-image shapes images part covered none place)))
+    (part-or-not shapes part)

@@ -4,32 +4,41 @@ use Rattle.std.proofs.Common.{Option, Some, None, refl, sym, ap, subst, ◌∙�
 use Rattle.std.proofs.Common.{take}
 use Rattle.std.specs.Prelude.{All, IfSome, bytes_eq, find}
 use Rattle.std.specs.List.{cons_option, filter_map}
-use Rattle.std.specs.Option.{option_map}
+use Rattle.std.specs.Option.{option_and_then, option_map}
 use Rattle.std.proofs.lemmas.Bool.{true≢false}
 use Rattle.std.proofs.lemmas.List.Elements.{All-append, All-cons, All-head, All-nil, All-tail}
 use Rattle.std.proofs.lemmas.List.{take_more}
 use Rattle.std.proofs.lemmas.List.Elements.{All-weaker, filter_map-append}
 use Rattle.std.proofs.lemmas.Slice.Eq.{bytes_eq-Decides}
 use Rattle.vr_types.specs.Blocks.{Forced, Keeps}
-use Rattle.vr_types.specs.Content.{Content, Item, Standing, item_at}
+use Rattle.vr_types.specs.Content.{Content, Item, Standing, item_at, record_of}
+use Rattle.vr_types.specs.Image.{Image, block_at}
 use Rattle.vr_types.specs.Seen.{Seen}
 use Rattle.vr_types.specs.declared.unit.PartNo.{PartNo}
 use Rattle.vr_types.specs.declared.unit.Unit.{Unit as UnitOfRecovery}
 use Rattle.vr_space.specs.Owners.{Owners}
-use Rattle.vr_space.specs.Part.{DueMore, IsFirm, IsSound, MayHold, SetsOne, Shape}
-use Rattle.vr_space.specs.Part.{item_of, part_no}
-use Rattle.vr_space.proofs.CallerLemmas.{firm-due, forced-firm, left-is}
+use Rattle.vr_seqset.specs.Entry.{Entry}
+use Rattle.vr_space.specs.Keyed.{entries_of, entry_for}
+use Rattle.vr_space.specs.Known.{Known}
+use Rattle.vr_space.specs.Numbered.{left_in}
+use Rattle.vr_space.specs.Room.{Lengths, Range}
+use Rattle.vr_space.specs.Split.{SplitNow, stage_in}
+use Rattle.vr_space.specs.Part.{CanSet, DueMore, IsFirm, IsSound, KeyedShape, NumberedShape}
+use Rattle.vr_space.specs.Part.{SetsOne, Shape, item_of, left_by, part_no, stage_of}
+use Rattle.vr_space.proofs.CallerLemmas.{can-set-kept, firm-due, forced-firm, left-none}
 use Rattle.vr_history.specs.State.{BeforeImage}
 use Rattle.vr_log.specs.Live.{is_in, live_in}
 use Rattle.vr_log.specs.LogNow.{LogNow}
 use Rattle.vr_log.specs.declared.record.LogRecord.{LogRecord}
 use Rattle.vr_log.specs.declared.record.LogRecord.TheVariants.{Before}
 use Rattle.vr_volume.specs.Laying.{IsFreeIn}
-use Rattle.vr_volume.specs.PutBack.{image_in, images_of, is_image_of, oldest}
-use Rattle.vr_volume.specs.Safe.{IsPartSafe}
+use Rattle.vr_volume.specs.PutBack.{AreAlone, image_in, images_of, is_image_of, oldest}
 use Rattle.vr_volume.proofs.Alone.{is-own, is-there}
+use Rattle.vr_volume.proofs.CallerLemmas.{goes-back}
 use Rattle.vr_volume.proofs.Images.{image_of}
-use Rattle.vr_recover.specs.Undone.{ArePutBack, HasAllRecords, IsBackIn, IsItemIn}
+use Rattle.vr_recover.specs.Recovered.{item_back}
+use Rattle.vr_recover.specs.Undone.{ArePutBack, HasAllRecords, HasContent, IsBackIn, IsKeptAt}
+use Rattle.vr_recover.specs.Undone.{IsLeftIn, IsSettledPart, ReadsAs}
 
 -- what was firm is firm once what was put is forced
 pub firm-forced : (shape : Shape) (owners : Owners) (put : List ℕ) (tells : Bool)
@@ -41,30 +50,99 @@ firm-forced shape owners put tells told a b c due call forced sound after place 
     forced-firm tells told shape owners put place b c call forced after
     (due put place (firm-due shape owners put place a sound firm) (λ n there. there))
 
+-- ---- room for one
+
+no-stage-in : (found : Option (Range × Entry)) → stage_in None found ≡ None
+no-stage-in None = refl
+no-stage-in (Some at) = refl
+
+-- with no split under way no stage comes before a change
+no-stage : (shape : Shape) (known : Known) (image : Image) (place : List ℕ)
+    → known.split ≡ None → stage_of shape known image place ≡ None
+no-stage (KeyedShape part) known image place none =
+    let found = entry_for None (entries_of (block_at image part.head)) place in
+    ap (λ (split : Option SplitNow). stage_in split found) none ∙ no-stage-in found
+no-stage (NumberedShape part) known image place none = refl
+
+-- a record may be put back for which room of its length is kept, and any may be taken away
+pub can-go-back : (shape : Shape) (known : Known) (image : Image) (kept : Lengths)
+    (place : List ℕ) (old : Option (List ℕ)) → known.split ≡ None → IsKeptAt kept place old
+    → CanSet shape known image kept place old
+can-go-back shape known image kept place None none room =
+    record { no_stage = no-stage shape known image place none; room = tt }
+can-go-back shape known image kept place (Some bytes) none room =
+    can-set-kept shape known image kept place bytes (length bytes) room
+    (goes-back shape (length bytes)) (no-stage shape known image place none)
+
 -- ---- one before-image
+
+-- the record of a before-image of the log
+pub record-is : (bytes : Option (List ℕ)) → option_and_then record_of (option_map Standing bytes)
+    ≡ bytes
+record-is None = refl
+record-is (Some bytes) = refl
+
+-- what is left once is left if the same is put back again
+twice-in : (relative : Bool) (now : Option Item) (bytes : Option (List ℕ))
+    → left_in relative (left_in relative now bytes) bytes ≡ left_in relative now bytes
+twice-in true now bytes = refl
+twice-in false None None = refl
+twice-in false (Some item) None = refl
+twice-in false now (Some bytes) = refl
+
+left-twice : (shape : Shape) (now : Option Item) (bytes : Option (List ℕ))
+    → left_by shape (left_by shape now bytes) bytes ≡ left_by shape now bytes
+left-twice (KeyedShape part) now bytes = refl
+left-twice (NumberedShape part) now bytes = twice-in part.relative now bytes
+
+-- where two leave the same of an item, the second leaves that of what the first left
+left-again : (shape : Shape) (now : Option Item) (one other : Option (List ℕ))
+    → left_by shape now other ≡ left_by shape now one
+    → left_by shape (left_by shape now one) other ≡ left_by shape now one
+left-again shape now one other same =
+    let bytes : other ≡ one = sym (left-none shape now other)
+    ∙ ap (option_and_then record_of) same ∙ left-none shape now one in
+    ap (left_by shape (left_by shape now one)) bytes ∙ left-twice shape now one
 
 module _ (shape : Shape) (content : Content) (image : BeforeImage) (old : Option (List ℕ))
     (a c : Seen) (set : SetsOne shape image.place old a.cur c.cur)
-    (was : image.old ≡ option_map Standing old) (mine : image.part ≡ (part_no shape).0)
-    (item : IsItemIn shape content image) where
+    (was : option_and_then record_of image.old ≡ old) (mine : image.part ≡ (part_no shape).0)
+    (left : IsLeftIn shape content a.cur image) where
   at-place : item_of shape c.cur image.place ≡ item_at content image.place
-  at-place = set.here ∙ left-is shape (item_of shape a.cur image.place) old ∙ sym was ∙ item mine
+  at-place = set.here ∙ ap (left_by shape (item_of shape a.cur image.place)) (sym was)
+      ∙ sym (left mine)
 
-  stays-read : (other : BeforeImage) → IsBackIn shape content a.cur other
-      → IsBackIn shape content c.cur other
-  stays-read other reads here = by_place (bytes_eq other.place image.place) refl
+  -- a place is that of the image, or another one
+  by-place : (P : List ℕ → Type 0) (place : List ℕ) → P image.place
+      → (place ≢ image.place → P place) → P place
+  by-place P place here other = by_test (bytes_eq place image.place) refl
     where
-      by_place : (same : Bool) → bytes_eq other.place image.place ≡ same
-          → item_of shape c.cur other.place ≡ item_at content other.place
-      by_place true is =
-          let there : other.place ≡ image.place =
-          (bytes_eq-Decides other.place image.place).0 is in
-          ap (λ (q : List ℕ). item_of shape c.cur q) there ∙ at-place
-          ∙ sym (ap (item_at content) there)
-      by_place false is =
-          let apart : other.place ≢ image.place =
-          λ same. true≢false (sym ((bytes_eq-Decides other.place image.place).1 same) ∙ is) in
-          set.others other.place apart ∙ reads here
+      by_test : (same : Bool) → bytes_eq place image.place ≡ same → P place
+      by_test true is = subst P (sym ((bytes_eq-Decides place image.place).0 is)) here
+      by_test false is =
+          other (λ same. true≢false (sym ((bytes_eq-Decides place image.place).1 same) ∙ is))
+
+  stays-read : (place : List ℕ) → ReadsAs shape content a.cur place
+      → ReadsAs shape content c.cur place
+  stays-read place reads = by-place (ReadsAs shape content c.cur) place at-place
+      (λ apart. set.others place apart ∙ reads)
+
+  -- what putting others back leaves
+  abbrev LeavesAt : Image → Option (List ℕ) → List ℕ → Type 0
+  LeavesAt now bytes place = item_at content place ≡ left_by shape (item_of shape now place) bytes
+
+  stays-left : (place : List ℕ) (bytes : Option (List ℕ)) → LeavesAt a.cur bytes place
+      → LeavesAt c.cur bytes place
+  stays-left place bytes leaves = by-place
+      (λ (at : List ℕ). LeavesAt a.cur bytes at → LeavesAt c.cur bytes at) place
+      (λ here. let now = item_of shape a.cur image.place in
+      let one = option_and_then record_of image.old in
+      left mine ∙ sym (ap (λ (item : Option Item). left_by shape item bytes)
+      (set.here ∙ ap (left_by shape now) (sym was))
+      ∙ left-again shape now one bytes (sym here ∙ left mine)))
+      (λ apart there. there
+      ∙ ap (λ (item : Option Item). left_by shape item bytes) (sym (set.others place apart)))
+      leaves
 
   pub one-back : ((place : List ℕ) → IsFirm shape a place → IsFirm shape c place)
       → ArePutBack shape content (image ∷ []) a c
@@ -72,6 +150,8 @@ module _ (shape : Shape) (content : Content) (image : BeforeImage) (old : Option
     back = All-cons (IsBackIn shape content c.cur) image [] (λ here. at-place)
         (All-nil (IsBackIn shape content c.cur));
     stays = stays-read;
+    left = λ other leaves here.
+        stays-left other.place (option_and_then record_of other.old) (leaves here);
     firm = firm;
   }
 
@@ -85,7 +165,8 @@ module _ (shape : Shape) (content : Content) where
   none-back images a others = record {
     back = All-weaker (λ (image : BeforeImage). image.part ≢ (part_no shape).0)
         (IsBackIn shape content a.cur) (λ image apart here. absurd (apart here)) images others;
-    stays = λ image reads. reads;
+    stays = λ place reads. reads;
+    left = λ image leaves. leaves;
     firm = λ place firm. firm;
   }
 
@@ -96,9 +177,10 @@ module _ (shape : Shape) (content : Content) where
   back-then these those a b c first second = record {
     back = All-append (IsBackIn shape content c.cur) these those
         (All-weaker (IsBackIn shape content b.cur) (IsBackIn shape content c.cur)
-        second.stays these first.back)
+        (λ image back here. second.stays image.place (back here)) these first.back)
         second.back;
-    stays = λ image reads. second.stays image (first.stays image reads);
+    stays = λ place reads. second.stays place (first.stays place reads);
+    left = λ image leaves. second.left image (first.left image leaves);
     firm = λ place firm. second.firm place (first.firm place firm);
   }
 
@@ -196,6 +278,34 @@ each-found (first ∷ images) = All-cons
     further image true some none = some-none first none
     further image false some none = some none
 
+-- an image is the one that is found at its place
+each-oldest : (images : List BeforeImage) → AreAlone images
+    → All (λ (image : BeforeImage). oldest images image.part image.place ≡ Some image) images
+each-oldest [] alone =
+    All-nil (λ (image : BeforeImage). oldest [] image.part image.place ≡ Some image)
+each-oldest (first ∷ images) alone = All-cons
+    (λ (image : BeforeImage). oldest (first ∷ images) image.part image.place ≡ Some image) first
+    images
+    (ap (λ (b : Bool). cond b (Some first) (oldest images first.part first.place)) (is-own first))
+    (All-weaker (λ (image : BeforeImage). oldest images image.part image.place ≡ Some image)
+    (λ (image : BeforeImage). oldest (first ∷ images) image.part image.place ≡ Some image)
+    (λ image is. further image (is_image_of image.part image.place first) refl is) images
+    (each-oldest images alone.1))
+  where
+    none-some : (image : BeforeImage) → None ≡ Some image → ⊥
+    none-some image same = cc
+
+    further : (image : BeforeImage) (b : Bool) → is_image_of image.part image.place first ≡ b
+        → oldest images image.part image.place ≡ Some image
+        → cond b (Some first) (oldest images image.part image.place) ≡ Some image
+    further image false same is = is
+    further image true same is =
+        let there : (first.part ≡ image.part) × (image.place ≡ first.place) =
+        is-there image.part image.place first same in
+        absurd (none-some image (sym alone.0
+        ∙ ap (λ (p : ℕ). oldest images p first.place) there.0
+        ∙ ap (oldest images image.part) (sym there.1) ∙ is))
+
 -- so each is free, where each image has all records
 pub all-free : (log : LogNow) → HasAllRecords log
     → All (λ (image : BeforeImage). IsFreeIn log image.part image.place) (images_of log.records)
@@ -229,24 +339,37 @@ found-passes P test (first ∷ images) image all is =
         (ap test (sym it) ∙ passes, subst P it (All-head P first images all))
     by_test false passes same further = further same
 
--- whatever a crash leaves of it is the content
-pub part-back : (shape : Shape) (owners : Owners) (content : Content) (images : List BeforeImage)
-    (a b : Seen) → ArePutBack shape content images a b → ((place : List ℕ) → IsFirm shape a place)
-    → IsPartSafe shape owners (part_no shape).0 images content b → (place : List ℕ)
-    (found : Option Item) → MayHold shape b.may place found → found ≡ item_at content place
-part-back shape owners content images a b put firm safe place found held =
-    by_image (oldest images (part_no shape).0 place) refl
+-- whatever a crash leaves of it is the content, of which the images are left
+pub part-back : (shape : Shape) (owners : Owners) (part : ℕ) (content : Content)
+    (images : List BeforeImage) (a b : Seen) → part ≡ (part_no shape).0
+    → ArePutBack shape content images a b → IsSettledPart shape owners part images content a
+    → HasContent shape content b
+part-back shape owners part content images a b mine put settled place found held =
+    put.firm place (settled.firm place) found held
+    ∙ by_image (oldest images part place) refl
   where
-    by_image : (image : Option BeforeImage) → oldest images (part_no shape).0 place ≡ image
-        → found ≡ item_at content place
-    by_image None none = safe.items place found held none
+    by_image : (image : Option BeforeImage) → oldest images part place ≡ image
+        → item_of shape b.cur place ≡ item_at content place
+    by_image None none = put.stays place (sym (settled.back place
+        ∙ ap (λ (o : Option BeforeImage). item_back shape o (item_of shape a.cur place)) none))
     by_image (Some image) is =
-        let has : (is_image_of (part_no shape).0 place image ≡ true)
-        × IsBackIn shape content b.cur image =
-        found-passes (IsBackIn shape content b.cur) (is_image_of (part_no shape).0 place) images
-        image put.back is in
-        let there : (image.part ≡ (part_no shape).0) × (place ≡ image.place) =
-        is-there (part_no shape).0 place image has.0 in
-        put.firm place (firm place) found held
-        ∙ ap (λ (q : List ℕ). item_of shape b.cur q) there.1
-        ∙ has.1 there.0 ∙ sym (ap (item_at content) there.1)
+        let has : (is_image_of part place image ≡ true) × IsBackIn shape content b.cur image =
+        found-passes (IsBackIn shape content b.cur) (is_image_of part place) images image put.back
+        is in
+        let there : (image.part ≡ part) × (place ≡ image.place) =
+        is-there part place image has.0 in
+        ap (λ (q : List ℕ). item_of shape b.cur q) there.1
+        ∙ has.1 (there.0 ∙ mine) ∙ sym (ap (item_at content) there.1)
+
+-- The images of a part are left in the content that they leave, put back.
+pub are-left : (shape : Shape) (owners : Owners) (part : ℕ) (content : Content)
+    (images : List BeforeImage) (a : Seen) → part ≡ (part_no shape).0 → AreAlone images
+    → IsSettledPart shape owners part images content a
+    → All (IsLeftIn shape content a.cur) images
+are-left shape owners part content images a mine alone settled = All-weaker
+    (λ (image : BeforeImage). oldest images image.part image.place ≡ Some image)
+    (IsLeftIn shape content a.cur)
+    (λ image is here. settled.back image.place
+    ∙ ap (λ (o : Option BeforeImage). item_back shape o (item_of shape a.cur image.place))
+    (ap (λ (p : ℕ). oldest images p image.place) (mine ∙ sym here) ∙ is))
+    images (each-oldest images alone)

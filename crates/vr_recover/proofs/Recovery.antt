@@ -2,8 +2,7 @@
 use Rattle.std.proofs.Common.{◌≡◌, ℕ, ◌<◌, List, [], Option, Some, None}
 use Rattle.std.proofs.Common.{refl, sym, ap, subst, ◌∙◌, arith, get_or}
 use Rattle.std.specs.Prelude.{All, slice_get}
-use Rattle.std.proofs.lemmas.Option.{get_or_from_slice_get}
-use Rattle.std.proofs.lemmas.Option.{slice_get_within}
+use Rattle.std.proofs.lemmas.Option.{get_or_from_slice_get, slice_get_within}
 use Rattle.vr_types.specs.Content.{Content}
 use Rattle.vr_types.specs.Geometry.{IsAllowed}
 use Rattle.vr_types.specs.Image.{Image, block_at}
@@ -19,8 +18,10 @@ use Rattle.vr_log.specs.Content.{Content as LogContent}
 use Rattle.vr_log.specs.Spells.{Spells}
 use Rattle.vr_log.specs.Standing.{InLog}
 use Rattle.vr_space.specs.Part.{HasRoom, Shape, Stands, StandsFor, part_no}
-use Rattle.vr_volume.specs.PutBack.{images_of, lengths_kept, put_back}
+use Rattle.vr_undo.proofs.CallerLemmas.{stands-entries}
+use Rattle.vr_volume.specs.PutBack.{images_of, lengths_kept, put_back, standing}
 use Rattle.vr_volume.specs.Volume.{CanPutBack, Recovers, catalog_back, shapes_by}
+use Rattle.vr_volume.proofs.CallerLemmas.{catalog-stands as rules-stand, shape-stands}
 use Rattle.vr_mount.proofs.CallerLemmas.{AreSame, OwnParts, areas-own, rooms-same, stands-same}
 use Rattle.vr_mount.proofs.CallerLemmas.{stays-same}
 use Rattle.vr_recover.specs.Found.{HasRoomOf, IsFound, IsPlanned}
@@ -94,8 +95,8 @@ module _ (geometry : Geometry) (content : LogContent) (entries : List CatEntry)
     catalog-stands : StandsFor (catalog_shape geometry) image (contents 0)
     catalog-stands = held-stands 0 (shape_in geometry entries 0) refl (catalog_shape geometry) refl
 
-    catalog-same : catalog_back content contents ≡ contents 0
-    catalog-same = off-back images (contents 0) planned.off
+    catalog-same : catalog_back content contents ≡ standing (contents 0)
+    catalog-same = off-back images (standing (contents 0)) planned.off
 
     entries-same : entries ≡ entries_in (contents 0)
     entries-same = (found.entries_are (contents 0) catalog-stands).0
@@ -103,6 +104,7 @@ module _ (geometry : Geometry) (content : LogContent) (entries : List CatEntry)
     laid-same : (part : ℕ) → shapes_by geometry content contents part
         ≡ shape_in geometry entries part
     laid-same part = ap (λ (c : Content). shape_by geometry c part) catalog-same
+        ∙ shape-stands geometry (contents 0) part
         ∙ ap (λ (es : List CatEntry). shape_in geometry es part) (sym entries-same)
 
     can-at : (one : BeforeImage) (at : ℕ) (shape : Shape) → slice_get shapes at ≡ Some shape
@@ -135,7 +137,7 @@ module _ (geometry : Geometry) (content : LogContent) (entries : List CatEntry)
         (at-one (HasRoomOf images image) found.rooms one.0 shape one.1)
 
     abbrev pub recovered : ℕ → Content
-    recovered part = put_back part images (contents part)
+    recovered part = put_back part images (standing (contents part))
 
     pub found-recovers : IsAllowed geometry → Recovers geometry number image recovered
     found-recovers allowed = record {
@@ -145,7 +147,8 @@ module _ (geometry : Geometry) (content : LogContent) (entries : List CatEntry)
         header = found.header;
         log_is = found.spelled;
         catalog = subst (IsCatalog geometry) (sym catalog-same)
-            (found.entries_are (contents 0) catalog-stands).1;
+            (rules-stand geometry (contents 0)
+            (found.entries_are (contents 0) catalog-stands).1);
         owners = owner_of geometry owners;
         past = found-own.past;
         laid = λ part shape is. held-stands part (shape_in geometry entries part) refl shape
@@ -164,7 +167,8 @@ module _ (geometry : Geometry) (content : LogContent) (entries : List CatEntry)
 
     -- to contents of which the catalog's has these entries
     pub found-entries : entries ≡ entries_in (recovered 0)
-    found-entries = entries-same ∙ ap entries_in (sym catalog-same)
+    found-entries = entries-same ∙ sym (stands-entries (contents 0))
+        ∙ ap entries_in (sym catalog-same)
 
 -- ---- where only blocks of the log changed
 

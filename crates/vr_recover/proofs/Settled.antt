@@ -11,7 +11,7 @@ use Rattle.std.proofs.lemmas.Bool.{eqb-true}
 use Rattle.std.proofs.lemmas.List.{take_all}
 use Rattle.std.proofs.lemmas.List.Elements.{All-cons, All-head, All-nil, All-tail, All-weaker}
 use Rattle.vr_types.specs.Blocks.{AllForced}
-use Rattle.vr_types.specs.Content.{Content, Item, item_at, place_cmp, record_of}
+use Rattle.vr_types.specs.Content.{Ascends, Content, Item, item_at, place_cmp, record_of}
 use Rattle.vr_types.specs.Geometry.{IsAllowed, area_count}
 use Rattle.vr_types.specs.Image.{Block, Image, block_at}
 use Rattle.vr_types.specs.Seen.{Seen}
@@ -23,18 +23,18 @@ use Rattle.vr_space.specs.Owners.{Owners}
 use Rattle.vr_space.specs.Room.{HaveRoom, Lengths, lengthen_by, with_length, with_lengths}
 use Rattle.vr_space.specs.Way.{Found, IsWithin, MayFind, Reads, Way, found_on}
 use Rattle.vr_space.specs.Keyed.{EachMayLeave, HaveRooms, HoldRanges, HoldsRange, IsHead}
-use Rattle.vr_space.specs.Keyed.{IsKeyedSound, Keyed, entries_of, entry_block}
-use Rattle.vr_space.specs.Keyed.{lengths_of, range_of}
+use Rattle.vr_space.specs.Keyed.{IsKeyedSound, Keyed, entries_of, entry_block, lengths_of, range_of}
 use Rattle.vr_space.specs.Met.{IsMet}
 use Rattle.vr_space.specs.Part.{HasKeptRoom, HasRoom, IsAtRest, IsOn, IsPlaceOf, IsRecordOf}
-use Rattle.vr_space.specs.Part.{IsSound, KeyedShape, Knows, MayHold, RelativeShape, Shape}
+use Rattle.vr_space.specs.Part.{IsSound, KeyedShape, Knows, MayHold, NumberedShape, Shape}
 use Rattle.vr_space.specs.Part.{StandsFor, StaysIn, item_of, part_no, way_to}
 use Rattle.vr_space.specs.Rosters.{IsInArea, IsOf as IsOfImage, IsOwnArea, Numbered, roster_block}
-use Rattle.vr_space.specs.Slots.{AreSlotsAtRest, IsNumberedOn, IsRestingArea, IsSlotMet, IsSlots}
-use Rattle.vr_space.specs.Slots.{KeepsSlots, SlotsStayIn}
+use Rattle.vr_space.specs.Known.{Known}
+use Rattle.vr_space.specs.Numbered.{IsFilled, IsNumberedAtRest, IsNumberedOn, IsRestingArea}
+use Rattle.vr_space.specs.Numbered.{KeepsNumbered, NumberedStaysIn}
 use Rattle.vr_space.proofs.CallerLemmas.{AreIn, IsPartBlock, area-owned, chain-less, content_item}
 use Rattle.vr_space.proofs.CallerLemmas.{first-owned, head-in, rest-sound, roster-inside}
-use Rattle.vr_space.proofs.CallerLemmas.{slots-less, stands_content, way-within}
+use Rattle.vr_space.proofs.CallerLemmas.{numbered-less, way-within}
 use Rattle.vr_history.specs.Committed.{kept_or}
 use Rattle.vr_history.specs.State.{BeforeImage}
 use Rattle.vr_log.specs.Content.{Content as LogContent}
@@ -45,12 +45,14 @@ use Rattle.vr_log.proofs.CallerLemmas.{stands_has}
 use Rattle.vr_volume.specs.CatalogRules.{IsCatalog}
 use Rattle.vr_volume.specs.Laid.{shape_by}
 use Rattle.vr_volume.specs.PutBack.{images_of, length_in, length_of, lengths_kept, oldest, put_back}
+use Rattle.vr_volume.specs.PutBack.{standing, standing_of}
+use Rattle.vr_recover.specs.Recovered.{AreBackOf, standing_all}
 use Rattle.vr_volume.specs.Safe.{AreCommitted, IsItemOf, IsPartSafe, IsSafe, IsSafeBy}
 use Rattle.vr_volume.specs.Volume.{CanPutBack, Recovers, shapes_by}
-use Rattle.vr_volume.proofs.PuttingBack.{back-ascends, back-item}
-use Rattle.vr_mount.proofs.CallerLemmas.{none-ascend}
-use Rattle.vr_recover.specs.Undone.{FitsPart, IsAllFirm, IsCovered, IsOpenedPart, IsSettled}
-use Rattle.vr_part.specs.Attached.{attached_known}
+use Rattle.vr_volume.proofs.CallerLemmas.{back-record, records-ascend, shape-stands}
+use Rattle.vr_recover.specs.Undone.{FitsPart, IsCovered, IsOpenedPart, IsSettled, IsSettledPart}
+use Rattle.vr_recover.proofs.Wholes.{contents-ascend, none-back}
+use Rattle.vr_part.specs.Attached.{IsAttachedWith}
 
 -- ---- a part
 
@@ -130,33 +132,32 @@ item-here shape owners now forced sound place found held =
 
 -- A part of chained areas, of whose blocks a crash leaves what is read alone.
 module _ (part : Numbered) (owners : Owners) (now : Seen) (on : IsNumberedOn part now)
-    (forced : AllForced now.count now.cur now.may) (stays : SlotsStayIn part owners now.cur) where
-  own-forced : (area : ℕ) → IsOwnArea part owners area → (n : ℕ) → IsInArea part area n
-      → (block : Block) → now.may n block → block ≡ block_at now.cur n
-  own-forced area own n inside block may =
-      forced n block (area-owned part owners now on area own n inside).0 may
+    (forced : AllForced now.count now.cur now.may) (stays : NumberedStaysIn part owners now.cur)
+  where
+    own-forced : (area : ℕ) → IsOwnArea part owners area → (n : ℕ) → IsInArea part area n
+        → (block : Block) → now.may n block → block ≡ block_at now.cur n
+    own-forced area own n inside block may =
+        forced n block (area-owned part owners now on area own n inside).0 may
 
-  slots-rest : AreSlotsAtRest part owners now
-  slots-rest = record {
-    on = on;
-    chain = chain-less part (IsOwnArea part owners) (IsRestingArea part owners now) (IsSlots part)
-        now.may (IsOfImage now.cur)
-        (λ area own. record {
-          own = own;
-          roster = own-forced area own (roster_block part area) (roster-inside part area);
-        })
-        own-forced (area_count part.geometry) part.first stays;
-  }
+    chain-rest : IsNumberedAtRest part owners now
+    chain-rest = record {
+      on = on;
+      chain = chain-less part (IsOwnArea part owners) (IsRestingArea part owners now) (IsFilled part)
+          now.may (IsOfImage now.cur)
+          (λ area own. record {
+            own = own;
+            roster = own-forced area own (roster_block part area) (roster-inside part area);
+          })
+          own-forced (area_count part.geometry) part.first stays;
+    }
 
-  slots-room : (kept : Lengths) → KeepsSlots part kept (IsOfImage now.cur)
-      → KeepsSlots part kept now.may
-  slots-room kept room = slots-less part (IsOwnArea part owners) (IsSlots part) now.may
-      (IsOfImage now.cur) kept
-      (λ area own top may.
-      own-forced area own (roster_block part area) (roster-inside part area) top may) stays room
+    chain-room : (kept : Lengths) → KeepsNumbered part kept (IsOfImage now.cur)
+        → KeepsNumbered part kept now.may
+    chain-room kept room = numbered-less part (IsOwnArea part owners) (IsFilled part) now.may
+        (IsOfImage now.cur) kept own-forced stays room
 
 -- A part that stands in blocks of its own is at rest where a crash leaves what is read alone,
-forced-rests : (shape : Shape) (owners : Owners) (now : Seen) → IsOn shape now
+pub forced-rests : (shape : Shape) (owners : Owners) (now : Seen) → IsOn shape now
     → AllForced now.count now.cur now.may → (content : Content) → StandsFor shape now.cur content
     → StaysIn shape owners now.cur → IsAtRest shape owners now
 forced-rests (KeyedShape part) owners now on forced content stands stays = (
@@ -166,8 +167,8 @@ forced-rests (KeyedShape part) owners now on forced content stands stays = (
   },
   stays,
 )
-forced-rests (RelativeShape part) owners now on forced content stands stays =
-    slots-rest part owners now on forced stays
+forced-rests (NumberedShape part) owners now on forced content stands stays =
+    chain-rest part owners now on forced stays
 
 -- has the room that it has in what is read,
 forced-room : (shape : Shape) (owners : Owners) (now : Seen) → IsOn shape now
@@ -177,20 +178,23 @@ forced-room : (shape : Shape) (owners : Owners) (now : Seen) → IsOn shape now
     → HasRoom shape kept now.cur → HasKeptRoom shape kept now
 forced-room (KeyedShape part) owners now on forced content stands stays kept places room =
     part-room part now on forced content stands kept places room
-forced-room (RelativeShape part) owners now on forced content stands stays kept places room =
-    slots-room part owners now on forced stays kept room
+forced-room (NumberedShape part) owners now on forced content stands stays kept places room =
+    chain-room part owners now on forced stays kept room
 
 -- and knows its blocks as it is attached.
-pub attached-knows : (shape : Shape) (now : Seen) → Knows shape (attached_known shape now.cur) now
-attached-knows (KeyedShape part) now = record { way = tt; blocks = All-nil (IsMet part now.cur) }
-attached-knows (RelativeShape part) now = record {
-  way = tt;
-  blocks = record { areas = refl; used = refl; met = All-nil (IsSlotMet part now.cur) };
-}
+pub attached-knows : (shape : Shape) (known : Known) (now : Seen)
+    → IsAttachedWith shape known now.cur → Knows shape known now
+attached-knows (KeyedShape part) known now attached =
+    subst (λ (k : Known). Knows (KeyedShape part) k now) (sym attached)
+    (record { way = tt; blocks = All-nil (IsMet part now.cur) })
+attached-knows (NumberedShape part) known now attached =
+    record { way = tt; blocks = attached.2 }
 
-attached-no-split : (shape : Shape) (image : Image) → (attached_known shape image).split ≡ None
-attached-no-split (KeyedShape part) image = refl
-attached-no-split (RelativeShape part) image = refl
+attached-no-split : (shape : Shape) (known : Known) (image : Image)
+    → IsAttachedWith shape known image → known.split ≡ None
+attached-no-split (KeyedShape part) known image attached =
+    ap (λ (k : Known). k.split) attached
+attached-no-split (NumberedShape part) known image attached = attached.0
 
 -- ---- what is kept
 
@@ -228,9 +232,6 @@ module _ (P : List ℕ → Type 0) where
 shape-is : (x y : Shape) → Some x ≡ Some y → x ≡ y
 shape-is x y same = cc
 
-no-shape : (x : Shape) → Some x ≡ None → ⊥
-no-shape x same = cc
-
 module _ (shapes : ℕ → Option Shape) (part : ℕ) where
   -- before-images of a part are at its places
   kept-places : (shape : Shape) → shapes part ≡ Some shape → (images : List BeforeImage)
@@ -259,23 +260,6 @@ module _ (shapes : ℕ → Option Shape) (part : ℕ) where
           ∙ ap shapes (eqb-true image.part part is) ∙ laid)) first.place)
           rest
 
-  -- a part that isn't laid has none
-  none-back : shapes part ≡ None → (images : List BeforeImage) → All (CanPutBack shapes) images
-      → put_back part images [] ≡ []
-  none-back none [] all = refl
-  none-back none (image ∷ images) all = by (nat_eq image.part part) refl
-      (none-back none images (All-tail (CanPutBack shapes) image images all))
-    where
-      first : CanPutBack shapes image
-      first = All-head (CanPutBack shapes) image images all
-
-      by : (mine : Bool) → nat_eq image.part part ≡ mine → put_back part images [] ≡ []
-          → cond mine (Rattle.vr_altkey.specs.Placing.placed_in image.place image.old
-          (put_back part images [])) (put_back part images []) ≡ []
-      by false is rest = rest
-      by true is rest = absurd (no-shape first.shape (sym first.laid
-          ∙ ap shapes (eqb-true image.part part is) ∙ none))
-
 -- ---- the volume
 
 module _ (geometry : Geometry) (number : ℕ) (now : Seen) (recovered : ℕ → Content)
@@ -288,24 +272,18 @@ module _ (geometry : Geometry) (number : ℕ) (now : Seen) (recovered : ℕ → 
       ≡ shapes_by geometry is.log is.contents part
   laid-same part = ap (λ (c : Content). shape_by geometry c part) (is.back 0)
 
-  held-by : (part : ℕ) (found : Option Shape)
-      → shapes_by geometry is.log is.contents part ≡ found
-      → Rattle.vr_types.specs.Content.Ascends (is.contents part)
-  held-by part (Some shape) laid =
-      (stands_content shape now.cur (is.contents part) (is.stands.laid part shape laid)).ascends
-  held-by part None none = subst Rattle.vr_types.specs.Content.Ascends
-      (sym (is.stands.others part none)) none-ascend
+  ascend : (part : ℕ) → Ascends (is.contents part)
+  ascend = contents-ascend geometry number now.cur recovered is
 
   item-back : (part : ℕ) (place : List ℕ) → item_at (recovered part) place
-      ≡ kept_or (oldest images part place) (item_at (is.contents part) place)
+      ≡ kept_or (oldest images part place) (standing_of (item_at (is.contents part) place))
   item-back part place = ap (λ (c : Content). item_at c place) (is.back part)
-      ∙ back-item part images (is.contents part) place
+      ∙ back-record part images (is.contents part) place (ascend part)
 
   pub committed-by : AreCommitted geometry is.log.records recovered
   committed-by = record {
-    each = λ part. subst Rattle.vr_types.specs.Content.Ascends (sym (is.back part))
-        (back-ascends part images (is.contents part)
-        (held-by part (shapes_by geometry is.log is.contents part) refl));
+    each = λ part. subst Ascends (sym (is.back part))
+        (records-ascend part images (is.contents part) (ascend part));
     catalog = subst (IsCatalog geometry) (sym (is.back 0)) is.stands.catalog;
     inside = λ part shape laid. is.inside part shape (sym (laid-same part) ∙ laid);
     images = subst (λ (c : Content). All (CanPutBack (shape_by geometry c)) images)
@@ -313,18 +291,20 @@ module _ (geometry : Geometry) (number : ℕ) (now : Seen) (recovered : ℕ → 
     alone = is.alone;
     others = λ part none. let laid = sym (laid-same part) ∙ none in
         is.back part
-        ∙ ap (put_back part images) (is.stands.others part laid)
+        ∙ ap (λ (c : Content). put_back part images (standing c)) (is.stands.others part laid)
         ∙ none-back (shapes_by geometry is.log is.contents) part laid images is.images;
     olds = λ part place image there. sym (item-back part place
-        ∙ ap (λ (o : Option BeforeImage). kept_or o (item_at (is.contents part) place)) there);
+        ∙ ap (λ (o : Option BeforeImage). kept_or o
+        (standing_of (item_at (is.contents part) place))) there);
   }
 
   item-of : (part : ℕ) (place : List ℕ) (found : Option Item)
       → found ≡ item_at (is.contents part) place
       → IsItemOf part images (recovered part) place found
   item-of part place found same none =
-      same ∙ sym (item-back part place
-      ∙ ap (λ (o : Option BeforeImage). kept_or o (item_at (is.contents part) place)) none)
+      ap standing_of same ∙ sym (item-back part place
+      ∙ ap (λ (o : Option BeforeImage). kept_or o (standing_of (item_at (is.contents part) place)))
+      none)
 
   -- ---- each part in blocks of its own
 
@@ -387,12 +367,12 @@ module _ (geometry : Geometry) (number : ℕ) (now : Seen) (recovered : ℕ → 
       on = on;
       past = λ n inside. past n (part_no shape).0
           (first-owned shape owners now safe.sound n inside);
-      ready = record {
+      ready = λ known attached. record {
         rests = forced-rests shape owners now on forced (is.contents (part_no shape).0)
             (is.stands.laid (part_no shape).0 shape laid) (within (part_no shape).0 shape laid);
         room = safe.room;
-        knows = attached-knows shape now;
-        no_split = attached-no-split shape now.cur;
+        knows = attached-knows shape known now attached;
+        no_split = attached-no-split shape known now.cur attached;
       };
       firm = λ place found held. item-here shape owners now forced safe.sound place found held;
       fits = All-weaker (CanPutBack (shapes_by geometry is.log is.contents)) (FitsPart shape)
@@ -435,25 +415,55 @@ module _ (geometry : Geometry) (number : ℕ) (now : Seen) (recovered : ℕ → 
             (sym (same-records content log)) safe-by;
       }
 
-      -- Its units of recovery may be undone, by these parts.
-      pub settled-undone : (shapes : List Shape)
-          → All (λ (shape : Shape). shapes_by geometry is.log is.contents (part_no shape).0
-          ≡ Some shape) shapes → All (IsCovered shapes) images
-          → IsSettled number owners (made geometry is.log) recovered shapes now
-      settled-undone shapes laid covered = record {
-        safe = settled-safe;
-        opened = record {
-          laid = All-weaker
-              (λ (shape : Shape). shapes_by geometry is.log is.contents (part_no shape).0
-              ≡ Some shape)
-              (λ (shape : Shape). shape_by geometry (recovered 0) (part_no shape).0 ≡ Some shape)
-              (λ shape there. laid-same (part_no shape).0 ∙ there) shapes laid;
-          records = same-records;
-        };
-        firm = All-weaker
-            (λ (shape : Shape). shapes_by geometry is.log is.contents (part_no shape).0
-            ≡ Some shape)
-            (λ (shape : Shape). IsAllFirm shape now)
-            (λ shape there. (part-opened shape there).firm) shapes laid;
-        covered = covered;
+-- Its units of recovery may be undone, by these parts, where contents of which it recovers to the
+-- records have what the blocks have with the before-images put back.
+module _ (geometry : Geometry) (number : ℕ) (now : Seen) (contents : ℕ → Content)
+    (is : Recovers geometry number now.cur (standing_all contents)) (of : IsOf geometry now)
+    (forced : AllForced now.count now.cur now.may) (owners : Owners)
+    (past : IsPastLog geometry owners)
+    (within : (part : ℕ) (shape : Shape) → shapes_by geometry is.log is.contents part ≡ Some shape
+    → StaysIn shape owners now.cur) (allowed : IsAllowed geometry)
+    (stands : LogStands (made geometry is.log) now)
+    (back : AreBackOf geometry is.log.records contents now.cur)
+    (ascends : (part : ℕ) → Ascends (contents part)) where
+  -- the contents lay the parts as what is recovered does
+  laid-whole : (part : ℕ) → shape_by geometry (contents 0) part
+      ≡ shapes_by geometry is.log is.contents part
+  laid-whole part = sym (shape-stands geometry (contents 0) part)
+      ∙ laid-same geometry number now (standing_all contents) is of forced part
+
+  settled-part : (part : ℕ) (shape : Shape)
+      → shapes_by geometry is.log is.contents part ≡ Some shape
+      → shape_by geometry (contents 0) part ≡ Some shape
+      → IsSettledPart shape owners part (images_of is.log.records) (contents part) now
+  settled-part part shape found laid =
+      let on : IsOn shape now =
+      inside-on geometry shape now of.count of.size (is.inside part shape found) in
+      let rests = forced-rests shape owners now on forced (is.contents part)
+      (is.stands.laid part shape found) (within part shape found) in
+      record {
+        rests = rests;
+        firm = item-here shape owners now forced (rest-sound shape owners now rests);
+        back = back part shape laid;
       }
+
+  pub settled-undone : (shapes : List Shape)
+      → All (λ (shape : Shape). shapes_by geometry is.log is.contents (part_no shape).0
+      ≡ Some shape) shapes → All (IsCovered shapes) (images_of is.log.records)
+      → IsSettled number owners (made geometry is.log) contents shapes now
+  settled-undone shapes laid covered = record {
+    safe = settled-safe geometry number now (standing_all contents) is of forced owners past within
+        allowed stands;
+    ascends = ascends;
+    opened = record {
+      laid = All-weaker
+          (λ (shape : Shape). shapes_by geometry is.log is.contents (part_no shape).0
+          ≡ Some shape)
+          (λ (shape : Shape). shape_by geometry (contents 0) (part_no shape).0 ≡ Some shape)
+          (λ shape there. laid-whole (part_no shape).0 ∙ there) shapes laid;
+      records = same-records geometry number now (standing_all contents) is of forced owners past
+          within;
+    };
+    parts = λ part shape there. settled-part part shape (sym (laid-whole part) ∙ there) there;
+    covered = covered;
+  }

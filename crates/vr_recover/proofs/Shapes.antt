@@ -8,8 +8,7 @@ use Rattle.std.specs.Option.{option_and_then}
 use Rattle.std.proofs.lemmas.Bool.{ne_eqb, true≢false}
 use Rattle.std.proofs.lemmas.Bool.Decides.{Decides-eqb}
 use Rattle.std.proofs.lemmas.List.Elements.{All-cons, All-nil}
-use Rattle.std.proofs.lemmas.Option.{get_or_from_slice_get, slice_get-get_or}
-use Rattle.std.proofs.lemmas.Option.{slice_get_within}
+use Rattle.std.proofs.lemmas.Option.{get_or_from_slice_get, slice_get-get_or, slice_get_within}
 use Rattle.vr_types.specs.declared.geometry.Geometry.{Geometry}
 use Rattle.vr_types.specs.declared.unit.AreaNo.{AreaNo}
 use Rattle.vr_types.specs.declared.unit.Kind.{Kind}
@@ -37,7 +36,8 @@ number-kind : (geometry : Geometry) (part area : ℕ) (definition : Definition) 
     → (part_no shape).0 ≡ part
 number-kind geometry part area definition kinds.Keyed shape is =
     ap (λ (s : Shape). (part_no s).0) (sym (some-shape _ shape is))
-number-kind geometry part area definition kinds.Entry shape is = absurd cc
+number-kind geometry part area definition kinds.Entry shape is =
+    ap (λ (s : Shape). (part_no s).0) (sym (some-shape _ shape is))
 number-kind geometry part area definition kinds.Relative shape is =
     ap (λ (s : Shape). (part_no s).0) (sym (some-shape _ shape is))
 

@@ -14,9 +14,9 @@ use Rattle.vr_attach.proofs.CallerLemmas.{laid-as, stays-owned, stays-reached}
 use Rattle.vr_attach.proofs.Walks.{damaged_none as part_damaged}
 use Rattle.vr_mount.specs.Areas.{BeginsWith, IsLaidIn}
 use Rattle.vr_part.specs.Attached.{IsAnyShown}
-use Rattle.vr_relative.proofs.CallerLemmas.{damaged-nowhere}
+use Rattle.vr_chained.proofs.CallerLemmas.{damaged-nowhere}
 use Rattle.vr_space.specs.Owners.{Owners}
-use Rattle.vr_space.specs.Part.{InFirstArea, KeyedShape, RelativeShape, Shape, Stands, StaysIn}
+use Rattle.vr_space.specs.Part.{InFirstArea, KeyedShape, NumberedShape, Shape, Stands, StaysIn}
 use Rattle.vr_space.specs.Part.{part_no}
 use Rattle.vr_space.specs.Rosters.{IsOwnArea, Numbered}
 use Rattle.vr_recover.specs.Opening.{AsFirst, AsReached, IsTaken}
@@ -64,7 +64,7 @@ head-inside : (geometry : Geometry) (area : ℕ) (shape : Shape)
     → BeginsWith (head_block geometry area) shape → InFirstArea shape (head_block geometry area)
 head-inside geometry area (KeyedShape part) begins =
     (omega (arith, begins), omega (arith, begins))
-head-inside geometry area (RelativeShape part) begins = record {
+head-inside geometry area (NumberedShape part) begins = record {
   from = omega (arith, begins);
   to = omega (arith, begins);
 }
@@ -104,10 +104,10 @@ module _ (geometry : Geometry) (entries : List CatEntry) (owners : Owners) (imag
       (some-number there.other part (sym (reached-owner at part area there) ∙ mine))
 
   own-owner : (part : ℕ) (numbered : Numbered) → shape_in geometry entries part
-      ≡ Some (RelativeShape numbered) → (area : ℕ) → IsOwnArea numbered owners area
+      ≡ Some (NumberedShape numbered) → (area : ℕ) → IsOwnArea numbered owners area
       → owners (head_block geometry area) ≡ Some part
   own-owner part numbered laid area own =
-      let mine = laid-as geometry entries part (RelativeShape numbered) laid in
+      let mine = laid-as geometry entries part (NumberedShape numbered) laid in
       subst (λ (g : Geometry). owners (head_block g area) ≡ Some part) mine.areas
       (own.owned (head_block numbered.geometry area)
       (record { from = omega arith; to = omega arith }) ∙ ap Some mine.number)
@@ -119,8 +119,8 @@ module _ (geometry : Geometry) (entries : List CatEntry) (owners : Owners) (imag
   any-none at part (KeyedShape keyed) laid stands block rule shown =
       part_damaged keyed shown.0 (area_count geometry) image block shown.2.rule shown.2.damaged
       stands
-  any-none at part (RelativeShape numbered) laid stands block rule shown =
+  any-none at part (NumberedShape numbered) laid stands block rule shown =
       damaged-nowhere numbered (IsTaken geometry entries at image part) image owners block
-      shown.rule shown.damaged (within part (RelativeShape numbered) laid)
+      shown.rule shown.damaged (within part (NumberedShape numbered) laid)
       (λ area taken own. taken-owner at part area taken
       (own-owner part numbered laid area own))

@@ -7,8 +7,7 @@ use Rattle.std.specs.Prelude.{Contains, nat_eq, slice_get}
 use Rattle.std.specs.List.{AllByRecursion, IsDistinct}
 use Rattle.std.specs.Option.{option_map}
 use Rattle.std.proofs.lemmas.Bool.Decides.{eqb_tells}
-use Rattle.std.proofs.lemmas.Option.{get_or_from_slice_get, slice_get-map}
-use Rattle.std.proofs.lemmas.Option.{slice_get_within}
+use Rattle.std.proofs.lemmas.Option.{get_or_from_slice_get, slice_get-map, slice_get_within}
 use Rattle.vr_types.specs.Geometry.{area_count, head_block}
 use Rattle.vr_types.specs.Image.{Image}
 use Rattle.vr_types.specs.Seen.{Seen}
@@ -20,11 +19,11 @@ use Rattle.vr_attach.specs.Chain.{IsChainShown, IsReachedBefore}
 use Rattle.vr_attach.specs.Laid.{HasArea, ReachesArea, shape_in, shape_of}
 use Rattle.vr_mount.specs.Areas.{BeginsWith, IsLaidIn}
 use Rattle.vr_part.specs.Any.{known_any, shape_any}
-use Rattle.vr_part.specs.Attached.{IsAnyShown, attached_known}
+use Rattle.vr_part.specs.Attached.{IsAnyShown, IsAttachedWith}
 use Rattle.vr_part.specs.declared.any.AnyPart.{AnyPart}
-use Rattle.vr_relative.specs.Walked.{IsTakenIn}
+use Rattle.vr_chained.specs.Walked.{IsTakenIn}
 use Rattle.vr_space.specs.Known.{Known}
-use Rattle.vr_space.specs.Part.{KeyedShape, RelativeShape, Shape, part_no}
+use Rattle.vr_space.specs.Part.{KeyedShape, NumberedShape, Shape, part_no}
 use Rattle.vr_space.specs.Rosters.{Numbered, areas_from, chain_of}
 use Rattle.vr_recover.specs.Found.{AreAdded, AreKnown, MayAdd}
 use Rattle.vr_recover.specs.Opening.{AsFirst, AsReached, IsEntryShown, IsHeldBy, IsTaken}
@@ -84,7 +83,7 @@ module _ (part : Numbered) (image : Image) (Taken Other : ℕ → Type 0)
             shown.damaged.walked.new i area next below is leads (before-from i next before);
       };
       shown = ⊎_elim (λ roster. inl roster)
-          (λ further. inr (⊎_elim (λ slots. inl slots)
+          (λ further. inr (⊎_elim (λ filled. inl filled)
           (λ twice. inr (record {
             sound = twice.sound;
             next = twice.next;
@@ -123,39 +122,41 @@ told-before entries n all = (all-before _ entries n all.0, distinct-before entri
 -- ---- what the walk has marked
 
 -- what an attached part has, it reaches
-has-reaches : (geometry : Geometry) (shape : Shape) (image : Image) (area : ℕ)
-    → HasArea geometry shape (attached_known shape image) area
+has-reaches : (geometry : Geometry) (shape : Shape) (known : Known) (image : Image) (area : ℕ)
+    → IsAttachedWith shape known image → HasArea geometry shape known area
     → ReachesArea geometry shape image area
-has-reaches geometry (KeyedShape part) image area has = has
-has-reaches geometry (RelativeShape part) image area has = has
+has-reaches geometry (KeyedShape part) known image area attached has = has
+has-reaches geometry (NumberedShape part) known image area attached has =
+    subst (λ (areas : List ℕ). Contains areas area) attached.2.chain.areas has
 
-reaches-has : (geometry : Geometry) (shape : Shape) (image : Image) (area : ℕ)
-    → ReachesArea geometry shape image area
-    → HasArea geometry shape (attached_known shape image) area
-reaches-has geometry (KeyedShape part) image area reaches = reaches
-reaches-has geometry (RelativeShape part) image area reaches = reaches
+reaches-has : (geometry : Geometry) (shape : Shape) (known : Known) (image : Image) (area : ℕ)
+    → IsAttachedWith shape known image → ReachesArea geometry shape image area
+    → HasArea geometry shape known area
+reaches-has geometry (KeyedShape part) known image area attached reaches = reaches
+reaches-has geometry (NumberedShape part) known image area attached reaches =
+    subst (λ (areas : List ℕ). Contains areas area) (sym attached.2.chain.areas) reaches
 
 -- What is known of parts as they were attached: they have the areas that they reach.
 module _ (geometry : Geometry) (parts : List AnyPart) (image : Image) (known : AreKnown parts image)
   where
     known-at : (k : ℕ) (one : AnyPart) → slice_get parts k ≡ Some one
-        → known_any one ≡ attached_known (shape_any one) image
-    known-at k one there = subst (λ (p : AnyPart). known_any p ≡ attached_known (shape_any p) image)
+        → IsAttachedWith (shape_any one) (known_any one) image
+    known-at k one there = subst
+        (λ (p : AnyPart). IsAttachedWith (shape_any p) (known_any p) image)
         (get_or_from_slice_get parts k one one there)
         (known k one (slice_get_within parts k one there))
 
     pub reached-of : (k : ℕ) (one : AnyPart) (area : ℕ) → slice_get parts k ≡ Some one
         → HasArea geometry (shape_any one) (known_any one) area
         → ReachesArea geometry (shape_any one) image area
-    reached-of k one area there has = has-reaches geometry (shape_any one) image area
-        (subst (λ (n : Known). HasArea geometry (shape_any one) n area) (known-at k one there) has)
+    reached-of k one area there has =
+        has-reaches geometry (shape_any one) (known_any one) image area (known-at k one there) has
 
     pub has-of : (k : ℕ) (one : AnyPart) (area : ℕ) → slice_get parts k ≡ Some one
         → ReachesArea geometry (shape_any one) image area
         → HasArea geometry (shape_any one) (known_any one) area
-    has-of k one area there reaches =
-        subst (λ (n : Known). HasArea geometry (shape_any one) n area) (sym (known-at k one there))
-        (reaches-has geometry (shape_any one) image area reaches)
+    has-of k one area there reaches = reaches-has geometry (shape_any one) (known_any one) image
+        area (known-at k one there) reaches
 
 module _ (geometry : Geometry) (entries : List CatEntry) (at : ℕ) (parts : List AnyPart)
     (owners : List (Option PartNo)) (may : MayAdd geometry entries)
@@ -219,11 +220,11 @@ module _ (geometry : Geometry) (entries : List CatEntry) (at : ℕ) (parts : Lis
 
     -- its own first area begins its chain
     first-begins : (shape : Shape) → shape_in geometry entries entry.part.0 ≡ Some shape
-        → 0 < area_count geometry → (part : Numbered) → shape ≡ RelativeShape part
+        → 0 < area_count geometry → (part : Numbered) → shape ≡ NumberedShape part
         → part.geometry ≡ geometry → (area : ℕ) → IsLaidIn geometry entries entry.part.0 area
         → Contains (take 1 (chain_of part image)) area
     first-begins shape laid some part is same area first =
-        let mine : first.shape ≡ RelativeShape part = some-is (sym first.laid ∙ laid) ∙ is in
+        let mine : first.shape ≡ NumberedShape part = some-is (sym first.laid ∙ laid) ∙ is in
         let begins : head_block geometry part.first ≡ head_block geometry area =
         subst (λ (g : Geometry). head_block g part.first ≡ head_block geometry area) same
         (subst (BeginsWith (head_block geometry area)) mine first.begins) in
@@ -234,15 +235,15 @@ module _ (geometry : Geometry) (entries : List CatEntry) (at : ℕ) (parts : Lis
 
     shown-by : (shape : Shape) → shape_in geometry entries entry.part.0 ≡ Some shape
         → 0 < area_count geometry
-        → ((part : Numbered) → shape ≡ RelativeShape part → part.geometry ≡ geometry)
+        → ((part : Numbered) → shape ≡ NumberedShape part → part.geometry ≡ geometry)
         → (block rule : ℕ) → IsAnyShown geometry shape (IsTakenIn owners) image block rule
         → IsAnyShown geometry shape (IsTaken geometry entries at image entry.part.0) image block
         rule
     shown-by (KeyedShape part) laid some same block rule shown = shown
-    shown-by (RelativeShape part) laid some same block rule shown = chain-to part image
+    shown-by (NumberedShape part) laid some same block rule shown = chain-to part image
         (IsTakenIn owners) (IsTaken geometry entries at image entry.part.0)
         (λ area marked. ⊎_elim (λ taken. inl taken)
-        (λ own. inr (first-begins (RelativeShape part) laid some part refl (same part refl) area
+        (λ own. inr (first-begins (NumberedShape part) laid some part refl (same part refl) area
         own))
         (marked-taken area marked))
         (λ area taken. taken-marked entry.part.0 area taken) block rule shown
@@ -250,7 +251,7 @@ module _ (geometry : Geometry) (entries : List CatEntry) (at : ℕ) (parts : Lis
     -- so its part is shown
     pub entry-shown : (now : Seen) → now.cur ≡ image → slice_get entries at ≡ Some entry
         → (shape : Shape) → shape_of geometry entry ≡ Some shape → 0 < area_count geometry
-        → ((part : Numbered) → shape ≡ RelativeShape part → part.geometry ≡ geometry)
+        → ((part : Numbered) → shape ≡ NumberedShape part → part.geometry ≡ geometry)
         → (block rule : ℕ) → IsAnyShown geometry shape (IsTakenIn owners) image block rule
         → IsEntryShown geometry entries now block rule
     entry-shown now cur there shape laid some same block rule shown = record {

@@ -34,20 +34,19 @@ use Rattle.vr_mount.specs.Areas.{AreOn, AreOwners, BeginsWith, IsLaidIn}
 use Rattle.vr_mount.specs.Numbers.{laid_area}
 use Rattle.vr_mount.specs.Records.{bytes_of}
 use Rattle.vr_part.specs.Any.{known_any, shape_any}
-use Rattle.vr_part.specs.Attached.{attached_known}
+use Rattle.vr_part.specs.Attached.{IsAttachedWith}
 use Rattle.vr_part.specs.declared.any.AnyPart.{AnyPart}
 use Rattle.vr_part.specs.declared.any.AnyPart.TheVariants.{Keyed}
-use Rattle.vr_volume.specs.PutBack.{images_of, lengths_kept, oldest}
+use Rattle.vr_volume.specs.PutBack.{AreAlone, images_of, lengths_kept, oldest}
 pub use Rattle.vr_recover.specs.Images.{AreOff, CannotGoBack, HasRoomOf, MayGoBack}
 use Rattle.vr_recover.specs.Opening.{AreOwnersBy, HasNoSplit, IsCatalogShown, IsEntryShown}
 use Rattle.vr_recover.specs.Opening.{IsHeldBy, OwnsAreas, shapes_laid}
-use Rattle.vr_recover.specs.Undone.{FitsPart, HasPart, HaveOwnNumbers}
-use Rattle.vr_recover.specs.Undone.{IsReady}
+use Rattle.vr_recover.specs.Undone.{FitsPart, HasPart, HaveOwnNumbers, IsReady}
 use Rattle.vr_recover.specs.declared.open_no.OpenNo.{OpenNo}
 use Rattle.vr_recover.specs.declared.open_no.OpenNo.TheVariants as nos
 use Rattle.vr_recover.specs.declared.open_no.OpenNo.TheVariants.{Damaged, Version, Read, Write, Memory}
 use Rattle.vr_recover.specs.declared.open_no.Unserved.{Unserved}
-use Rattle.vr_recover.specs.Unserved.{IsEntryCause, IsLogCause, IsPlain, IsServedCluster, IsServedKind}
+use Rattle.vr_recover.specs.Unserved.{IsEntryCause, IsLogCause, IsPlain, IsServedCluster}
 
 -- an answer that says of the blocks what P does where they are damaged, and Q where they aren't served
 abbrev pub ShowsBoth : (ℕ → ℕ → Type 0) → (ℕ → Unserved → Type 0) → OpenNo → Type 0
@@ -80,7 +79,7 @@ IsLogNo geometry content block cause = (block ≡ 1) × IsLogCause geometry cont
 -- parts as they were attached know of their blocks what these have
 abbrev pub AreKnown : List AnyPart → Image → Type 0
 AreKnown parts image =
-    All (λ (part : AnyPart). known_any part ≡ attached_known (shape_any part) image) parts
+    All (λ (part : AnyPart). IsAttachedWith (shape_any part) (known_any part) image) parts
 
 -- the blocks of parts of these shapes stand for contents
 abbrev pub AllStand : List Shape → Image → Type 0
@@ -90,7 +89,6 @@ AllStand shapes image = All (λ (shape : Shape). Stands shape image) shapes
 pub record LaysIn (entry : CatEntry) (area : ℕ) (definition : Definition) : Type 0 where
   pub area_is : laid_area entry ≡ Some area
   pub definition_is : cluster_definition entry.entry_kind entry ≡ Some definition
-  pub kind : IsServedKind definition.kind
   pub shape : (geometry : Geometry) → shape_of geometry entry
       ≡ shape_by_kind geometry entry.part.0 area definition definition.kind
 
@@ -258,6 +256,7 @@ pub record IsUndoable (log : LogNow) (records : List LogRecord) (parts : List An
   pub forced : IsForced log
   pub fits : All (λ (shape : Shape). All (FitsPart shape) images) (map shape_any parts)
   pub images_are : images ≡ images_of log.records
+  pub alone : AreAlone (images_of log.records)
 
 -- a part is ready, with room for those of these that are its own
 abbrev pub IsPartReady : Owners → List BeforeImage → Seen → AnyPart → Type 0

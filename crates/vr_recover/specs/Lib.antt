@@ -1,3 +1,4 @@
+pub mod Recovered
 pub mod Undone
 pub mod OpenNo
 pub mod Images

@@ -29,8 +29,10 @@ use Rattle.vr_part.specs.Any.{known_any, shape_any}
 use Rattle.vr_part.specs.Attached.{IsAnyShown}
 use Rattle.vr_part.specs.declared.any.AnyPart.{AnyPart}
 use Rattle.vr_volume.specs.PutBack.{images_of}
+use Rattle.vr_recover.specs.Recovered.{standing_all}
 use Rattle.vr_volume.specs.Volume.{Recovers}
 use Rattle.vr_recover.specs.Images.{CannotGoBack}
+pub use Rattle.vr_recover.specs.Recovered.{IsRecovered}
 use Rattle.vr_recover.specs.Undone.{IsLaidPastLog, IsReady, IsUndone}
 use Rattle.vr_recover.specs.Unserved.{IsServedCluster, IsUnserved}
 use Rattle.vr_recover.specs.declared.open_no.OpenNo.{OpenNo}
@@ -211,9 +213,9 @@ pub record AreLaid (geometry : Geometry) (entries : List CatEntry) (shapes : Lis
     pub there : (part : ℕ) (shape : Shape) → shape_in geometry entries part ≡ Some shape
         → (at : ℕ) × (slice_get shapes at ≡ Some shape)
 
--- What is handed out, whatever the blocks have: the catalog has key-sequenced and relative clusters
--- alone, the parts are those that it lays, its own first, each on blocks of the volume past the log,
--- in areas that are its own, and the log has no record.
+-- What is handed out, whatever the blocks have: the catalog has clusters alone, the parts are
+-- those that it lays, its own first, each on blocks of the volume past the log, in areas that are
+-- its own, and the log has no record.
 pub record IsHandedOut (geometry : Geometry) (entries : List CatEntry) (parts : List AnyPart)
     (log : LogNow) (owners : List (Option PartNo)) (now : Seen) : Type 0 where
   pub allowed : IsAllowed geometry
@@ -232,13 +234,16 @@ pub record IsHandedOut (geometry : Geometry) (entries : List CatEntry) (parts : 
   pub split : All HasNoSplit parts
   pub owners_are : AreOwnersBy geometry parts owners
 
--- And by what the blocks had and have: they were a volume's, which recovered to these contents, and
--- are now a safe one's, with these contents committed and without units of recovery. Each part is
--- ready. Both are so by who owns the areas: each area is its whose blocks reach it.
+-- And by what the blocks had and have: they were a volume's, which recovered to the records of
+-- these contents, and are now a safe one's, with these committed and without units of recovery.
+-- What was withdrawn is where the blocks had it, and where an added record of an entry-sequenced
+-- part was taken out. Each part is ready. Both are so by who owns the areas: each area is its whose
+-- blocks reach it.
 pub record IsOpenedBy (number : ℕ) (geometry : Geometry) (entries : List CatEntry)
     (parts : List AnyPart) (log : LogNow) (owners : List (Option PartNo))
     (contents : ℕ → Content) (old new : Seen) : Type 0 where
-  pub volume : IsVolume number geometry contents old
+  pub volume : IsVolume number geometry (standing_all contents) old
+  pub whole : IsRecovered geometry number contents old.cur
   pub undone : IsUndone number (owner_of geometry owners) log contents new
   pub stands : LogStands log new
   pub ready : All (λ (part : AnyPart). IsReady (shape_any part) (owner_of geometry owners)

@@ -1,9 +1,9 @@
 -- What is put back into a part as a volume is opened, and what the part reads then. The rules are
 -- this project's own.
-use Rattle.std.specs.Prelude.{◌≡◌, ◌<◌, ◌≤◌, ℕ, true, false, List, All, IfSome, Option, Some, None}
+use Rattle.std.specs.Prelude.{◌≡◌, ◌<◌, ℕ, true, false, List, All, IfSome, Option, Some, None}
 use Rattle.std.specs.Prelude.{◌≢◌, length, slice_get}
 use Rattle.std.specs.Option.{option_and_then}
-use Rattle.vr_types.specs.Content.{Content, Item, item_at, record_of}
+use Rattle.vr_types.specs.Content.{Ascends, Content, Item, item_at, record_of}
 use Rattle.vr_types.specs.Image.{Image}
 use Rattle.vr_types.specs.Seen.{Seen}
 use Rattle.vr_types.specs.declared.geometry.Geometry.{Geometry}
@@ -12,8 +12,7 @@ use Rattle.vr_types.specs.declared.unit.Unit.{Unit as UnitOfRecovery}
 use Rattle.vr_space.specs.Known.{Known}
 use Rattle.vr_space.specs.Owners.{Owners}
 use Rattle.vr_space.specs.Part.{HasKeptRoom, InFirstArea, IsAtRest, IsFirm, IsOn, IsPlaceOf}
-use Rattle.vr_space.specs.Part.{IsRecordOf, Knows, MayHold, Shape}
-use Rattle.vr_space.specs.Part.{item_of, part_no}
+use Rattle.vr_space.specs.Part.{IsRecordOf, Knows, MayHold, Shape, item_of, left_by, part_no}
 use Rattle.vr_space.specs.Room.{Lengths, length_at}
 use Rattle.vr_history.specs.State.{BeforeImage}
 use Rattle.vr_log.specs.Content.{Content as LogContent}
@@ -21,9 +20,10 @@ use Rattle.vr_log.specs.Live.{is_in, live_in}
 use Rattle.vr_log.specs.LogNow.{IsLogOf, LogNow}
 use Rattle.vr_log.specs.declared.record.LogRecord.{LogRecord}
 use Rattle.vr_log.specs.declared.record.LogRecord.TheVariants.{Before, End}
-use Rattle.vr_part.specs.Attached.{attached_known}
+use Rattle.vr_part.specs.Attached.{IsAttachedWith}
 use Rattle.vr_volume.specs.Laid.{shape_by}
 use Rattle.vr_volume.specs.PutBack.{images_of, lengths_kept}
+use Rattle.vr_recover.specs.Recovered.{IsBackOf, standing_all}
 use Rattle.vr_volume.specs.Safe.{IsSafe}
 
 -- Between two calls that put before-images back into it: the part is at rest, in the blocks that
@@ -35,10 +35,10 @@ pub record IsReady (shape : Shape) (owners : Owners) (known : Known) (kept : Len
   pub knows : Knows shape known now
   pub no_split : known.split ≡ None
 
--- room is kept for the record at the place, or there is none
+-- room is kept for the record at the place, of its length, or there is none
 abbrev pub IsKeptAt : Lengths → List ℕ → Option (List ℕ) → Type 0
-IsKeptAt kept place old = IfSome old (λ (bytes : List ℕ). (n : ℕ)
-    × (length_at kept place ≡ Some n) × (length bytes ≤ n))
+IsKeptAt kept place old =
+    IfSome old (λ (bytes : List ℕ). length_at kept place ≡ Some (length bytes))
 
 -- A before-image of a part is of a place of it, and a record that may stand there, or none.
 pub record IsFit (shape : Shape) (image : BeforeImage) : Type 0 where
@@ -54,23 +54,31 @@ abbrev pub HasKeptFor : Shape → Lengths → BeforeImage → Type 0
 HasKeptFor shape kept image = image.part ≡ (part_no shape).0
     → IsKeptAt kept image.place (option_and_then record_of image.old)
 
--- before-images of the part are items of the content
-abbrev pub IsItemIn : Shape → Content → BeforeImage → Type 0
-IsItemIn shape content image =
-    image.part ≡ (part_no shape).0 → image.old ≡ item_at content image.place
+-- the content has at the place of a before-image of the part what putting it back leaves there
+abbrev pub IsLeftIn : Shape → Content → Image → BeforeImage → Type 0
+IsLeftIn shape content now image = image.part ≡ (part_no shape).0
+    → item_at content image.place
+    ≡ left_by shape (item_of shape now image.place) (option_and_then record_of image.old)
 
--- the place of a before-image of the part reads its item in the content
+-- the place reads its item in the content
+abbrev pub ReadsAs : Shape → Content → Image → List ℕ → Type 0
+ReadsAs shape content now place = item_of shape now place ≡ item_at content place
+
+-- that of a before-image of the part does
 abbrev pub IsBackIn : Shape → Content → Image → BeforeImage → Type 0
-IsBackIn shape content now image = image.part ≡ (part_no shape).0
-    → item_of shape now image.place ≡ item_at content image.place
+IsBackIn shape content now image =
+    image.part ≡ (part_no shape).0 → ReadsAs shape content now image.place
 
 -- Calls put these before-images back into the part, and force them: what a crash left alone at a
--- place it leaves alone, and no place that had its item lost it.
+-- place it leaves alone, no place that had its item lost it, and what putting others back leaves is
+-- what it was.
 pub record ArePutBack (shape : Shape) (content : Content) (images : List BeforeImage)
     (old new : Seen) : Type 0 where
   pub back : All (IsBackIn shape content new.cur) images
-  pub stays : (image : BeforeImage) → IsBackIn shape content old.cur image
-      → IsBackIn shape content new.cur image
+  pub stays : (place : List ℕ) → ReadsAs shape content old.cur place
+      → ReadsAs shape content new.cur place
+  pub left : (image : BeforeImage) → IsLeftIn shape content old.cur image
+      → IsLeftIn shape content new.cur image
   pub firm : (place : List ℕ) → IsFirm shape old place → IsFirm shape new place
 
 -- each image has all records of the log
@@ -128,32 +136,51 @@ HasAll geometry contents now = (part : ℕ) (shape : Shape)
 abbrev pub alike : (ℕ → Content) → List LogRecord → ℕ → Content
 alike contents records = contents
 
--- The volume is safe by these owners, with these contents committed, and whatever a crash leaves of
--- its parts has their items: no before-image has to be put back any more.
+-- The volume is safe by these owners, with the records of these contents committed, and whatever a
+-- crash leaves of its parts has their items, what was withdrawn too: no before-image has to be put
+-- back any more.
 pub record IsUndone (number : ℕ) (owners : Owners) (log : LogNow) (contents : ℕ → Content)
     (now : Seen) : Type 0 where
-  pub safe : IsSafe log.geometry number owners log (alike contents) now
+  pub safe : IsSafe log.geometry number owners log (alike (standing_all contents)) now
+  pub ascends : (part : ℕ) → Ascends (contents part)
   pub all : HasAll log.geometry contents now
 
+-- The part with this number as a crash left it: it is at rest, in the blocks that these owners give
+-- it, a crash leaves each of its places alone, and these before-images, put back, leave the
+-- content.
+pub record IsSettledPart (shape : Shape) (owners : Owners) (part : ℕ) (images : List BeforeImage)
+    (content : Content) (now : Seen) : Type 0 where
+  pub rests : IsAtRest shape owners now
+  pub firm : IsAllFirm shape now
+  pub back : IsBackOf shape part images content now.cur
+
+-- it is so of each part that the contents lay
+abbrev pub AreSettled : Geometry → Owners → List BeforeImage → (ℕ → Content) → Seen → Type 0
+AreSettled geometry owners images contents now = (part : ℕ) (shape : Shape)
+    → shape_by geometry (contents 0) part ≡ Some shape
+    → IsSettledPart shape owners part images (contents part) now
+
 -- What undoing a crash's units of recovery begins with: the volume is safe by these owners, with
--- these contents committed, these parts are laid by them, a crash leaves each of their places
--- alone, and the part of each before-image is one of them.
+-- the records of these contents committed, these parts are laid by them, each part is as a crash
+-- left it, and the part of each before-image is one of these.
 pub record IsSettled (number : ℕ) (owners : Owners) (log : LogNow) (contents : ℕ → Content)
     (shapes : List Shape) (now : Seen) : Type 0 where
-  pub safe : IsSafe log.geometry number owners log (alike contents) now
+  pub safe : IsSafe log.geometry number owners log (alike (standing_all contents)) now
+  pub ascends : (part : ℕ) → Ascends (contents part)
   pub opened : AreOpened log.geometry log contents shapes
-  pub firm : All (λ (shape : Shape). IsAllFirm shape now) shapes
+  pub parts : AreSettled log.geometry owners (images_of log.records) contents now
   pub covered : All (IsCovered shapes) (images_of log.records)
 
 -- A part as it is opened: its blocks are there, past the log; it is at rest, in the blocks that
--- these owners give it, with no split under way and nothing met yet, and has room for what is kept;
--- a crash leaves each of its places alone; and each before-image of it may be put back.
+-- these owners give it, with no split under way and whatever it knows as it is attached, and has
+-- room for what is kept; a crash leaves each of its places alone; and each before-image of it may
+-- be put back.
 pub record IsOpenedPart (geometry : Geometry) (owners : Owners) (images : List BeforeImage)
     (shape : Shape) (now : Seen) : Type 0 where
   pub on : IsOn shape now
   pub past : IsLaidPastLog geometry shape
-  pub ready : IsReady shape owners (attached_known shape now.cur)
-      (lengths_kept images (part_no shape).0) now
+  pub ready : (known : Known) → IsAttachedWith shape known now.cur
+      → IsReady shape owners known (lengths_kept images (part_no shape).0) now
   pub firm : IsAllFirm shape now
   pub fits : All (FitsPart shape) images
 

@@ -7,10 +7,8 @@ use Rattle.vr_types.specs.Image.{block_at}
 use Rattle.vr_types.specs.LogSpace.{log_size}
 use Rattle.vr_types.specs.Seen.{Seen}
 use Rattle.vr_types.specs.declared.geometry.Geometry.{Geometry}
-use Rattle.vr_types.specs.declared.unit.Kind.{Kind}
-use Rattle.vr_types.specs.declared.unit.Kind.TheVariants as kinds
 use Rattle.vr_space.specs.Part.{StandsFor}
-use Rattle.vr_catalog.specs.Catalog.{cluster_definition, definition_in, entries_in}
+use Rattle.vr_catalog.specs.Catalog.{cluster_definition, entries_in}
 use Rattle.vr_catalog.specs.declared.definition.Definition.{Definition}
 use Rattle.vr_catalog.specs.declared.entry.CatEntry.{CatEntry}
 use Rattle.vr_catalog.specs.declared.entry.EntryKind.TheVariants.{Cluster}
@@ -28,15 +26,9 @@ use Rattle.vr_recover.specs.declared.open_no.Unserved.TheVariants.{CatalogImage,
 
 -- ---- what is served
 
--- clusters of this kind are
-abbrev pub IsServedKind : Kind → Type 0
-IsServedKind kinds.Keyed = Unit {0}
-IsServedKind kinds.Entry = ⊥
-IsServedKind kinds.Relative = Unit {0}
-
--- an entry of a key-sequenced or relative cluster
+-- an entry of a cluster, of any kind
 abbrev pub IsServedCluster : CatEntry → Type 0
-IsServedCluster entry = (entry.entry_kind ≡ Cluster) × IsServedKind (definition_in entry).kind
+IsServedCluster entry = entry.entry_kind ≡ Cluster
 
 -- the longest record of a cluster has room in an interval of its own
 abbrev pub IsPlain : Geometry → CatEntry → Type 0

@@ -8,6 +8,7 @@ ghost use Rattle.vr_space.specs.Owners.{Owners};
 ghost use Rattle.vr_log.specs.Live.{live_in};
 ghost use Rattle.vr_log.specs.LogNow.{IsForced, IsOf, next_generation};
 ghost use Rattle.vr_log.specs.Standing.{InLog, LogStands};
+ghost use Rattle.vr_recover.specs.Recovered.{standing_all};
 ghost use Rattle.vr_volume.specs.Volume.{Recovers};
 ghost use Rattle.vr_mount.specs.Touched.{Anything};
 ghost use Rattle.vr_recover.specs.Undone.{IsOut, IsUndone};
@@ -32,7 +33,7 @@ fn back_out<B: Blocks>(
         (contents : ℕ → Content)
         → IsUndone number owners log.old contents (B.seen blocks.old)
         → Guards (B.seen blocks.old) (B.seen blocks.new)
-        (λ image. Recovers log.old.geometry number image contents) }
+        (λ image. Recovers log.old.geometry number image (standing_all contents)) }
     ensures undone { IsTrue B.tells → OnOk result ((number : ℕ) (owners : Owners)
         (contents : ℕ → Content)
         → IsUndone number owners log.old contents (B.seen blocks.old)
@@ -70,7 +71,7 @@ fn back_out_all<B: Blocks>(
         (contents : ℕ → Content)
         → IsUndone number owners log.old contents (B.seen blocks.old)
         → Guards (B.seen blocks.old) (B.seen blocks.new)
-        (λ image. Recovers log.old.geometry number image contents) }
+        (λ image. Recovers log.old.geometry number image (standing_all contents)) }
     ensures undone { IsTrue B.tells → OnOk result ((number : ℕ) (owners : Owners)
         (contents : ℕ → Content)
         → IsUndone number owners log.old contents (B.seen blocks.old)
@@ -107,7 +108,7 @@ pub(crate) fn end_all<B: Blocks>(
         (contents : ℕ → Content)
         → IsUndone number owners log.old contents (B.seen blocks.old)
         → Guards (B.seen blocks.old) (B.seen blocks.new)
-        (λ image. Recovers log.old.geometry number image contents) }
+        (λ image. Recovers log.old.geometry number image (standing_all contents)) }
     ensures undone { IsTrue B.tells → log.old.generation + 1 < 2 ^ 64
         → OnOk result ((number : ℕ) (owners : Owners)
         (contents : ℕ → Content)

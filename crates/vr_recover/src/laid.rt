@@ -12,7 +12,7 @@ use crate::open_no::OpenNo;
 use std::alloc::Global;
 use vr_catalog::{CatEntry, Definition};
 use vr_part::{AnyPart, attach_part};
-use vr_types::{Blocks, Geometry, Kind, OutOfMemory, Space};
+use vr_types::{Blocks, Geometry, OutOfMemory, Space};
 
 /// Adds a part.
 pub(crate) fn add(parts: &mut Vec<AnyPart>, part: AnyPart) -> Result<(), OutOfMemory>
@@ -28,10 +28,7 @@ fn laid_by(entry: &CatEntry) -> Option<(u32, Definition)>
 {
     let definition = entry.cluster_definition()?;
     let area = entry.first_area?;
-    match definition.kind {
-        Kind::Keyed | Kind::Relative => Some((area.0, definition)),
-        Kind::Entry => None,
-    }
+    Some((area.0, definition))
 }
 
 /// Attaches the part of the entry at this index, if it lays one, and adds it; the areas of its chain

@@ -1,7 +1,7 @@
 //! Laws of what opening begins with: each is the contract of a function that does nothing.
 ghost use Rattle.std.specs.Prelude.{◌≡◌, ◌+◌, ◌<◌, ◌≤◌, ℕ, List, All, Some, length, slice_set};
 ghost use Rattle.vr_types.specs.Blocks.{AllForced};
-ghost use Rattle.vr_types.specs.Content.{Content};
+ghost use Rattle.vr_types.specs.Content.{Ascends, Content};
 ghost use Rattle.vr_types.specs.Geometry.{IsAllowed};
 ghost use Rattle.vr_types.specs.Fields.{AreZeros};
 ghost use Rattle.vr_types.specs.Image.{Block, Image, block_at};
@@ -13,8 +13,10 @@ ghost use Rattle.vr_log.specs.Records.{bytes_of};
 ghost use Rattle.vr_log.specs.Spells.{Spells};
 ghost use Rattle.vr_log.specs.Standing.{InLog, LogStands};
 ghost use Rattle.vr_volume.specs.PutBack.{images_of};
+ghost use Rattle.vr_recover.specs.Recovered.{standing_all};
 ghost use Rattle.vr_volume.specs.Safe.{IsSafe};
 ghost use Rattle.vr_volume.specs.Volume.{Recovers, shapes_by};
+ghost use Rattle.vr_recover.specs.Recovered.{AreBackOf};
 ghost use Rattle.vr_recover.specs.Undone.{IsCovered, IsOpenedPart, IsSettled};
 
 use vr_types::Blocks;
@@ -44,16 +46,19 @@ pub fn settled_part_is_opened<B: Blocks>(blocks: &B)
         (B.seen blocks.now) }
 {}
 
-/// And its units of recovery may be undone, by parts of which each before-image has one.
+/// And its units of recovery may be undone, by parts of which each before-image has one: whose
+/// records it recovers to, the contents of its blocks with the before-images put back.
 pub fn settled_may_be_undone<B: Blocks>(blocks: &B)
-    ensures { (geometry : Geometry) (number : ℕ) (recovered : ℕ → Content)
-        (is : Recovers geometry number (B.seen blocks.now).cur recovered)
+    ensures { (geometry : Geometry) (number : ℕ) (contents : ℕ → Content)
+        (is : Recovers geometry number (B.seen blocks.now).cur (standing_all contents))
+        → AreBackOf geometry is.log.records contents (B.seen blocks.now).cur
+        → ((part : ℕ) → Ascends (contents part))
         → IsAllowed geometry → IsOf geometry (B.seen blocks.now)
         → AllForced (B.seen blocks.now).count (B.seen blocks.now).cur (B.seen blocks.now).may
         → LogStands (made geometry is.log) (B.seen blocks.now) → (shapes : List Shape)
         → All (λ shape. shapes_by geometry is.log is.contents (part_no shape).0 ≡ Some shape) shapes
         → All (IsCovered shapes) (images_of is.log.records)
-        → IsSettled number is.stands.owners (made geometry is.log) recovered shapes
+        → IsSettled number is.stands.owners (made geometry is.log) contents shapes
         (B.seen blocks.now) }
 {}
 

@@ -1,10 +1,11 @@
 //! Opening a volume, and undoing what a crash left of it without an end. It stands on the catalog
-//! (vr_catalog), the parts (vr_space, vr_keyed), what opening decides of header and catalog
+//! (vr_catalog), the parts of any kind (vr_part), what opening decides of header and catalog
 //! (vr_mount), the log (vr_log) and what the blocks of a volume stand for (vr_volume).
 //!
-//! It promises that what is opened is a volume, that it has then what its blocks recovered to, and
-//! when each answer comes. And that while before-images are put back and units of recovery are ended
-//! the blocks recover to what was committed, in every image of every moment.
+//! It promises that what is opened is a volume, that it has then what its blocks recovered to, with
+//! what was withdrawn where its address is, and when each answer comes. And that while
+//! before-images are put back and units of recovery are ended the blocks recover to what was
+//! committed, in every image of every moment.
 #![tactic(auto)]
 
 mod backing_out;

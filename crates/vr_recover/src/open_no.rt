@@ -12,7 +12,7 @@ pub enum Unserved {
     LogWithoutRoom,
     /// The log has a before-image of the catalog's own part, of a unit that is live.
     CatalogImage,
-    /// The catalog has an entry that is no key-sequenced or relative cluster.
+    /// The catalog has an entry that is no cluster: an alternate index or a path.
     OtherKind,
     /// The catalog has a cluster whose longest record has no room in an interval of its own.
     LongRecord,

@@ -1,25 +1,22 @@
-//! Which catalogs are served: those of key-sequenced and relative clusters, whose longest records
-//! have room in an interval of their own.
+//! Which catalogs are served: those of clusters, whose longest records have room in an interval of
+//! their own.
 ghost use Rattle.std.specs.Prelude.{◌≡◌, ◌↔◌, IsTrue, All};
 ghost use Rattle.vr_recover.specs.Unserved.{IsServedCluster, IsPlain};
 
 use vr_catalog::{CatEntry, Catalog, EntryKind};
-use vr_types::{Geometry, Kind};
+use vr_types::Geometry;
 
-/// Whether an entry is of a key-sequenced or relative cluster.
+/// Whether an entry is of a cluster, of any kind.
 fn is_served_cluster(entry: &CatEntry) -> bool
     ensures { IsTrue result ↔ IsServedCluster entry.now }
 {
     match entry.entry_kind {
-        EntryKind::Cluster => match entry.kind {
-            None | Some(Kind::Keyed) | Some(Kind::Relative) => true,
-            Some(Kind::Entry) => false,
-        },
+        EntryKind::Cluster => true,
         EntryKind::Alternate | EntryKind::Path => false,
     }
 }
 
-/// Whether each entry of a catalog is of a key-sequenced or relative cluster.
+/// Whether each entry of a catalog is of a cluster.
 pub(crate) fn are_served(catalog: &Catalog) -> bool
     ensures { IsTrue result ↔ All IsServedCluster catalog.now }
 {

@@ -26,7 +26,7 @@ ghost use Rattle.vr_log.specs.Live.{live_in};
 ghost use Rattle.vr_log.specs.LogNow.{LogNow};
 ghost use Rattle.vr_log.specs.declared.record.LogRecord.{LogRecord as Rec};
 ghost use Rattle.vr_volume.specs.Laying.{IsFreeIn, IsLaidSo};
-ghost use Rattle.vr_volume.specs.PutBack.{image_in, images_of, lengths_kept};
+ghost use Rattle.vr_volume.specs.PutBack.{AreAlone, image_in, images_of, lengths_kept};
 ghost use Rattle.vr_volume.specs.Safe.{IsSafe, IsSafeImage};
 ghost use Rattle.vr_mount.specs.Touched.{Anything};
 ghost use Rattle.vr_recover.specs.Undone.{
@@ -34,8 +34,8 @@ ghost use Rattle.vr_recover.specs.Undone.{
   FitsPart,
   HasAllRecords,
   HasKeptFor,
-  IsItemIn,
   IsKeptOf,
+  IsLeftIn,
   IsReady,
 };
 
@@ -134,7 +134,7 @@ fn put_record<B: Blocks, P: Part, K: Kept>(
         × IsSafe geometry member owners log.now committed (B.seen blocks.new) }
     ensures back { IsTrue B.tells → OnOk result ((content : Content)
         → IfSome (image_in (live_in log.now.records) rec.now)
-        (IsItemIn (P.shape part.old) content)
+        (IsLeftIn (P.shape part.old) content (B.seen blocks.old).cur)
         → ArePutBack (P.shape part.old) content
         (filter_map (image_in (live_in log.now.records)) (rec.now ∷ []))
         (B.seen blocks.old) (B.seen blocks.new)) }
@@ -171,8 +171,8 @@ fn put_record<B: Blocks, P: Part, K: Kept>(
 
 /// Puts the before-images of a part that the log has of live units back, one after another, and
 /// forces each. `records` are those of the log. At each moment of it, whether it fails or not, each
-/// image is a safe one; once it is done each of these places reads its item in the content of which
-/// they are items.
+/// image is a safe one; once it is done each of these places reads its item in the content that has
+/// there what putting them back leaves.
 pub(crate) fn put_back<B: Blocks, P: Part, K: Kept>(
     blocks: &mut B,
     part: &mut P,
@@ -187,6 +187,7 @@ pub(crate) fn put_back<B: Blocks, P: Part, K: Kept>(
     requires sound { log.now.broken ≡ false }
     requires records { records.now ≡ log.now.records }
     requires fits { All (FitsPart (P.shape part.old)) (images_of log.now.records) }
+    requires alone { AreAlone (images_of log.now.records) }
     requires kept { IsKeptOf (K.kept kept.now) log.now }
     requires ready { IsTrue B.tells → (owners : Owners) × IsReady (P.shape part.old) owners
         (P.known part.old) (K.kept kept.now number) (B.seen blocks.old) }
@@ -199,7 +200,8 @@ pub(crate) fn put_back<B: Blocks, P: Part, K: Kept>(
         (IsSafeImage geometry member owners log.now committed)
         × IsSafe geometry member owners log.now committed (B.seen blocks.new) }
     ensures back { IsTrue B.tells → OnOk result ((content : Content)
-        → All (IsItemIn (P.shape part.old) content) (images_of log.now.records)
+        → All (IsLeftIn (P.shape part.old) content (B.seen blocks.old).cur)
+        (images_of log.now.records)
         → ArePutBack (P.shape part.old) content (images_of log.now.records)
         (B.seen blocks.old) (B.seen blocks.new)) }
     ensures ready { IsTrue B.tells → OnOk result ((owners : Owners)

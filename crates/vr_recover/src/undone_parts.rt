@@ -10,16 +10,17 @@ ghost use Rattle.vr_space.specs.Part.{IsOn, part_no};
 ghost use Rattle.vr_attach.specs.Owning.{IsPastLog};
 ghost use Rattle.vr_log.specs.LogNow.{IsForced};
 ghost use Rattle.vr_log.specs.Standing.{LogStands};
-ghost use Rattle.vr_volume.specs.PutBack.{images_of};
+ghost use Rattle.vr_volume.specs.PutBack.{AreAlone, images_of};
+ghost use Rattle.vr_recover.specs.Recovered.{standing_all};
 ghost use Rattle.vr_volume.specs.Safe.{IsSafe, IsSafeImage};
 ghost use Rattle.vr_recover.specs.Found.{areas_kept};
 ghost use Rattle.vr_recover.specs.Opening.{HasNoSplit};
 ghost use Rattle.vr_recover.specs.Undone.{
   AreOpened,
+  AreSettled,
   FitsPart,
   HasAll,
   HaveOwnNumbers,
-  IsAllFirm,
   IsCovered,
   IsKeptOf,
   IsReady,
@@ -32,9 +33,10 @@ use vr_part::AnyPart;
 use vr_space::Kept;
 use vr_types::{Blocks, DeviceFault};
 
-/// Puts the before-images that the log has of live units back into the parts, and forces each. `records` are those of the log. At each moment of it, whether it fails or
-/// not, each image is a safe one, with the same contents committed; once it is done, whatever a
-/// crash leaves of the parts has their items.
+/// Puts the before-images that the log has of live units back into the parts, and forces each.
+/// `records` are those of the log. At each moment of it, whether it fails or not, each image is a
+/// safe one, with the same records committed; once it is done, whatever a crash leaves of the parts
+/// has the items of the contents.
 pub(crate) fn put_back_all<B: Blocks, K: Kept>(
     blocks: &mut B,
     parts: &mut [AnyPart],
@@ -49,22 +51,26 @@ pub(crate) fn put_back_all<B: Blocks, K: Kept>(
     requires records { records.now ≡ log.now.records }
     requires fits { All (λ shape. All (FitsPart shape) (images_of log.now.records))
         (map shape_any parts.old) }
+    requires alone { AreAlone (images_of log.now.records) }
     requires kept { IsKeptOf (K.kept kept.now) log.now }
     requires ready { IsTrue B.tells → (owners : Owners) × IsPastLog log.now.geometry owners
         × All (λ part. IsReady (shape_any part) owners (known_any part)
         (K.kept kept.now (part_no (shape_any part))) (B.seen blocks.old)) parts.old }
     ensures safe { IsTrue B.tells → (geometry : Geometry) (member : ℕ) (owners : Owners)
         (contents : ℕ → Content)
-        → IsSafe geometry member owners log.now (alike contents) (B.seen blocks.old)
+        → IsSafe geometry member owners log.now (alike (standing_all contents))
+        (B.seen blocks.old)
         → AreOpened geometry log.now contents (map shape_any parts.old)
         → Guards (B.seen blocks.old) (B.seen blocks.new)
-        (IsSafeImage geometry member owners log.now (alike contents))
-        × IsSafe geometry member owners log.now (alike contents) (B.seen blocks.new) }
+        (IsSafeImage geometry member owners log.now (alike (standing_all contents)))
+        × IsSafe geometry member owners log.now (alike (standing_all contents))
+        (B.seen blocks.new) }
     ensures all { IsTrue B.tells → OnOk result ((geometry : Geometry) (member : ℕ)
         (owners : Owners) (contents : ℕ → Content)
-        → IsSafe geometry member owners log.now (alike contents) (B.seen blocks.old)
+        → IsSafe geometry member owners log.now (alike (standing_all contents))
+        (B.seen blocks.old)
         → AreOpened geometry log.now contents (map shape_any parts.old)
-        → All (λ shape. IsAllFirm shape (B.seen blocks.old)) (map shape_any parts.old)
+        → AreSettled geometry owners (images_of log.now.records) contents (B.seen blocks.old)
         → All (IsCovered (map shape_any parts.old)) (images_of log.now.records)
         → HasAll geometry contents (B.seen blocks.new)) }
     ensures stands { IsTrue B.tells → IsForced log.now → LogStands log.now (B.seen blocks.old)

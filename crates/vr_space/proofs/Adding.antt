@@ -1,6 +1,6 @@
 -- What calls of a part add to what its places may hold, one after another, and what a force leaves.
 use Rattle.std.proofs.Common.{◌≡◌, ◌⊎◌, inl, inr, ⊎_elim, ◌<◌, ℕ, Bool, IsTrue, true, false, List}
-use Rattle.std.proofs.Common.{[], Option, Some, None, refl, sym, ap, subst, ◌∙◌, arith, length, ◌≤◌}
+use Rattle.std.proofs.Common.{[], Option, Some, None, refl, sym, ap, subst, ◌∙◌, arith, length}
 use Rattle.std.proofs.Common.{cond, nat_le}
 use Rattle.vr_types.specs.Content.{Content, Item, item_at}
 use Rattle.vr_types.specs.Geometry.{area_count}
@@ -19,19 +19,20 @@ use Rattle.vr_space.specs.Split.{SplitNow, keyed_stage, keyed_fits, room_after, 
 use Rattle.vr_space.specs.Split.{room_by_split, free_interval}
 use Rattle.vr_space.specs.Keyed.{entries_of}
 use Rattle.vr_space.specs.Owners.{Owners}
-use Rattle.vr_space.specs.Part.{Shape, KeyedShape, RelativeShape, InPart, StandsFor, Stands}
+use Rattle.vr_space.specs.Part.{Shape, KeyedShape, NumberedShape, InPart, StandsFor, Stands}
 use Rattle.vr_space.specs.Part.{HasOnly, MayHold, MayAlsoHold, Nothing, AddsTo, IsSound, IsAtRest}
 use Rattle.vr_space.specs.Part.{IsLengthOf, IsOn, IsRecordOf, StaysIn, way_to, item_of, left_by}
 use Rattle.vr_space.specs.Part.{SameRecords, SetsOne, IsDueTo, DueMore, IsFirm, CanSet, room_of}
-use Rattle.vr_space.specs.Part.{stage_of, fits_at}
+use Rattle.vr_space.specs.Part.{MayGoBack, stage_of, fits_at}
 use Rattle.vr_space.specs.Rosters.{IsInArea, IsOf, IsOwnArea, Numbered}
-use Rattle.vr_space.specs.Slots.{AreSlotsSound, IsSlots, SlotsStayIn, areas_short, interval_of}
-use Rattle.vr_space.specs.Slots.{slot_fits, slot_room_by, slots_from}
+use Rattle.vr_space.specs.Numbered.{IsFilled, IsNumberedSound, NumberedStaysIn, areas_short}
+use Rattle.vr_space.specs.Numbered.{chain_room_by, has_interval, interval_of, items_from}
+use Rattle.vr_space.specs.Numbered.{numbered_fits, start_of}
 use Rattle.vr_space.proofs.Chains.{chain-less}
 use Rattle.vr_space.proofs.Due.{due-fewer, due-firm}
 use Rattle.vr_space.proofs.PartBlocks.{IsPartBlock, area-owned, holds-less, on-less, rest-stays}
 use Rattle.vr_space.proofs.PartBlocks.{sound-less, stays-keeps, way-within}
-use Rattle.vr_space.proofs.SlotReads.{slots-item}
+use Rattle.vr_space.proofs.NumberedReads.{numbered-item}
 use Rattle.vr_space.proofs.Ways.{found-may}
 use Rattle.vr_space.proofs.KeyedContent.{way-content}
 use Rattle.vr_space.proofs.KeyedSound.{keyed-image, head-ascends}
@@ -120,30 +121,30 @@ content_item (KeyedShape part) image content stands place =
     ap (λ (c : Content). item_at c place) stands.records
     ∙ way-content part image None (entries_of (block_at image part.head)) place
     (head-ascends part (block_at image part.head) stands.head) refl
-content_item (RelativeShape part) image content stands place =
-    slots-item part image content stands place
+content_item (NumberedShape part) image content stands place =
+    numbered-item part image content stands place
 
-slots-stand : (part : Numbered) (owners : Owners) (now : Seen) → AreSlotsSound part owners now
-    → (image : Image) → IsImageOn (InPart (RelativeShape part) owners) now.count now.may image
-    → Stands (RelativeShape part) image × SlotsStayIn part owners image
-slots-stand part owners now sound image left =
+numbered-stand : (part : Numbered) (owners : Owners) (now : Seen) → IsNumberedSound part owners now
+    → (image : Image) → IsImageOn (InPart (NumberedShape part) owners) now.count now.may image
+    → Stands (NumberedShape part) image × NumberedStaysIn part owners image
+numbered-stand part owners now sound image left =
     let each : (area : ℕ) → IsOwnArea part owners area → (n : ℕ) → IsInArea part area n
     → (block : Block) → IsOf image n block → now.may n block =
     λ area own n inside block is.
-    let there : IsPartBlock (RelativeShape part) owners now n =
+    let there : IsPartBlock (NumberedShape part) owners now n =
     area-owned part owners now sound.on area own n inside in
     subst (now.may n) (sym is) (left.each n there.0 there.1) in (
       (
-        slots_from part image (area_count part.geometry) 1 part.first,
+        items_from part image (area_count part.geometry) (start_of part) part.first,
         record {
           part_is = sound.on.part_is;
           chain = chain-less part (IsOwnArea part owners)
-              (λ area. area < area_count part.geometry) (IsSlots part) (IsOf image) now.may
+              (λ area. area < area_count part.geometry) (IsFilled part) (IsOf image) now.may
               (λ area own. own.there) each (area_count part.geometry) part.first sound.chain;
           records = refl;
         },
       ),
-      chain-less part (IsOwnArea part owners) (IsOwnArea part owners) (IsSlots part) (IsOf image)
+      chain-less part (IsOwnArea part owners) (IsOwnArea part owners) (IsFilled part) (IsOf image)
           now.may (λ area own. own) each (area_count part.geometry) part.first sound.chain,
     )
 
@@ -154,8 +155,8 @@ sound-stands : (shape : Shape) (owners : Owners) (now : Seen) → IsSound shape 
 sound-stands (KeyedShape part) owners now sound image left =
     let has = keyed-image part now owners sound image left in
     ((has.content, has.stands), has.within)
-sound-stands (RelativeShape part) owners now sound image left =
-    slots-stand part owners now sound image left
+sound-stands (NumberedShape part) owners now sound image left =
+    numbered-stand part owners now sound image left
 
 -- and of things that may be held
 pub sound-image : (shape : Shape) (owners : Owners) (now : Seen) → IsSound shape owners now
@@ -249,9 +250,11 @@ never-ready (Some split) free is = cc
 never-ready None (Some interval) is = cc
 never-ready None None is = cc
 
-slot-ready : (fits : Bool) (need free : ℕ) → slot_room_by fits need free ≡ Ready → IsTrue fits
-slot-ready true need free is = refl
-slot-ready false need free is = absurd (by_enough (nat_le need free) is)
+chain-ready : (fits used : Bool) (need free : ℕ) → chain_room_by fits used need free ≡ Ready
+    → IsTrue fits
+chain-ready true used need free is = refl
+chain-ready false true need free is = absurd cc
+chain-ready false false need free is = absurd (by_enough (nat_le need free) is)
   where
     by_enough : (enough : Bool) → cond enough (Stage Extend) (NoSpace need free) ≡ Ready → ⊥
     by_enough true is = cc
@@ -260,17 +263,17 @@ slot-ready false need free is = absurd (by_enough (nat_le need free) is)
 -- a record that room is ready for may be set
 pub ready-can : (shape : Shape) (known : Known) (image : Image) (free : ℕ)
     (kept : Lengths) (place : List ℕ) (n : ℕ) → room_of shape known image free kept place n ≡ Ready
-    → (stage_of shape known image place ≡ None) × IsTrue (fits_at shape image kept place n)
+    → (stage_of shape known image place ≡ None) × IsTrue (fits_at shape known image kept place n)
 ready-can (KeyedShape part) known image free kept place n is =
     let both = ready-after (keyed_stage part known.split image place) _ is in (
       both.0,
       ready-by (keyed_fits part image kept place n) _
           (never-ready known.split (free_interval part (block_at image part.head))) both.1,
     )
-ready-can (RelativeShape part) known image free kept place n is = (
+ready-can (NumberedShape part) known image free kept place n is = (
   refl,
-  slot-ready (slot_fits part image place) (areas_short part image (interval_of part place)) free
-      is,
+  chain-ready (numbered_fits part known.tail image place n) (has_interval part image place)
+      (areas_short part image (interval_of part place)) free is,
 )
 
 -- and is set
@@ -295,7 +298,7 @@ pub room-no-stage : (shape : Shape) (known : Known) (image : Image) (free : ℕ)
 room-no-stage (KeyedShape part) known image free kept place n need left = ⊎_elim
     (λ ready. (ready-can (KeyedShape part) known image free kept place n ready).0)
     (λ full. no-stage-after (keyed_stage part known.split image place) _ need left full)
-room-no-stage (RelativeShape part) known image free kept place n need left = λ either. refl
+room-no-stage (NumberedShape part) known image free kept place n need left = λ either. refl
 
 -- a record may be taken away there
 pub can-erase : (shape : Shape) (known : Known) (image : Image) (free : ℕ)
@@ -310,8 +313,9 @@ can-erase shape known image free kept place n need left is = record {
 
 -- and one set for which the place is kept
 pub can-set-kept : (shape : Shape) (known : Known) (image : Image) (kept : Lengths)
-    (place bytes : List ℕ) (n : ℕ) → length_at kept place ≡ Some n → length bytes ≤ n
-    → stage_of shape known image place ≡ None → CanSet shape known image kept place (Some bytes)
+    (place bytes : List ℕ) (n : ℕ) → length_at kept place ≡ Some n
+    → MayGoBack shape n (length bytes) → stage_of shape known image place ≡ None
+    → CanSet shape known image kept place (Some bytes)
 can-set-kept shape known image kept place bytes n at most no_stage =
     record { no_stage = no_stage; room = inr (n, at, most) }
 
@@ -331,10 +335,10 @@ sets-after shape at bytes a b c first second = record {
 pub on-still : (shape : Shape) (a b : Seen) → IsOn shape a
     → b.count ≡ a.count → b.size ≡ a.size → IsOn shape b
 on-still (KeyedShape part) a b on count size = (omega (arith, on.0, count), size ∙ on.1)
-on-still (RelativeShape part) a b on count size = on-less part a b count size on
+on-still (NumberedShape part) a b on count size = on-less part a b count size on
 
 pub record-length : (shape : Shape) (place bytes : List ℕ)
     → IsRecordOf shape place bytes
     → IsLengthOf shape (length bytes)
 record-length (KeyedShape part) place bytes is = (is.0.least, is.0.most)
-record-length (RelativeShape part) place bytes is = is.whole
+record-length (NumberedShape part) place bytes is = is.whole

@@ -35,22 +35,28 @@ pub use Rattle.vr_space.proofs.Keeping.{keep-room}
 pub use Rattle.vr_space.proofs.Counting.{kept_fits, kept_room}
 pub use Rattle.vr_space.proofs.Framing.{room-stays, knows-stays, can-stays, way-keeps, knows-keeps}
 pub use Rattle.vr_space.proofs.Framing.{knows-puts, one-owner, grows-none}
-pub use Rattle.vr_space.proofs.Fewer.{Rise, Under, fewer-room, rise-with, under-both, under-more}
-pub use Rattle.vr_space.proofs.Fewer.{under-self}
-pub use Rattle.vr_space.proofs.Intervals.{interval-owners, room-stage, stage-owners}
-pub use Rattle.vr_space.proofs.Standing.{item-read, left-is}
+pub use Rattle.vr_space.proofs.Fewer.{AreAmong, MayKeepLess, Rise, Under, fewer-room, rise-with}
+pub use Rattle.vr_space.proofs.Fewer.{under-both, under-more, under-self}
+pub use Rattle.vr_space.proofs.Intervals.{IsChainStage, interval-owners, room-stage, stage-lacks}
+pub use Rattle.vr_space.proofs.Intervals.{stage-owners}
+pub use Rattle.vr_space.proofs.Standing.{item-read, left-is, left-none, left-standing}
 pub use Rattle.vr_space.proofs.PlacesHeld.{read-place}
-pub use Rattle.vr_space.proofs.SlotRooms.{GrowsFrom, GrowsTo, grows-same, interval-grows}
-pub use Rattle.vr_space.proofs.SlotRooms.{interval-less, interval-used, set-fits, slots-put}
-pub use Rattle.vr_space.proofs.SlotRooms.{used-interval, finds-interval, finds-slot, slots-grow}
-pub use Rattle.vr_space.proofs.SlotRooms.{slots-less, slot-kept, kept-slot-fits, any-length}
+pub use Rattle.vr_space.proofs.NumberedRooms.{GrowsFrom, GrowsTo, grows-same, interval-grows}
+pub use Rattle.vr_space.proofs.NumberedRooms.{interval-less, interval-used, set-fits}
+pub use Rattle.vr_space.proofs.NumberedRooms.{numbered-put, used-interval, finds-interval}
+pub use Rattle.vr_space.proofs.NumberedRooms.{finds-place, numbered-grow, numbered-less, place-kept}
+pub use Rattle.vr_space.proofs.NumberedRooms.{kept-place-fits, any-length, HasKeptLength}
+pub use Rattle.vr_space.proofs.NumberedRooms.{IsKeptItem, KeepsLengths, KeepsUsed, PutKeepsLengths}
+pub use Rattle.vr_space.proofs.NumberedRooms.{PutsLong, StaysLong, slot-length, slots-keep}
+pub use Rattle.vr_space.proofs.NumberedRooms.{slots-put-keep, used-keep}
 pub use Rattle.vr_space.proofs.RecordsHeld.{record-read}
-pub use Rattle.vr_space.proofs.SlotNumbers.{four-rises, number-below, number-four}
-pub use Rattle.vr_space.proofs.SlotNumbers.{number-order, slots-below, slots-some, slots_up}
+pub use Rattle.vr_space.proofs.Taking.{IsFoundIn, interval-found, set-takes}
+pub use Rattle.vr_space.proofs.Numbers.{four-rises, number-below, number-four}
+pub use Rattle.vr_space.proofs.Numbers.{number-order, numbers-below, span-some, span_up}
 pub use Rattle.vr_space.proofs.ChainWays.{Reaches, chain-ends, chain-has, chain-reaches, found-used}
 pub use Rattle.vr_space.proofs.ChainWays.{AreChained, UsedBetween, are-chained, chained-here}
 pub use Rattle.vr_space.proofs.ChainWays.{count-from}
-pub use Rattle.vr_space.proofs.SlotReads.{SlotIsThere, place-is, place-tested, read-used, slot-past}
-pub use Rattle.vr_space.proofs.SlotReads.{slot-place, slot-there, slot_block, way-there}
-pub use Rattle.vr_space.proofs.SlotReads.{found-place}
-pub use Rattle.vr_space.proofs.SlotOrder.{four_of, four_of-is, higher-after, lower-before}
+pub use Rattle.vr_space.proofs.NumberedReads.{IsPlaceThere, found-place, number-place, place-is}
+pub use Rattle.vr_space.proofs.NumberedReads.{place-past, place-tested, place-there, place_block}
+pub use Rattle.vr_space.proofs.NumberedReads.{read-used, way-there}
+pub use Rattle.vr_space.proofs.NumberOrder.{four_of, four_of-is, higher-after, lower-before}

@@ -14,7 +14,7 @@ use Rattle.vr_space.specs.Rosters.{Numbered}
 use Rattle.vr_space.specs.Rosters.{after_next, areas_from, chain_of, chain_way, interval_in}
 use Rattle.vr_space.specs.Rosters.{interval_way, roster_at, roster_block, used_from, used_of}
 use Rattle.vr_space.specs.Known.{Known}
-use Rattle.vr_space.specs.Slots.{KnowsChain}
+use Rattle.vr_space.specs.Numbered.{HasChain}
 use Rattle.vr_space.specs.Way.{Found, Way, found_on}
 
 -- what holds of nothing and of all that intervals lead to holds of what a chain leads to
@@ -238,7 +238,7 @@ used-between part Own Interval image (suc k) area chain =
 -- an interval that is used is reached in its area
 pub chain-reaches : (part : Numbered) (Own : ℕ → Type 0) (Interval : Block → Type 0)
     (image : Image) (known : Known) (reached : ℕ → Way) (n : ℕ) → IsNumbered part
-    → IsChained part Own Interval (IsOf image) → KnowsChain part known image → n < known.used
+    → IsChained part Own Interval (IsOf image) → HasChain part known image → n < known.used
     → Reaches part image reached known.areas n (found_on image (interval_way part reached n))
 chain-reaches part Own Interval image known reached n is chain knows within =
     subst (λ (areas : List ℕ). Reaches part image reached areas n
@@ -249,7 +249,7 @@ chain-reaches part Own Interval image known reached n is chain knows within =
 -- and past those that are used nothing is found
 pub chain-ends : (part : Numbered) (Own : ℕ → Type 0) (Interval : Block → Type 0)
     (image : Image) (known : Known) (reached : ℕ → Way) (n : ℕ)
-    → IsChained part Own Interval (IsOf image) → KnowsChain part known image → known.used ≤ n
+    → IsChained part Own Interval (IsOf image) → HasChain part known image → known.used ≤ n
     → found_on image (interval_way part reached n) ≡ None
 chain-ends part Own Interval image known reached n chain knows past =
     ends-from part Own Interval image reached (area_count part.geometry) n part.first chain
@@ -276,7 +276,7 @@ pub record AreChained (part : Numbered) (Own : ℕ → Type 0) (known : Known) :
 
 pub are-chained : (part : Numbered) (Own : ℕ → Type 0) (Interval : Block → Type 0)
     (image : Image) (known : Known) → IsChained part Own Interval (IsOf image)
-    → KnowsChain part known image → AreChained part Own known
+    → HasChain part known image → AreChained part Own known
 are-chained part Own Interval image known chain knows =
     let count = area_count part.geometry in
     let between : UsedBetween part (chain_of part image) (used_of part image) =

@@ -11,7 +11,7 @@ use Rattle.vr_space.specs.Known.{Known}
 use Rattle.vr_types.specs.Content.Item.{Standing}
 use Rattle.vr_space.specs.Keyed.{HoldRanges, HoldsRange, Keyed, entries_of, entry_block, entry_for}
 use Rattle.vr_space.specs.Keyed.{items_of, length_of, lengths_of, range_of, records_in, way_in}
-use Rattle.vr_space.specs.Part.{KeyedShape, RelativeShape, Shape, Stands, fits_at, item_of, room_of}
+use Rattle.vr_space.specs.Part.{KeyedShape, NumberedShape, Shape, Stands, fits_at, item_of, room_of}
 use Rattle.vr_space.specs.Room.{Lengths, Range, have_room, is_above, is_in, with_length}
 use Rattle.vr_space.specs.Room.{with_lengths}
 use Rattle.vr_space.specs.Split.{fits_in, free_interval, keyed_stage, room_after, room_by}
@@ -132,9 +132,10 @@ module _ (part : Keyed) (kept : Lengths) (place : List ℕ) (n : ℕ) (image : I
 -- A record that is kept and stands takes no room beside what stands.
 pub kept_fits : (shape : Shape) (image : Image) (kept : Lengths) (place bytes : List ℕ) (n : ℕ)
     → Stands shape image → item_of shape image place ≡ Some (Standing bytes) → n ≤ length bytes
-    → (other : List ℕ) (m : ℕ)
-    → fits_at shape image (with_length kept place n) other m ≡ fits_at shape image kept other m
-kept_fits (KeyedShape part) image kept place bytes n stands is most other m =
+    → (known : Known) (other : List ℕ) (m : ℕ)
+    → fits_at shape known image (with_length kept place n) other m
+    ≡ fits_at shape known image kept other m
+kept_fits (KeyedShape part) image kept place bytes n stands is most known other m =
     let top : Block = block_at image part.head in
     fits-once part kept place n image other m (entry_for None (entries_of top) other)
     (once part kept place n image other None (entries_of top)
@@ -144,7 +145,7 @@ kept_fits (KeyedShape part) image kept place bytes n stands is most other m =
       sym (ap (λ (o : Option (Range × Entry)). found_on image (way_in part place o)) leads) ∙ is,
       most,
     )))
-kept_fits (RelativeShape part) image kept place bytes n stands is most other m = refl
+kept_fits (NumberedShape part) image kept place bytes n stands is most known other m = refl
 
 -- It stands in the way of no other record.
 pub kept_room : (shape : Shape) (image : Image) (kept : Lengths) (place bytes : List ℕ) (n : ℕ)
@@ -155,5 +156,5 @@ pub kept_room : (shape : Shape) (image : Image) (kept : Lengths) (place bytes : 
 kept_room (KeyedShape part) image kept place bytes n stands is most known free other m =
     ap (λ (fits : Bool). room_after (keyed_stage part known.split image other) (room_by fits
     (room_by_split known.split (free_interval part (block_at image part.head)))))
-    (kept_fits (KeyedShape part) image kept place bytes n stands is most other m)
-kept_room (RelativeShape part) image kept place bytes n stands is most known free other m = refl
+    (kept_fits (KeyedShape part) image kept place bytes n stands is most known other m)
+kept_room (NumberedShape part) image kept place bytes n stands is most known free other m = refl

@@ -3,21 +3,24 @@ use Rattle.std.proofs.Common.{◌≡◌, ◌⊎◌, inl, inr, ⊎_elim, ◌≤�
 use Rattle.std.proofs.Common.{List}
 use Rattle.std.proofs.Common.{[], ◌∷◌, map, refl, sym, ap, subst, ◌∙◌, arith, length, Option}
 use Rattle.std.proofs.Common.{Some, None}
-use Rattle.std.specs.Prelude.{All, filter, max}
+use Rattle.std.specs.Prelude.{All, Contains, filter, max}
 use Rattle.std.specs.List.{AllByRecursion}
 use Rattle.std.specs.List.Sorted.{IsStrictlySortedBy}
-use Rattle.std.proofs.lemmas.List.Elements.{All-from_recursion, recursion_from_All}
+use Rattle.std.proofs.lemmas.List.Elements.{All-contains, All-from_recursion, All-weaker}
+use Rattle.std.proofs.lemmas.List.Elements.{recursion_from_All}
 use Rattle.std.proofs.lemmas.Map.Keys.{sorted_head, sorted_tail}
 use Rattle.vr_types.specs.Content.{Placed}
+use Rattle.vr_types.specs.Image.{Block}
 use Rattle.vr_types.specs.Seen.{Seen}
 use Rattle.vr_ci.specs.Interval as ci
 use Rattle.vr_seqset.specs.Entry.{Entry}
 use Rattle.vr_space.specs.Keyed.{EachMayLeave, HoldsRange, Keyed, entries_of, items_of, key_of}
 use Rattle.vr_space.specs.Keyed.{length_of, lengths_of, placed, range_of, records_in}
 use Rattle.vr_space.specs.Owners.{Owners}
-use Rattle.vr_space.specs.Part.{HasKeptRoom, IsSound, KeyedShape, RelativeShape, Shape}
-use Rattle.vr_space.specs.Slots.{HasKeptSlot}
-use Rattle.vr_space.proofs.SlotRooms.{any-length}
+use Rattle.vr_space.specs.Part.{HasKeptRoom, IsSound, KeyedShape, NumberedShape, Shape}
+use Rattle.vr_space.specs.Numbered.{HasKeptPlace, KeepsNumbered}
+use Rattle.vr_space.specs.Rosters.{Numbered}
+use Rattle.vr_space.proofs.NumberedRooms.{any-length}
 use Rattle.vr_space.specs.Room.{HaveRoom}
 use Rattle.std.specs.Ordering.{ordering_reverse}
 use Rattle.std.specs.declared.cmp.Ordering.{Ordering}
@@ -344,15 +347,33 @@ places-fewer : (P : List ℕ × ℕ → Type 0)
 places-fewer P any fewer kept less all = All-from_recursion P fewer
     (places-among P any fewer kept less (recursion_from_All P kept all))
 
+-- what may be kept in place of more: of an entry-sequenced part each with the length that it had
+abbrev pub AreAmong : Bool → Lengths → Lengths → Type 0
+AreAmong true fewer kept = Unit {0}
+AreAmong false fewer kept = All (λ (entry : List ℕ × ℕ). Contains kept entry) fewer
+
+abbrev pub MayKeepLess : Shape → Lengths → Lengths → Type 0
+MayKeepLess (KeyedShape part) fewer kept = Unit {0}
+MayKeepLess (NumberedShape part) fewer kept = AreAmong part.relative fewer kept
+
+numbered-fewer : (part : Numbered) (may : ℕ → Block → Type 0) (fewer kept : Lengths)
+    (relative : Bool) → part.relative ≡ relative → Under fewer kept → AreAmong relative fewer kept
+    → KeepsNumbered part kept may → KeepsNumbered part fewer may
+numbered-fewer part may fewer kept true is less among room =
+    places-fewer (HasKeptPlace part may) (any-length part is may) fewer kept less room
+numbered-fewer part may fewer kept false is less among room =
+    All-weaker (Contains kept) (HasKeptPlace part may)
+    (λ entry there. All-contains (HasKeptPlace part may) kept entry room there) fewer among
+
 -- Where less is kept there is room too.
 pub fewer-room : (shape : Shape) (owners : Owners) (fewer kept : Lengths) (now : Seen)
-    → Under fewer kept
+    → Under fewer kept → MayKeepLess shape fewer kept
     → IsSound shape owners now → HasKeptRoom shape kept now → HasKeptRoom shape fewer now
-fewer-room (KeyedShape part) owners fewer kept now less (sound, owned) room = record {
+fewer-room (KeyedShape part) owners fewer kept now less among (sound, owned) room = record {
   places = places-fewer (λ (entry : List ℕ × ℕ). length entry.0 ≡ part.key)
       (λ first entry same is. ap length same ∙ is) fewer kept less room.places;
   each = λ top may. each-fewer part fewer kept now None (entries_of top) less
       (sound.intervals top may) (room.each top may);
 }
-fewer-room (RelativeShape part) owners fewer kept now less sound room =
-    places-fewer (HasKeptSlot part now.may) (any-length part now.may) fewer kept less room
+fewer-room (NumberedShape part) owners fewer kept now less among sound room =
+    numbered-fewer part now.may fewer kept part.relative refl less among room

@@ -12,13 +12,13 @@ use Rattle.vr_space.specs.Known.{Known}
 use Rattle.vr_space.specs.Met.{IsMet}
 use Rattle.vr_space.specs.Owners.{Owners}
 use Rattle.vr_space.specs.Part.{AreMet, CanSet, HasKeptRoom, HasRoomFor, InPart, IsSound}
-use Rattle.vr_space.specs.Part.{IsUnderWay, KeyedShape, Knows, MayGrow, RelativeShape, Shape}
+use Rattle.vr_space.specs.Part.{IsUnderWay, KeyedShape, Knows, MayGrow, NumberedShape, Shape}
 use Rattle.vr_space.specs.Part.{fits_at, part_no}
 use Rattle.vr_space.specs.Room.{Lengths, Range}
 use Rattle.vr_space.specs.Split.{fits_in, keyed_fits, stage_in}
 use Rattle.vr_space.proofs.PartBlocks.{StaysPart, stays-keeps, stays-puts}
 use Rattle.vr_space.proofs.Rooms.{room-less}
-use Rattle.vr_space.proofs.SlotsKnown.{slot-fits-same, slots-known}
+use Rattle.vr_space.proofs.NumberedKnown.{numbered-fits-same, numbered-known}
 use Rattle.vr_space.proofs.UnderWay.{found-in, met-stays, way-stays}
 
 -- the blocks of a keyed part's area do
@@ -54,7 +54,7 @@ module _ (a b : Seen) where
         cur = stays.same n block.1;
         less = λ bytes may. stays.fewer n bytes block.0 block.1 may;
       }) way
-  under-stays (RelativeShape part) owners known stays sound left way = tt
+  under-stays (NumberedShape part) owners known stays sound left way = tt
 
   -- the blocks that were met as they were,
   met-known : (shape : Shape) (owners : Owners) (known : Known) → StaysPart shape owners a b
@@ -66,8 +66,8 @@ module _ (a b : Seen) where
       (sound.heads _ (left.each part.head (omega (arith, sound.area))))
       (stays.same part.head (omega arith, omega arith))
       (λ inside. stays.same one.number inside) is) known.met met
-  met-known (RelativeShape part) owners known stays sound left met =
-      slots-known part owners a b stays sound left known met
+  met-known (NumberedShape part) owners known stays sound left met =
+      numbered-known part owners a b stays sound left known met
 
   -- and so does what a part knows of its blocks.
   pub knows-stays : (shape : Shape) (owners : Owners) (known : Known)
@@ -102,11 +102,13 @@ module _ (a b : Seen) where
       (omega arith, omega (arith, below)))
 
   -- what fits in the same way has room
-  room-for : (shape : Shape) (kept : Lengths) (place : List ℕ) (item : Option (List ℕ))
-      → ((n : ℕ) → fits_at shape b.cur kept place n ≡ fits_at shape a.cur kept place n)
-      → HasRoomFor shape a.cur kept place item → HasRoomFor shape b.cur kept place item
-  room-for shape kept place None same has = tt
-  room-for shape kept place (Some bytes) same has = ⊎_elim
+  room-for : (shape : Shape) (known : Known) (kept : Lengths) (place : List ℕ)
+      (item : Option (List ℕ))
+      → ((n : ℕ) → fits_at shape known b.cur kept place n ≡ fits_at shape known a.cur kept place n)
+      → HasRoomFor shape known a.cur kept place item
+      → HasRoomFor shape known b.cur kept place item
+  room-for shape known kept place None same has = tt
+  room-for shape known kept place (Some bytes) same has = ⊎_elim
       (λ fits. inl (subst IsTrue (sym (same (length bytes))) fits))
       (λ kept-there. inr kept-there) has
 
@@ -120,14 +122,14 @@ module _ (a b : Seen) where
         no_stage = ap
             (λ (top : Block). stage_in known.split (entry_for None (entries_of top) place))
             (stays.same part.head (omega arith, omega arith)) ∙ can.no_stage;
-        room = room-for (KeyedShape part) kept place item
+        room = room-for (KeyedShape part) known kept place item
             (λ n. fits-same part kept place n stays
             (sound.heads _ (left.each part.head (omega (arith, sound.area))))) can.room;
       }
-  can-stays (RelativeShape part) owners known kept place item stays sound left can = record {
+  can-stays (NumberedShape part) owners known kept place item stays sound left can = record {
     no_stage = refl;
-    room = room-for (RelativeShape part) kept place item
-        (λ n. slot-fits-same part owners a b stays sound left place) can.room;
+    room = room-for (NumberedShape part) known kept place item
+        (λ n. numbered-fits-same part owners a b stays sound left known.tail place n) can.room;
   }
 
 -- ---- calls that put nothing into the part

@@ -1,8 +1,9 @@
 -- Which stages come before a record: of a keyed part those of a split of one interval, which take
--- no area, of a relative part the one that makes its chain longer.
-use Rattle.std.proofs.Common.{◌≡◌, ◌⊎◌, inl, inr, ⊎_elim, ℕ, Bool, true, false, List, Option, Some}
-use Rattle.std.proofs.Common.{None, subst, if◌then◌else◌, ◌||◌, nat_eq, nat_le}
+-- no area, of the others the one that makes their chain longer.
+use Rattle.std.proofs.Common.{◌≡◌, ◌≤◌, ◌⊎◌, inl, inr, ⊎_elim, ℕ, Bool, true, false, List, Option}
+use Rattle.std.proofs.Common.{Some, None, refl, subst, if◌then◌else◌, ◌||◌, nat_eq, nat_le}
 use Rattle.std.specs.Prelude.{slice_index}
+use Rattle.std.proofs.lemmas.Bool.{leb-true}
 use Rattle.vr_types.specs.Image.{Image, block_at}
 use Rattle.vr_types.specs.Seen.{Seen}
 use Rattle.vr_types.specs.declared.unit.PartNo.{PartNo}
@@ -13,10 +14,12 @@ use Rattle.vr_types.specs.declared.unit.StageKind.TheVariants.{Post, Extend, Und
 use Rattle.vr_seqset.specs.Entry.{Entry}
 use Rattle.vr_space.specs.Keyed.{Keyed, entries_of, entry_for}
 use Rattle.vr_space.specs.Part.{IsClaimed, IsStageOf, IsUnderWay, KeyedShape, OwnersAfter}
-use Rattle.vr_space.specs.Part.{RelativeShape, Shape, room_of}
+use Rattle.vr_space.specs.Part.{NumberedShape, Shape, room_of}
 use Rattle.vr_space.specs.Room.{Lengths, Range}
 use Rattle.vr_space.specs.Known.{Known}
-use Rattle.vr_space.specs.Slots.{areas_short, interval_of, slot_fits, slot_room_by}
+use Rattle.vr_space.specs.Numbered.{areas_short, chain_room_by, has_interval, interval_of}
+use Rattle.vr_space.specs.Numbered.{numbered_fits}
+use Rattle.vr_space.specs.Rosters.{Numbered}
 use Rattle.vr_space.specs.Split.{IsIntervalStage, SplitNow, free_interval, keyed_fits, room_after}
 use Rattle.vr_space.specs.Split.{room_by, room_by_split, stage_in}
 use Rattle.vr_space.specs.UnderWay.{IsReadyFor, KeyedUnderWay}
@@ -70,15 +73,34 @@ by-room (Some stage) fits other kind is = let it : stage ≡ kind = cc in inl cc
 by-room None true other kind is = absurd cc
 by-room None false other kind is = inr is
 
-slot-stage : (fits : Bool) (need free : ℕ) (kind : StageKind)
-    → slot_room_by fits need free ≡ Stage kind → kind ≡ Extend
-slot-stage true need free kind is = absurd cc
-slot-stage false need free kind is = by_test (nat_le need free) is
+-- the chain lacks the interval, which areas enough are free for
+pub record IsChainStage (used : Bool) (need free : ℕ) (kind : StageKind) : Type 0 where
+  pub stage : kind ≡ Extend
+  pub unused : used ≡ false
+  pub enough : need ≤ free
+
+chain-stage : (fits used : Bool) (need free : ℕ) (kind : StageKind)
+    → chain_room_by fits used need free ≡ Stage kind → IsChainStage used need free kind
+chain-stage true used need free kind is = absurd cc
+chain-stage false true need free kind is = absurd cc
+chain-stage false false need free kind is = by_test (nat_le need free) refl is
   where
-    by_test : (test : Bool) → (if test then Stage Extend else NoSpace need free) ≡ Stage kind
-        → kind ≡ Extend
-    by_test true same = cc
-    by_test false same = absurd cc
+    by_test : (test : Bool) → nat_le need free ≡ test
+        → (if test then Stage Extend else NoSpace need free) ≡ Stage kind
+        → IsChainStage false need free kind
+    by_test true within same =
+        record { stage = cc; unused = refl; enough = leb-true need free within }
+    by_test false past same = absurd cc
+
+-- So a stage of a chain of areas comes only before a record whose interval it lacks.
+pub stage-lacks : (part : Numbered) (known : Known) (image : Image) (free : ℕ) (kept : Lengths)
+    (place : List ℕ) (n : ℕ) (kind : StageKind)
+    → room_of (NumberedShape part) known image free kept place n ≡ Stage kind
+    → IsChainStage (has_interval part image place)
+    (areas_short part image (interval_of part place)) free kind
+stage-lacks part known image free kept place n kind is =
+    chain-stage (numbered_fits part known.tail image place n) (has_interval part image place)
+    (areas_short part image (interval_of part place)) free kind is
 
 -- A stage that room answers is one of those that the part may have.
 pub room-stage : (shape : Shape) (known : Known) (now : Seen) (image : Image)
@@ -93,9 +115,8 @@ room-stage (KeyedShape part) known now image free kept place n kind way is = ⊎
     (by-room (stage_in known.split (entry_for None (entries_of (block_at image part.head)) place))
     (keyed_fits part image kept place n)
     (room_by_split known.split (free_interval part (block_at image part.head))) kind is)
-room-stage (RelativeShape part) known now image free kept place n kind way is =
-    slot-stage (slot_fits part image place) (areas_short part image (interval_of part place)) free
-    kind is
+room-stage (NumberedShape part) known now image free kept place n kind way is =
+    (stage-lacks part known image free kept place n kind is).stage
 
 -- A stage of the split of one interval takes no area.
 pub interval-owners : (part : PartNo) (kind : StageKind) (old new : List (Option PartNo))
@@ -119,5 +140,5 @@ pub stage-owners : (shape : Shape) (part : PartNo) (kind : StageKind)
     → (new ≡ old) ⊎ IsClaimed part old new
 stage-owners (KeyedShape keyed) part kind old new stage after =
     inl (interval-owners part kind old new stage after)
-stage-owners (RelativeShape numbered) part kind old new stage after =
+stage-owners (NumberedShape numbered) part kind old new stage after =
     subst (λ (at : StageKind). OwnersAfter part at old new) stage after

@@ -2,8 +2,8 @@
 use Rattle.std.proofs.Common.{◌≡◌, ◌≤◌, ℕ, Bool, true, false, cond, List, []}
 use Rattle.std.proofs.Common.{◌∷◌, map}
 use Rattle.std.proofs.Common.{Option, Some, None, refl, sym, ap, subst, ◌∙◌, arith, length}
-use Rattle.std.specs.Prelude.{max}
-use Rattle.std.proofs.lemmas.Bool.{true≢false}
+use Rattle.std.specs.Prelude.{max, nat_le}
+use Rattle.std.proofs.lemmas.Bool.{leb-false, leb-true, true≢false}
 use Rattle.std.specs.Prelude.{All, filter}
 use Rattle.std.specs.List.{AllByRecursion}
 use Rattle.std.specs.List.Sorted.{IsStrictlySortedBy}
@@ -25,18 +25,19 @@ use Rattle.vr_space.specs.Keyed.{entries_of}
 use Rattle.vr_space.specs.Keyed.{entry_block, entry_for, items_of, key_of, length_of, lengths_of}
 use Rattle.vr_space.specs.Keyed.{placed, range_of, records_in, records_of}
 use Rattle.vr_space.specs.Owners.{Owners}
-use Rattle.vr_space.specs.Part.{HasKeptRoom, IsPlaceOf, IsSound, KeyedShape, MayHold}
-use Rattle.vr_space.specs.Part.{RelativeShape, Shape}
+use Rattle.vr_space.specs.Part.{HasKeptRoom, IsPlaceOf, IsSound, KeyedShape, MayGoBack, MayHold}
+use Rattle.vr_space.specs.Part.{NumberedShape, Shape}
 use Rattle.vr_space.specs.Room.{HaveRoom, Lengths, Range, is_in, lengthen_by, lengths_in}
 use Rattle.vr_space.specs.Room.{with_length, with_lengths}
-use Rattle.vr_space.specs.Slots.{HasKeptSlot}
+use Rattle.vr_space.specs.Numbered.{HasKeptPlace, IsFilled, IsKeptLength}
+use Rattle.vr_space.specs.Rosters.{IsOwnArea}
 use Rattle.vr_space.specs.Way.{MayFind}
 use Rattle.vr_space.specs.Keyed.{way_in}
 use Rattle.vr_space.specs.Room.{is_above}
 use Rattle.vr_types.specs.Seen.{Only}
 use Rattle.vr_space.proofs.KeyedContent.{AscendFrom}
 use Rattle.vr_space.proofs.KeyedSound.{head-ascends}
-use Rattle.vr_space.proofs.SlotRooms.{any-length, finds-slot}
+use Rattle.vr_space.proofs.NumberedRooms.{IsKeptItem, finds-place}
 use Rattle.vr_space.proofs.Places.{above-more, in-past, lt_from_test, not_past}
 use Rattle.std.proofs.lemmas.List.Elements.{All-from_recursion, recursion_from_All}
 use Rattle.std.specs.Prelude.{◌&&◌}
@@ -406,40 +407,51 @@ module _ (part : Keyed) (kept : Lengths) (place : List ℕ) (n : ℕ) (now : See
 
 -- ---- places
 
--- what is true of one more, and of each whichever its length, is true of all
-places-with : (P : List ℕ × ℕ → Type 0)
-    → ((first entry : List ℕ × ℕ) → entry.0 ≡ first.0 → P first → P entry)
-    → (kept : Lengths) (place : List ℕ) (n : ℕ) → P (place, n) → AllByRecursion P kept
-    → AllByRecursion P (with_length kept place n)
-places-with P any [] place n one all = (one, tt)
-places-with P any (entry ∷ kept) place n one all =
-    by_order (place_cmp place entry.0) (places-with P any kept place n one all.1)
+-- what is true of each that is kept and of one more is true of all
+places-with : (P : List ℕ × ℕ → Type 0) (kept : Lengths) (place : List ℕ) (n : ℕ)
+    → P (place, n) → AllByRecursion P kept → AllByRecursion P (with_length kept place n)
+places-with P [] place n one all = (one, tt)
+places-with P (entry ∷ kept) place n one all =
+    by_order (place_cmp place entry.0) refl (places-with P kept place n one all.1)
   where
-    by_order : (order : Ordering) → AllByRecursion P (with_length kept place n)
-        → AllByRecursion P (lengthen_by order place n entry kept (with_length kept place n))
-    by_order Less further = (one, all)
-    by_order Equal further = (any entry (entry.0, max n entry.1) refl all.0, all.1)
-    by_order Greater further = (all.0, further)
+    longer : (more : Bool) → nat_le n entry.1 ≡ more → place ≡ entry.0
+        → P (entry.0, max n entry.1)
+    longer true is same =
+        subst (λ (m : ℕ). P (entry.0, m)) (omega (arith, leb-true n entry.1 is)) all.0
+    longer false is same = subst (λ (m : ℕ). P (entry.0, m))
+        (omega (arith, leb-false n entry.1 is)) (subst (λ (at : List ℕ). P (at, n)) same one)
 
-places-kept : (P : List ℕ × ℕ → Type 0)
-    → ((first entry : List ℕ × ℕ) → entry.0 ≡ first.0 → P first → P entry)
-    → (kept : Lengths) (place : List ℕ) (n : ℕ) → P (place, n) → All P kept
-    → All P (with_length kept place n)
-places-kept P any kept place n one all = All-from_recursion P (with_length kept place n)
-    (places-with P any kept place n one (recursion_from_All P kept all))
+    by_order : (order : Ordering) → place_cmp place entry.0 ≡ order
+        → AllByRecursion P (with_length kept place n)
+        → AllByRecursion P (lengthen_by order place n entry kept (with_length kept place n))
+    by_order Less is further = (one, all)
+    by_order Equal is further =
+        (longer (nat_le n entry.1) refl (same_place place entry.0 is), all.1)
+    by_order Greater is further = (all.0, further)
+
+places-kept : (P : List ℕ × ℕ → Type 0) (kept : Lengths) (place : List ℕ) (n : ℕ)
+    → P (place, n) → All P kept → All P (with_length kept place n)
+places-kept P kept place n one all = All-from_recursion P (with_length kept place n)
+    (places-with P kept place n one (recursion_from_All P kept all))
 
 -- ---- the law
+
+-- a record of which this length may be kept
+kept-item : (relative : Bool) (n : ℕ) (bytes : List ℕ)
+    → IsKeptLength relative (length bytes) n → IsKeptItem relative n (Some (Standing bytes))
+kept-item true n bytes is = λ none. some-none (Standing bytes) none
+kept-item false n bytes is = ap (λ (m : ℕ). Some m) (sym is)
 
 -- The record that a crash leaves at a place may be kept, where it is the only one.
 pub keep-room : (shape : Shape) (owners : Owners) (kept : Lengths) (place : List ℕ) (n : ℕ)
     (now : Seen)
     → IsPlaceOf shape place → IsSound shape owners now → HasKeptRoom shape kept now
     → ((item : Option Item) → MayHold shape now.may place item
-    → (bytes : List ℕ) × (item ≡ Some (Standing bytes)) × (n ≤ length bytes))
+    → (bytes : List ℕ) × (item ≡ Some (Standing bytes)) × MayGoBack shape (length bytes) n)
     → HasKeptRoom shape (with_length kept place n) now
 keep-room (KeyedShape part) owners kept place n now long (sound, owned) room stands = record {
-  places = places-kept (λ (entry : List ℕ × ℕ). length entry.0 ≡ part.key)
-      (λ first entry same is. ap length same ∙ is) kept place n long room.places;
+  places = places-kept (λ (entry : List ℕ × ℕ). length entry.0 ≡ part.key) kept place n long
+      room.places;
   each = λ top may. each-kept part kept place n now None (entries_of top)
       (head-ascends part top (sound.heads top may))
       (λ at leads block block-may. stands (item_at (records_of part block) place) (
@@ -451,8 +463,10 @@ keep-room (KeyedShape part) owners kept place n now long (sound, owned) room sta
       ))
       (sound.intervals top may) (room.each top may);
 }
-keep-room (RelativeShape part) owners kept place n now numbered sound room stands =
-    places-kept (HasKeptSlot part now.may) (any-length part now.may) kept place n
-    (finds-slot part now.may place n numbered
-    (λ item holds none. some-none (Standing (stands item holds).0)
-    (sym (stands item holds).1 ∙ none))) room
+keep-room (NumberedShape part) owners kept place n now numbered sound room stands =
+    places-kept (HasKeptPlace part now.may) kept place n
+    (finds-place part (IsOwnArea part owners) (IsFilled part) now.may place n numbered sound.chain
+    (λ item holds.
+    let there = stands item holds in
+    subst (IsKeptItem part.relative n) (sym there.1)
+    (kept-item part.relative n there.0 there.2))) room

@@ -11,10 +11,11 @@ use Rattle.vr_types.proofs.CallerLemmas.{cur-elsewhere}
 use Rattle.vr_space.specs.Keyed.{InArea, keyed_way}
 use Rattle.vr_space.specs.Owners.{Owners}
 use Rattle.vr_space.specs.Part.{InFirstArea, InPart, IsAtRest, IsQuiet, IsSound, KeyedShape}
-use Rattle.vr_space.specs.Part.{MayHold, RelativeShape, Shape, way_to}
+use Rattle.vr_space.specs.Part.{MayHold, NumberedShape, Shape, way_to}
 use Rattle.vr_space.specs.Rosters.{IsInArea, IsOwnArea, Numbered, interval_way, roster_block}
-use Rattle.vr_space.specs.Slots.{AreSlotsAtRest, AreSlotsSound, IsNumberedOn, IsRestingArea}
-use Rattle.vr_space.specs.Slots.{IsSlots, interval_of, is_slot_place, slot_in, slot_read, slot_way}
+use Rattle.vr_space.specs.Numbered.{IsNumberedAtRest, IsNumberedSound, IsNumberedOn, IsRestingArea}
+use Rattle.vr_space.specs.Numbered.{IsFilled}
+use Rattle.vr_space.specs.Numbered.{interval_of, is_number_place, at_in, item_read, numbered_way}
 use Rattle.vr_space.specs.Way.{Found, IsWithin}
 use Rattle.vr_space.proofs.Chains.{area-below, chain-both, chain-here, chain-less, chain-within}
 use Rattle.vr_space.proofs.Chains.{roster-inside}
@@ -30,20 +31,20 @@ IsPartBlock shape owners now n = (n < now.count) × InPart shape owners n
 -- the blocks of an area of the part's own are there
 pub area-owned : (part : Numbered) (owners : Owners) (now : Seen) → IsNumberedOn part now
     → (area : ℕ) → IsOwnArea part owners area → (n : ℕ) → IsInArea part area n
-    → IsPartBlock (RelativeShape part) owners now n
+    → IsPartBlock (NumberedShape part) owners now n
 area-owned part owners now on area own n inside =
     (omega (arith, area-below part area n own.there inside, on.blocks), own.owned n inside)
 
-slots-within : (part : Numbered) (owners : Owners) (now : Seen) → AreSlotsSound part owners now
+numbered-within : (part : Numbered) (owners : Owners) (now : Seen) → IsNumberedSound part owners now
     → (place : List ℕ)
-    → IsWithin (IsPartBlock (RelativeShape part) owners now) now.may (slot_way part place)
-slots-within part owners now sound place = by_test (is_slot_place place)
+    → IsWithin (IsPartBlock (NumberedShape part) owners now) now.may (numbered_way part place)
+numbered-within part owners now sound place = by_test (is_number_place part place)
   where
-    by_test : (test : Bool) → IsWithin (IsPartBlock (RelativeShape part) owners now) now.may
-        (if test then interval_way part (slot_read (slot_in part place)) (interval_of part place)
+    by_test : (test : Bool) → IsWithin (IsPartBlock (NumberedShape part) owners now) now.may
+        (if test then interval_way part (item_read part (at_in part place)) (interval_of part place)
         else Found None)
-    by_test true = chain-within part (IsOwnArea part owners) (IsSlots part)
-        (IsPartBlock (RelativeShape part) owners now) now.may (slot_read (slot_in part place))
+    by_test true = chain-within part (IsOwnArea part owners) (IsFilled part)
+        (IsPartBlock (NumberedShape part) owners now) now.may (item_read part (at_in part place))
         (area-owned part owners now sound.on) (λ n is. (is, λ block may. tt))
         (area_count part.geometry) (interval_of part place) part.first sound.chain
     by_test false = tt
@@ -54,7 +55,7 @@ pub way-within : (shape : Shape) (owners : Owners) (now : Seen) → IsSound shap
 way-within (KeyedShape part) owners now (sound, owned) place = within-more (IsBlock part now)
     (IsPartBlock (KeyedShape part) owners now) now.may (λ n is. (is.0, owned n is.1))
     (keyed_way part place) (keyed-within part now sound place)
-way-within (RelativeShape part) owners now sound place = slots-within part owners now sound place
+way-within (NumberedShape part) owners now sound place = numbered-within part owners now sound place
 
 -- So a place may hold no more where no more is allowed of the part's blocks.
 pub holds-less : (shape : Shape) (owners : Owners) (now : Seen) (less : ℕ → Block → Type 0)
@@ -69,17 +70,17 @@ holds-less shape owners now less sound each place item = find-less (IsPartBlock 
 pub first-owned : (shape : Shape) (owners : Owners) (now : Seen) → IsSound shape owners now
     → (n : ℕ) → InFirstArea shape n → InPart shape owners n
 first-owned (KeyedShape part) owners now (sound, owned) n inside = owned n inside
-first-owned (RelativeShape part) owners now sound n inside =
-    (chain-here part (IsOwnArea part owners) (IsSlots part) now.may (area_count part.geometry)
+first-owned (NumberedShape part) owners now sound n inside =
+    (chain-here part (IsOwnArea part owners) (IsFilled part) now.may (area_count part.geometry)
     part.first sound.chain).owned n inside
 
 -- what is at rest is sound
 pub rest-sound : (shape : Shape) (owners : Owners) (now : Seen) → IsAtRest shape owners now
     → IsSound shape owners now
 rest-sound (KeyedShape part) owners now (rests, owned) = (rests.sound, owned)
-rest-sound (RelativeShape part) owners now rests = record {
+rest-sound (NumberedShape part) owners now rests = record {
   on = rests.on;
-  chain = chain-less part (IsRestingArea part owners now) (IsOwnArea part owners) (IsSlots part)
+  chain = chain-less part (IsRestingArea part owners now) (IsOwnArea part owners) (IsFilled part)
       now.may now.may (λ area is. is.own) (λ area is n inside block may. may)
       (area_count part.geometry) part.first rests.chain;
 }
@@ -136,9 +137,9 @@ module _ (a b : Seen) where
     keyed-less part a b count size (λ n block is may. less n block (is.0, owned n is.1) may) sound,
     owned,
   )
-  sound-less (RelativeShape part) owners count size less sound = record {
+  sound-less (NumberedShape part) owners count size less sound = record {
     on = on-less part a b count size sound.on;
-    chain = chain-less part (IsOwnArea part owners) (IsOwnArea part owners) (IsSlots part) b.may
+    chain = chain-less part (IsOwnArea part owners) (IsOwnArea part owners) (IsFilled part) b.may
         a.may (λ area own. own)
         (λ area own n inside block may. less n block
         (area-owned part owners a sound.on area own n inside) may)
@@ -160,12 +161,12 @@ module _ (a b : Seen) where
         },
         owned,
       )
-  rest-stays (RelativeShape part) owners stays rests =
+  rest-stays (NumberedShape part) owners stays rests =
       let there : (area : ℕ) → IsOwnArea part owners area → (n : ℕ) → IsInArea part area n
-      → IsPartBlock (RelativeShape part) owners a n = area-owned part owners a rests.on in record {
+      → IsPartBlock (NumberedShape part) owners a n = area-owned part owners a rests.on in record {
         on = on-less part a b stays.count stays.size rests.on;
         chain = chain-less part (IsRestingArea part owners a) (IsRestingArea part owners b)
-            (IsSlots part) b.may a.may
+            (IsFilled part) b.may a.may
             (λ area is.
             let top = there area is.own (roster_block part area) (roster-inside part area) in
             record {
@@ -196,9 +197,9 @@ module _ (owners grown : Owners) (now : Seen)
   pub sound-grows : (shape : Shape) → IsSound shape owners now → IsSound shape grown now
   sound-grows (KeyedShape part) (sound, owned) =
       (sound, λ n inside. leaves n part.part (owned n inside))
-  sound-grows (RelativeShape part) sound = record {
+  sound-grows (NumberedShape part) sound = record {
     on = sound.on;
-    chain = chain-less part (IsOwnArea part owners) (IsOwnArea part grown) (IsSlots part) now.may
+    chain = chain-less part (IsOwnArea part owners) (IsOwnArea part grown) (IsFilled part) now.may
         now.may (area-grows part owners grown leaves) (λ area own n inside block may. may)
         (area_count part.geometry) part.first sound.chain;
   }
@@ -207,10 +208,10 @@ module _ (owners grown : Owners) (now : Seen)
   pub rest-grows : (shape : Shape) → IsAtRest shape owners now → IsAtRest shape grown now
   rest-grows (KeyedShape part) (rests, owned) =
       (rests, λ n inside. leaves n part.part (owned n inside))
-  rest-grows (RelativeShape part) rests = record {
+  rest-grows (NumberedShape part) rests = record {
     on = rests.on;
     chain = chain-less part (IsRestingArea part owners now) (IsRestingArea part grown now)
-        (IsSlots part) now.may now.may
+        (IsFilled part) now.may now.may
         (λ area is. record {
           own = area-grows part owners grown leaves area is.own;
           roster = is.roster;
@@ -218,23 +219,23 @@ module _ (owners grown : Owners) (now : Seen)
         (λ area is n inside block may. may) (area_count part.geometry) part.first rests.chain;
   }
 
-slots-quiet : (part : Numbered) (owners other : Owners) (now : Seen)
-    → AreSlotsAtRest part other now → AreSlotsSound part owners now
-    → AreSlotsAtRest part owners now
-slots-quiet part owners other now rests sound = record {
+numbered-quiet : (part : Numbered) (owners other : Owners) (now : Seen)
+    → IsNumberedAtRest part other now → IsNumberedSound part owners now
+    → IsNumberedAtRest part owners now
+numbered-quiet part owners other now rests sound = record {
   on = sound.on;
   chain = chain-less part
       (λ area. IsRestingArea part other now area × IsOwnArea part owners area)
-      (IsRestingArea part owners now) (IsSlots part) now.may now.may
+      (IsRestingArea part owners now) (IsFilled part) now.may now.may
       (λ area both. record { own = both.1; roster = both.0.roster })
       (λ area both n inside block may. may) (area_count part.geometry) part.first
-      (chain-both part (IsRestingArea part other now) (IsOwnArea part owners) (IsSlots part) now.may
-      (area_count part.geometry) part.first rests.chain sound.chain);
+      (chain-both part (IsRestingArea part other now) (IsOwnArea part owners) (IsFilled part)
+      now.may (area_count part.geometry) part.first rests.chain sound.chain);
 }
 
 -- A part that is at rest by some owners is so by those by which it is sound.
 pub rest-of-quiet : (shape : Shape) (owners : Owners) (now : Seen) → IsQuiet shape now
     → IsSound shape owners now → IsAtRest shape owners now
 rest-of-quiet (KeyedShape part) owners now quiet sound = (quiet.1.0, sound.1)
-rest-of-quiet (RelativeShape part) owners now quiet sound =
-    slots-quiet part owners quiet.0 now quiet.1 sound
+rest-of-quiet (NumberedShape part) owners now quiet sound =
+    numbered-quiet part owners quiet.0 now quiet.1 sound

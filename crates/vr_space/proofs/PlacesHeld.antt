@@ -15,10 +15,10 @@ use Rattle.vr_seqset.specs.Entry.{Entry}
 use Rattle.vr_space.specs.Room.{Range, is_in}
 use Rattle.vr_space.specs.Keyed.{HoldRanges, IsKept, Keyed, content_from, entries_of, entry_block}
 use Rattle.vr_space.specs.Keyed.{items_of, key_of, placed, range_of, records_in}
-use Rattle.vr_space.specs.Part.{IsPlaceOf, KeyedShape, RelativeShape, Shape, Stands, item_of}
+use Rattle.vr_space.specs.Part.{IsPlaceOf, KeyedShape, NumberedShape, Shape, Stands, item_of}
 use Rattle.vr_space.specs.Part.{record_read}
 use Rattle.vr_space.proofs.Adding.{content_item}
-use Rattle.vr_space.proofs.SlotReads.{found-place}
+use Rattle.vr_space.proofs.NumberedReads.{found-place}
 
 -- the place is as long as the keys
 abbrev HasKey : ℕ → Placed → Type 0
@@ -95,6 +95,6 @@ read-place (KeyedShape part) image place stands some =
         (content-keys part image None entries stands.1.intervals) item
         (sym (ap (λ (content : Content). item_at content place) stands.1.records)
         ∙ content_item (KeyedShape part) image stands.0 stands.1 place ∙ is)
-read-place (RelativeShape part) image place stands some =
+read-place (NumberedShape part) image place stands some =
     found-place part image place
     (λ none. some (ap (λ (item : Option Item). option_and_then record_of item) none))

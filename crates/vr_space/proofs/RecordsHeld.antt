@@ -14,9 +14,10 @@ use Rattle.vr_seqset.specs.Entry.{Entry}
 use Rattle.vr_space.specs.Room.{Range, is_in}
 use Rattle.vr_space.specs.Keyed.{HoldRanges, IsKept, Keyed, content_from, entries_of, entry_block}
 use Rattle.vr_space.specs.Keyed.{items_of, placed, range_of, records_in}
-use Rattle.vr_space.specs.Part.{IsRecordOf, KeyedShape, RelativeShape, Shape, StandsFor}
-use Rattle.vr_space.proofs.SlotNumbers.{slots-below, slots_up}
-use Rattle.vr_space.proofs.SlotReads.{slots-record, stands-slots}
+use Rattle.vr_space.specs.Numbered.{start_of}
+use Rattle.vr_space.specs.Part.{IsRecordOf, KeyedShape, NumberedShape, Shape, StandsFor}
+use Rattle.vr_space.proofs.Numbers.{numbers-below, span_up}
+use Rattle.vr_space.proofs.NumberedReads.{numbered-record, stands-numbered}
 
 -- a record that may stand at this place
 abbrev IsRecordAt : Keyed → Placed → Type 0
@@ -97,7 +98,8 @@ pub record-read : (shape : Shape) (image : Image) (content : Content)
     → item_at content place ≡ Some (Standing bytes) → IsRecordOf shape place bytes
 record-read (KeyedShape part) image content stands place bytes is =
     read-record part content place bytes (content-records part image content stands) is
-record-read (RelativeShape part) image content stands place bytes is =
-    slots-record part 1 (1 + slots_up part (area_count part.geometry)) content place bytes
-    (omega arith) (omega (arith, slots-below part stands.part_is))
-    (stands-slots part image content stands) is
+record-read (NumberedShape part) image content stands place bytes is =
+    let start = start_of part in
+    numbered-record part start (start + span_up part (area_count part.geometry)) content place bytes
+    (omega arith) (omega (arith, numbers-below part stands.part_is))
+    (stands-numbered part image content stands) is

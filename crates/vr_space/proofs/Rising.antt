@@ -13,6 +13,7 @@ use Rattle.std.proofs.lemmas.Map.Keys.{sorted_head, sorted_tail}
 use Rattle.vr_types.specs.Content.{Content, Placed, place_cmp, places_of, Ascends, HasLength}
 use Rattle.vr_types.specs.Content.{IsContent}
 use Rattle.vr_types.specs.Content.{Item}
+use Rattle.vr_types.specs.Content.Item.{Standing, Withdrawn}
 use Rattle.vr_types.specs.Fields.{four}
 use Rattle.vr_types.specs.Geometry.{area_count}
 use Rattle.vr_types.specs.Image.{Image, block_at}
@@ -22,13 +23,15 @@ use Rattle.vr_seqset.specs.Entry.{Entry}
 use Rattle.vr_space.specs.Room.{Range, is_in, is_above}
 use Rattle.vr_space.specs.Keyed.{Keyed, HoldRanges, entry_block, entries_of, items_of, key_of}
 use Rattle.vr_space.specs.Keyed.{placed, records_of, records_in, range_of, content_from}
-use Rattle.vr_space.specs.Part.{Shape, KeyedShape, RelativeShape, StandsFor}
+use Rattle.vr_space.specs.Numbered.{start_of}
+use Rattle.vr_space.specs.Part.{Shape, KeyedShape, NumberedShape, StandsFor}
+use Rattle.vr_space.specs.Rosters.{Numbered}
 use Rattle.vr_space.proofs.Places.{AllAbove, above-more, in-most, lt_from_test}
 use Rattle.vr_space.proofs.KeyedContent.{AscendFrom, content-above}
 use Rattle.vr_space.proofs.KeyedSound.{head-ascends}
-use Rattle.vr_space.proofs.SlotContent.{AreSlotsOf}
-use Rattle.vr_space.proofs.SlotNumbers.{four-rises, slots-below, slots_up}
-use Rattle.vr_space.proofs.SlotReads.{stands-slots}
+use Rattle.vr_space.proofs.NumberedContent.{AreItemsOf, IsItemBy}
+use Rattle.vr_space.proofs.Numbers.{four-rises, numbers-below, span_up}
+use Rattle.vr_space.proofs.NumberedReads.{stands-numbered}
 
 -- each place is above those before it
 abbrev pub Rising : Content → Type 0
@@ -192,33 +195,41 @@ content-lengths part image low (entry ∷ entries) =
     (placed-lengths part (range_of low entry) (items_of (block_at image (entry_block part entry))))
     (content-lengths part image (Some entry.high) entries)
 
--- ---- by the numbers of slots
+-- ---- by numbers
 
-slots-above : (most number from to : ℕ) (content : Content) → number < from → to ≤ 2 ^ 32
-    → AreSlotsOf most from to content → AllAbove (Some (four number)) content
-slots-above most number from to [] less fits all = tt
-slots-above most number from to (entry ∷ content) less fits (other, is, least, below, more) = (
+items-above : (part : Numbered) (number from to : ℕ) (content : Content) → number < from
+    → to ≤ 2 ^ 32 → AreItemsOf part from to content → AllAbove (Some (four number)) content
+items-above part number from to [] less fits all = tt
+items-above part number from to (entry ∷ content) less fits (other, is, least, below, more) = (
   ap (λ (place : List ℕ). is_lt (place_cmp (four number) place)) is.place
       ∙ ap is_lt
       (four-rises number other (omega (arith, less, least)) (omega (arith, below, fits))),
-  slots-above most number (suc other) to content (omega (arith, less, least)) fits more,
+  items-above part number (suc other) to content (omega (arith, less, least)) fits more,
 )
 
-slots-rise : (most from to : ℕ) (content : Content) → to ≤ 2 ^ 32
-    → AreSlotsOf most from to content → Rising content
-slots-rise most from to [] fits all = tt
-slots-rise most from to (entry ∷ content) fits (number, is, least, below, more) = (
+items-rise : (part : Numbered) (from to : ℕ) (content : Content) → to ≤ 2 ^ 32
+    → AreItemsOf part from to content → Rising content
+items-rise part from to [] fits all = tt
+items-rise part from to (entry ∷ content) fits (number, is, least, below, more) = (
   subst (λ (place : List ℕ). AllAbove (Some place) content) (sym is.place)
-      (slots-above most number (suc number) to content (omega arith) fits more),
-  slots-rise most (suc number) to content fits more,
+      (items-above part number (suc number) to content (omega arith) fits more),
+  items-rise part (suc number) to content fits more,
 )
 
-slots-lengths : (most from to : ℕ) (content : Content) → AreSlotsOf most from to content
-    → AllByRecursion HasLength content
-slots-lengths most from to [] all = tt
-slots-lengths most from to ((place, item) ∷ content) (number, is, least, below, more) = (
-  subst (λ (one : Item). HasLength (place, one)) (sym is.item) tt,
-  slots-lengths most (suc number) to content more,
+-- what was withdrawn had a byte at least
+item-has-length : (relative : Bool) (most : ℕ) (place : List ℕ) (item : Item)
+    → IsItemBy relative most item → HasLength (place, item)
+item-has-length true most place item (bytes, is, whole) =
+    subst (λ (one : Item). HasLength (place, one)) (sym is) tt
+item-has-length false most place (Standing bytes) (some, fits) = tt
+item-has-length false most place (Withdrawn n) (some, fits) = some
+
+items-lengths : (part : Numbered) (from to : ℕ) (content : Content)
+    → AreItemsOf part from to content → AllByRecursion HasLength content
+items-lengths part from to [] all = tt
+items-lengths part from to ((place, item) ∷ content) (number, is, least, below, more) = (
+  item-has-length part.relative part.most place item is.item,
+  items-lengths part (suc number) to content more,
 )
 
 -- what blocks stand for is a content
@@ -232,18 +243,19 @@ stands_content (KeyedShape part) image content stands =
       lengths = All-from_recursion HasLength _
           (content-lengths part image None (entries_of (block_at image part.head)));
     })
-stands_content (RelativeShape part) image content stands =
-    let past = 1 + slots_up part (area_count part.geometry) in
-    let all : AreSlotsOf part.most 1 past content = stands-slots part image content stands in
+stands_content (NumberedShape part) image content stands =
+    let start = start_of part in
+    let past = start + span_up part (area_count part.geometry) in
+    let all : AreItemsOf part start past content = stands-numbered part image content stands in
     record {
       ascends = sorted-rising content
-          (slots-rise part.most 1 past content
-          (omega (arith, slots-below part stands.part_is)) all);
-      lengths = All-from_recursion HasLength content (slots-lengths part.most 1 past content all);
+          (items-rise part start past content
+          (omega (arith, numbers-below part stands.part_is)) all);
+      lengths = All-from_recursion HasLength content (items-lengths part start past content all);
     }
 
 -- and one content at most
 pub one_content : (shape : Shape) (image : Image) (one other : Content) → StandsFor shape image one
     → StandsFor shape image other → one ≡ other
 one_content (KeyedShape part) image one other first second = first.records ∙ sym second.records
-one_content (RelativeShape part) image one other first second = first.records ∙ sym second.records
+one_content (NumberedShape part) image one other first second = first.records ∙ sym second.records

@@ -11,14 +11,13 @@ use Rattle.vr_space.specs.Room.{Lengths, HaveRoom}
 use Rattle.vr_space.specs.Keyed.{Keyed, EachMayLeave, HaveRooms, entries_of, entry_block}
 use Rattle.vr_space.specs.Keyed.{InArea, lengths_of}
 use Rattle.vr_space.specs.Owners.{Owners}
-use Rattle.vr_space.specs.Part.{Shape, KeyedShape, RelativeShape, HasKeptRoom, HasRoom}
+use Rattle.vr_space.specs.Part.{Shape, KeyedShape, NumberedShape, HasKeptRoom, HasRoom}
 use Rattle.vr_space.specs.Part.{InPart, IsSound}
-use Rattle.vr_space.specs.Rosters.{IsOf, IsOwnArea, roster_block}
-use Rattle.vr_space.specs.Slots.{IsSlots}
+use Rattle.vr_space.specs.Rosters.{IsOf, IsOwnArea}
+use Rattle.vr_space.specs.Numbered.{IsFilled}
 use Rattle.vr_space.proofs.KeyedSound.{AreIn, IsBlock, each-less, head-in}
-use Rattle.vr_space.proofs.Chains.{roster-inside}
 use Rattle.vr_space.proofs.PartBlocks.{IsPartBlock, area-owned}
-use Rattle.vr_space.proofs.SlotRooms.{slots-less}
+use Rattle.vr_space.proofs.NumberedRooms.{numbered-less}
 
 -- What is kept has room where a crash may leave no more of the part's blocks.
 pub room-less : (shape : Shape) (owners : Owners) (kept : Lengths) (a b : Seen)
@@ -35,10 +34,10 @@ room-less (KeyedShape part) owners kept a b less (sound, owned) room =
           each-less part a b _ None (entries_of top) within sound.area
           (head-in part top (sound.heads top before)) (room.each top before);
     }
-room-less (RelativeShape part) owners kept a b less sound room =
-    slots-less part (IsOwnArea part owners) (IsSlots part) b.may a.may kept
-    (λ area own top. less (roster_block part area) top (area-owned part owners a sound.on area own
-    (roster_block part area) (roster-inside part area))) sound.chain room
+room-less (NumberedShape part) owners kept a b less sound room =
+    numbered-less part (IsOwnArea part owners) (IsFilled part) b.may a.may kept
+    (λ area own n inside block. less n block (area-owned part owners a sound.on area own n inside))
+    sound.chain room
 
 -- so a call that puts nothing leaves it room
 pub room-keeps : (tells : Bool) → IsTrue tells → (shape : Shape) (owners : Owners) (kept : Lengths)
@@ -72,13 +71,11 @@ room-image (KeyedShape part) owners kept now (sound, owned) room image left =
     rooms-image part kept now image None (entries_of (block_at image part.head)) sound.area mine
     (head-in part (block_at image part.head) (sound.heads (block_at image part.head) top))
     (room.each (block_at image part.head) top)
-room-image (RelativeShape part) owners kept now sound room image left =
-    slots-less part (IsOwnArea part owners) (IsSlots part) (IsOf image) now.may kept
-    (λ area own top is.
-    let there = area-owned part owners now sound.on area own (roster_block part area)
-    (roster-inside part area) in
-    subst (now.may (roster_block part area)) (sym is)
-    (left.each (roster_block part area) there.0 there.1)) sound.chain room
+room-image (NumberedShape part) owners kept now sound room image left =
+    numbered-less part (IsOwnArea part owners) (IsFilled part) (IsOf image) now.may kept
+    (λ area own n inside block is.
+    let there = area-owned part owners now sound.on area own n inside in
+    subst (now.may n) (sym is) (left.each n there.0 there.1)) sound.chain room
 
 -- and so has that of each moment of a call that puts nothing
 pub keeps-rooms : (tells : Bool) → IsTrue tells → (shape : Shape) (owners : Owners)

@@ -1,17 +1,19 @@
 -- What a part keeps in memory of its blocks. Above the part nobody reads what is in it. The rules
 -- are this project's own.
 use Rattle.std.specs.Prelude.{ℕ, List, map, Contains, Option}
+use Rattle.vr_space.specs.Entries.{Tail}
 use Rattle.vr_space.specs.Met.{Met}
 use Rattle.vr_space.specs.Split.{SplitNow}
 
 -- The split that is under way, and the intervals that the last two calls of `room` met, the last
--- one first; and of a chain of rosters its areas in their order, and how many intervals of them are
--- used.
+-- one first; of a chain of rosters its areas in their order, and how many intervals of them are
+-- used; and of an entry-sequenced part where its last item ends.
 pub record Known : Type 0 where
   pub split : Option SplitNow
   pub met : List Met
   pub areas : List ℕ
   pub used : ℕ
+  pub tail : Option Tail
 
 -- the places that were met
 abbrev pub places_met : Known → List (List ℕ)

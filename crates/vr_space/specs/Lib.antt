@@ -7,8 +7,10 @@ pub mod Keyed
 pub mod Split
 pub mod UnderWay
 pub mod Met
-pub mod Known
 pub mod Rosters
 pub mod Slots
+pub mod Entries
+pub mod Known
+pub mod Numbered
 pub mod Part
 pub mod Search

@@ -32,39 +32,40 @@ use Rattle.vr_space.specs.Owners.{Owners}
 use Rattle.vr_space.specs.Keyed.{InArea, IsOwned, Keyed, keyed_way, KeyedStandsFor, IsKeyedSound}
 use Rattle.vr_space.specs.Keyed.{IsKeyedAtRest, KeepsRoom, HaveRooms, IsValid, entries_of, key_of}
 use Rattle.vr_space.specs.Rosters.{IsInArea, IsOf, Numbered}
-use Rattle.vr_space.specs.Slots.{AreSlotsAtRest, AreSlotsSound, IsNumberedOn, IsSlotPlace}
-use Rattle.vr_space.specs.Slots.{IsSlotRecord, KeepsSlots, KnowsChain, SlotsStandFor, SlotsStayIn}
-use Rattle.vr_space.specs.Slots.{slot_fits, slot_room, slot_way}
+use Rattle.vr_space.specs.Numbered.{IsKeptLength, IsNumberPlace, IsNumberedAtRest, IsNumberedLength}
+use Rattle.vr_space.specs.Numbered.{IsNumberedOn, IsNumberedRecord, IsNumberedSound, KeepsNumbered}
+use Rattle.vr_space.specs.Numbered.{KnowsChain, NumberedStandsFor, NumberedStaysIn, address_by}
+use Rattle.vr_space.specs.Numbered.{left_in, numbered_fits, numbered_room, numbered_way}
 
 -- Where a part is on its blocks and how they are spelled, by its kind.
 pub data Shape : Type 0 where
   KeyedShape : Keyed → Shape
-  RelativeShape : Numbered → Shape
+  NumberedShape : Numbered → Shape
 
 -- its number
 abbrev pub part_no : Shape → PartNo
 part_no (KeyedShape part) = record { 0 = part.part }
-part_no (RelativeShape part) = record { 0 = part.part }
+part_no (NumberedShape part) = record { 0 = part.part }
 
 -- the blocks that it is on are there, with their size
 abbrev pub IsOn : Shape → Seen → Type 0
 IsOn (KeyedShape part) now = (part.head + part.area < now.count) × (now.size ≡ part.size)
-IsOn (RelativeShape part) now = IsNumberedOn part now
+IsOn (NumberedShape part) now = IsNumberedOn part now
 
 -- how long its places are at most
 abbrev pub place_length : Shape → ℕ
 place_length (KeyedShape part) = part.key
-place_length (RelativeShape part) = 4
+place_length (NumberedShape part) = 4
 
 -- a length that a record of the part may have
 abbrev pub IsLengthOf : Shape → ℕ → Type 0
 IsLengthOf (KeyedShape part) n = (part.offset + part.key ≤ n) × (n ≤ part.most)
-IsLengthOf (RelativeShape part) n = n ≡ part.most
+IsLengthOf (NumberedShape part) n = IsNumberedLength part.relative part.most n
 
 -- the blocks of its first area
 abbrev pub InFirstArea : Shape → ℕ → Type 0
 InFirstArea (KeyedShape part) n = InArea part n
-InFirstArea (RelativeShape part) n = IsInArea part part.first n
+InFirstArea (NumberedShape part) n = IsInArea part part.first n
 
 -- the blocks that are its own
 abbrev pub InPart : Shape → Owners → ℕ → Type 0
@@ -73,17 +74,17 @@ InPart shape owners n = owners n ≡ Some (part_no shape).0
 -- a place that a record of the part may have
 abbrev pub IsPlaceOf : Shape → List ℕ → Type 0
 IsPlaceOf (KeyedShape part) place = length place ≡ part.key
-IsPlaceOf (RelativeShape part) place = IsSlotPlace place
+IsPlaceOf (NumberedShape part) place = IsNumberPlace part place
 
 -- a record that may stand at the place
 abbrev pub IsRecordOf : Shape → List ℕ → List ℕ → Type 0
 IsRecordOf (KeyedShape part) place bytes = IsValid part bytes × (key_of part bytes ≡ place)
-IsRecordOf (RelativeShape part) place bytes = IsSlotRecord part place bytes
+IsRecordOf (NumberedShape part) place bytes = IsNumberedRecord part place bytes
 
 -- the blocks of the image stand for the content
 abbrev pub StandsFor : Shape → Image → Content → Type 0
 StandsFor (KeyedShape part) image content = KeyedStandsFor part image content
-StandsFor (RelativeShape part) image content = SlotsStandFor part image content
+StandsFor (NumberedShape part) image content = NumberedStandsFor part image content
 
 -- they stand for some content
 abbrev pub Stands : Shape → Image → Type 0
@@ -92,18 +93,18 @@ Stands shape image = (content : Content) × StandsFor shape image content
 -- how a reader gets to a place
 abbrev pub way_to : Shape → List ℕ → Way
 way_to (KeyedShape part) place = keyed_way part place
-way_to (RelativeShape part) place = slot_way part place
+way_to (NumberedShape part) place = numbered_way part place
 
 -- every content that a crash may leave of a block is in order, and leads to blocks of the part
 -- alone
 abbrev pub IsSound : Shape → Owners → Seen → Type 0
 IsSound (KeyedShape part) owners now = IsKeyedSound part now × IsOwned part owners
-IsSound (RelativeShape part) owners now = AreSlotsSound part owners now
+IsSound (NumberedShape part) owners now = IsNumberedSound part owners now
 
 -- and blocks that say where others are have one content
 abbrev pub IsAtRest : Shape → Owners → Seen → Type 0
 IsAtRest (KeyedShape part) owners now = IsKeyedAtRest part now × IsOwned part owners
-IsAtRest (RelativeShape part) owners now = AreSlotsAtRest part owners now
+IsAtRest (NumberedShape part) owners now = IsNumberedAtRest part owners now
 
 -- the same, whichever blocks are the part's
 abbrev pub IsQuiet : Shape → Seen → Type 0
@@ -112,18 +113,18 @@ IsQuiet shape now = (owners : Owners) × IsAtRest shape owners now
 -- the image leads to blocks of the part alone
 abbrev pub StaysIn : Shape → Owners → Image → Type 0
 StaysIn (KeyedShape part) owners image = IsOwned part owners
-StaysIn (RelativeShape part) owners image = SlotsStayIn part owners image
+StaysIn (NumberedShape part) owners image = NumberedStaysIn part owners image
 
 -- whatever a crash leaves of an interval, what is kept for its places has room beside it
 abbrev pub HasKeptRoom : Shape → Lengths → Seen → Type 0
 HasKeptRoom (KeyedShape part) kept now = KeepsRoom part kept now
-HasKeptRoom (RelativeShape part) kept now = KeepsSlots part kept now.may
+HasKeptRoom (NumberedShape part) kept now = KeepsNumbered part kept now.may
 
 -- the same in one image
 abbrev pub HasRoom : Shape → Lengths → Image → Type 0
 HasRoom (KeyedShape part) kept image =
     HaveRooms part kept image None (entries_of (block_at image part.head))
-HasRoom (RelativeShape part) kept image = KeepsSlots part kept (IsOf image)
+HasRoom (NumberedShape part) kept image = KeepsNumbered part kept (IsOf image)
 
 -- the item at a place
 abbrev pub item_of : Shape → Image → List ℕ → Option Item
@@ -138,10 +139,10 @@ abbrev pub MayHold : Shape → (ℕ → Block → Type 0) → List ℕ → Optio
 MayHold shape may place item = MayFind may item (way_to shape place)
 
 -- What a call leaves at a place where this item is, or none, as it gives a record to the place, or
--- takes the one there away: of keyed and relative parts nothing is withdrawn.
+-- takes the one there away.
 abbrev pub left_by : Shape → Option Item → Option (List ℕ) → Option Item
 left_by (KeyedShape part) now bytes = option_map Standing bytes
-left_by (RelativeShape part) now bytes = option_map Standing bytes
+left_by (NumberedShape part) now bytes = left_in part.relative now bytes
 
 -- which items, or none, a call adds to what places may hold
 abbrev pub Nothing : List ℕ → Option Item → Type 0
@@ -219,27 +220,29 @@ IsFirm shape now place = (item : Option Item) → MayHold shape now.may place it
 abbrev pub room_of : Shape → Known → Image → ℕ → Lengths → List ℕ → ℕ → Room
 room_of (KeyedShape part) known image free kept place n =
     keyed_room part known.split image kept place n
-room_of (RelativeShape part) known image free kept place n = slot_room part image free place
+room_of (NumberedShape part) known image free kept place n =
+    numbered_room part known.tail image free place n
 
 -- a record of this length has room beside what stands there and what is kept
-abbrev pub fits_at : Shape → Image → Lengths → List ℕ → ℕ → Bool
-fits_at (KeyedShape part) image kept place n = keyed_fits part image kept place n
-fits_at (RelativeShape part) image kept place n = slot_fits part image place
+abbrev pub fits_at : Shape → Known → Image → Lengths → List ℕ → ℕ → Bool
+fits_at (KeyedShape part) known image kept place n = keyed_fits part image kept place n
+fits_at (NumberedShape part) known image kept place n =
+    numbered_fits part known.tail image place n
 
 -- the stage of a split under way that comes before any change at the place
 abbrev pub stage_of : Shape → Known → Image → List ℕ → Option StageKind
 stage_of (KeyedShape part) known image place = keyed_stage part known.split image place
-stage_of (RelativeShape part) known image place = None
+stage_of (NumberedShape part) known image place = None
 
 -- the blocks are as the split under way left them
 abbrev pub IsUnderWay : Shape → Known → Seen → Type 0
 IsUnderWay (KeyedShape part) known now = KeyedUnderWay part known.split now
-IsUnderWay (RelativeShape part) known now = Unit {0}
+IsUnderWay (NumberedShape part) known now = Unit {0}
 
 -- the blocks that were met are as they were
 abbrev pub AreMet : Shape → Known → Image → Type 0
 AreMet (KeyedShape part) known image = All (IsMet part image) known.met
-AreMet (RelativeShape part) known image = KnowsChain part known image
+AreMet (NumberedShape part) known image = KnowsChain part known image
 
 -- The blocks are as the part knows them: by its split under way, and those that it met.
 pub record Knows (shape : Shape) (known : Known) (now : Seen) : Type 0 where
@@ -250,7 +253,7 @@ pub record Knows (shape : Shape) (known : Known) (now : Seen) : Type 0 where
 -- makes the chain of areas longer
 abbrev pub IsStageOf : Shape → StageKind → Type 0
 IsStageOf (KeyedShape part) kind = IsIntervalStage kind
-IsStageOf (RelativeShape part) kind = kind ≡ Extend
+IsStageOf (NumberedShape part) kind = kind ≡ Extend
 
 -- a stage comes before such a record
 abbrev pub IsStageDue : Shape → Known → Image → ℕ → Lengths → List ℕ → ℕ → Type 0
@@ -269,8 +272,8 @@ OwnersAfter part Post old new = (new ≡ old) ⊎ IsClaimed part old new
 OwnersAfter part Extend old new = (new ≡ old) ⊎ IsClaimed part old new
 OwnersAfter part stage old new = new ≡ old
 
--- The areas that a part keeps in memory go with those that it owns: both stay, or the least free area
--- is the part's now and the last one that it keeps.
+-- The areas that a part keeps in memory go with those that it owns: both stay, or the least free
+-- area is the part's now and the last one that it keeps.
 abbrev pub KeepsChain : PartNo → List ℕ → List ℕ → List (Option PartNo) → List (Option PartNo)
     → Type 0
 KeepsChain part areas after old new = ((after ≡ areas) × (new ≡ old))
@@ -280,12 +283,12 @@ KeepsChain part areas after old new = ((after ≡ areas) × (new ≡ old))
 -- what a stage of a chain of areas leaves: one interval more is used
 abbrev pub HasMore : Shape → Known → Known → Type 0
 HasMore (KeyedShape part) old new = Unit {0}
-HasMore (RelativeShape part) old new = new.used ≡ old.used + 1
+HasMore (NumberedShape part) old new = new.used ≡ old.used + 1
 
 -- The owners are those of as many areas as the volume of a chain has.
 abbrev pub HasOwners : Shape → List (Option PartNo) → Type 0
 HasOwners (KeyedShape part) areas = Unit {0}
-HasOwners (RelativeShape part) areas = length areas ≡ area_count part.geometry
+HasOwners (NumberedShape part) areas = length areas ≡ area_count part.geometry
 
 -- how many areas a part owns
 abbrev pub owned_count : PartNo → List (Option PartNo) → ℕ
@@ -294,22 +297,22 @@ owned_count part areas = length (filter (is_owner part) areas)
 -- a part of chained areas keeps as many as it owns
 abbrev pub OwnsChain : Shape → Known → List (Option PartNo) → Type 0
 OwnsChain (KeyedShape part) known areas = Unit {0}
-OwnsChain (RelativeShape part) known areas =
+OwnsChain (NumberedShape part) known areas =
     owned_count (record { 0 = part.part }) areas ≡ length known.areas
 
 -- the blocks of the areas that the part has, as it keeps them in memory
 abbrev pub InHeld : Shape → Known → ℕ → Type 0
 InHeld (KeyedShape part) known n = InArea part n
-InHeld (RelativeShape part) known n =
+InHeld (NumberedShape part) known n =
     (area : ℕ) × Contains known.areas area × IsInArea part area n
 
 -- the blocks of an area that a stage of the part may claim: a keyed part stays in its one area
 abbrev pub InClaimed : Shape → ℕ → ℕ → Type 0
 InClaimed (KeyedShape part) area n = ⊥
-InClaimed (RelativeShape part) area n = IsInArea part area n
+InClaimed (NumberedShape part) area n = IsInArea part area n
 
--- The part has the blocks that it had, and those of the least free area too, which were nobody's, as
--- a stage may claim it; and no other part has less.
+-- The part has the blocks that it had, and those of the least free area too, which were nobody's,
+-- as a stage may claim it; and no other part has less.
 pub record MayGrow (shape : Shape) (areas : List (Option PartNo)) (owners grown : Owners) : Type 0
   where
     pub kept : (n part : ℕ) → owners n ≡ Some part → grown n ≡ Some part
@@ -326,19 +329,25 @@ given (Some bytes) = Some bytes.now
 abbrev pub IsGiven : Shape → List ℕ → Option (Bor (List ℕ)) → Type 0
 IsGiven shape place bytes = IfSome (given bytes) (IsRecordOf shape place)
 
--- There is room for what is given: it has room at its place, or one at least as long is kept there,
--- or a record is taken away.
-abbrev pub HasRoomFor : Shape → Image → Lengths → List ℕ → Option (List ℕ) → Type 0
-HasRoomFor shape image kept place None = Unit {0}
-HasRoomFor shape image kept place (Some bytes) =
-    IsTrue (fits_at shape image kept place (length bytes))
-    ⊎ ((n : ℕ) × (length_at kept place ≡ Some n) × (length bytes ≤ n))
+-- a length that a record may have where one of that length is kept: at most that, and of an
+-- entry-sequenced part that alone
+abbrev pub MayGoBack : Shape → ℕ → ℕ → Type 0
+MayGoBack (KeyedShape part) kept n = n ≤ kept
+MayGoBack (NumberedShape part) kept n = IsKeptLength part.relative kept n
+
+-- There is room for what is given: it has room at its place, or one is kept there as long as which
+-- it may be, or a record is taken away.
+abbrev pub HasRoomFor : Shape → Known → Image → Lengths → List ℕ → Option (List ℕ) → Type 0
+HasRoomFor shape known image kept place None = Unit {0}
+HasRoomFor shape known image kept place (Some bytes) =
+    IsTrue (fits_at shape known image kept place (length bytes))
+    ⊎ ((n : ℕ) × (length_at kept place ≡ Some n) × MayGoBack shape n (length bytes))
 
 -- It may be set: no stage of a split is left at its place, and there is room for it.
 pub record CanSet (shape : Shape) (known : Known) (image : Image) (kept : Lengths)
     (place : List ℕ) (bytes : Option (List ℕ)) : Type 0 where
   pub no_stage : stage_of shape known image place ≡ None
-  pub room : HasRoomFor shape image kept place bytes
+  pub room : HasRoomFor shape known image kept place bytes
 
 -- The place is the least with a record that the search may find.
 pub record IsNextPlace (shape : Shape) (image : Image) (from : Whence) (place : List ℕ) : Type 0
@@ -356,3 +365,13 @@ HasNoNext shape image from = (place : List ℕ) → IsTrue (allows from place)
 abbrev pub NextIs : Shape → Image → Whence → Bool → List ℕ → Type 0
 NextIs shape image from true place = IsNextPlace shape image from place
 NextIs shape image from false place = HasNoNext shape image from
+
+-- Nothing is ever withdrawn from the part: it isn't entry-sequenced.
+abbrev pub WithdrawsNone : Shape → Type 0
+WithdrawsNone (KeyedShape part) = Unit {0}
+WithdrawsNone (NumberedShape part) = part.relative ≡ true
+
+-- the address that the next record of this length gets: of an entry-sequenced part alone
+abbrev pub address_of : Shape → Known → ℕ → Option ℕ
+address_of (KeyedShape part) known n = None
+address_of (NumberedShape part) known n = address_by part.relative part known.tail n

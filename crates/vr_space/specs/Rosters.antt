@@ -3,7 +3,7 @@
 -- entry-sequenced and relative record data sets). How a crash may leave a chain is this project's
 -- own rule.
 use Rattle.std.specs.Prelude.{◌≡◌, ℕ, zero, suc, ◌+◌, ◌-◌, ◌<◌, ◌≤◌, List, [], ◌∷◌, length}
-use Rattle.std.specs.Prelude.{◌⊎◌, Option, Some, None, nat_lt, if◌then◌else◌}
+use Rattle.std.specs.Prelude.{◌⊎◌, Bool, Option, Some, None, nat_lt, if◌then◌else◌}
 use Rattle.vr_types.specs.Geometry.{IsAllowed, area_count, head_block}
 use Rattle.vr_types.specs.Image.{Block, Image, block_at}
 use Rattle.vr_types.specs.declared.geometry.Geometry.{Geometry}
@@ -12,13 +12,15 @@ use Rattle.vr_seqset.specs.Reading.{roster_in}
 use Rattle.vr_space.specs.Owners.{Owners}
 use Rattle.vr_space.specs.Way.{Way, Found, Reads}
 
--- Where such a part is: its number, its first area, and the shape of its volume; and how long its
--- records are at most. Those of a relative part all have this length.
+-- Where such a part is: its number, its first area, and the shape of its volume; how long its
+-- records are at most; and whether it is a relative part, whose intervals have slots of this
+-- length, or an entry-sequenced one, whose records have lengths of their own.
 pub record Numbered : Type 0 where
   pub part : ℕ
   pub first : ℕ
   pub geometry : Geometry
   pub most : ℕ
+  pub relative : Bool
 
 -- there may be such a part: its first area is there, and a record fits into an interval
 pub record IsNumbered (part : Numbered) : Type 0 where
@@ -141,9 +143,12 @@ abbrev pub IsGoingOn : (ℕ → Type 0) → Option ℕ → Type 0
 IsGoingOn After None = ⊥
 IsGoingOn After (Some area) = After area
 
--- Whatever is allowed of the rosters, the chain has the interval of that number.
-abbrev pub HasInterval : Numbered → (ℕ → Block → Type 0) → ℕ → ℕ → ℕ → Type 0
-HasInterval part may zero n area = ⊥
-HasInterval part may (suc k) n area = (top : Block) → may (roster_block part area) top
-    → (n < (roster_in top).used)
-    ⊎ IsGoingOn (HasInterval part may k (n - part.geometry.area)) (roster_in top).next
+-- Whatever is allowed of the rosters, the chain has the interval of that number, in the area that
+-- has it; and what is allowed of this has what is meant.
+abbrev pub HasInterval : Numbered → (Block → Type 0) → (ℕ → Block → Type 0) → ℕ → ℕ → ℕ → Type 0
+HasInterval part Has may zero n area = ⊥
+HasInterval part Has may (suc k) n area = (top : Block) → may (roster_block part area) top
+    → ((n < (roster_in top).used)
+    × ((block : Block) → may (interval_in part area n) block → Has block))
+    ⊎ ((part.geometry.area ≤ n)
+    × IsGoingOn (HasInterval part Has may k (n - part.geometry.area)) (roster_in top).next)

@@ -2,6 +2,7 @@
 ghost use Rattle.std.specs.Prelude.{◌≡◌, ◌<◌};
 ghost use Rattle.vr_types.specs.Geometry.{area_count};
 ghost use Rattle.vr_space.specs.Rosters.{interval_in, roster_block};
+ghost use Rattle.vr_space.specs.Numbered.{span_of, start_of};
 ghost use Rattle.vr_space.specs.Slots.{slots_of};
 
 use std::marker::Model;
@@ -9,14 +10,15 @@ use vr_ci_match::slots;
 use vr_types::{Geometry, PartNo};
 
 /// Where an entry-sequenced or relative part is: its number, its first area, and the shape of its
-/// volume; and how many bytes its longest record has, which is the length of each slot of a
-/// relative part. Such a record has room in an interval of its own.
+/// volume; how many bytes its longest record has, which is the length of each slot of a relative
+/// part; and whether it is a relative part. Such a record has room in an interval of its own.
 #[derive(Drop)]
 pub struct ChainLayout {
     pub part: PartNo,
     pub first: u32,
     pub geometry: Geometry,
     pub most: u16,
+    pub relative: bool,
 }
 
 impl Model for ChainLayout {
@@ -29,6 +31,7 @@ impl Model for ChainLayout {
       first = layout.first;
       geometry = layout.geometry;
       most = layout.most;
+      relative = layout.relative;
     } };
 
     ghost invariant = { λ layout. IsNumbered (record {
@@ -36,6 +39,7 @@ impl Model for ChainLayout {
       first = layout.first;
       geometry = layout.geometry;
       most = layout.most;
+      relative = layout.relative;
     }) };
 }
 
@@ -49,6 +53,7 @@ impl ChainLayout {
             first: self.first,
             geometry: self.geometry,
             most: self.most,
+            relative: self.relative,
         }
     }
 
@@ -58,6 +63,25 @@ impl ChainLayout {
         ensures some { 0 < result }
     {
         slots(self.geometry.size as usize, self.most) as u32
+    }
+
+    /// How many numbers of places an interval has: those of its slots, or of its bytes.
+    pub fn span(&self) -> u32
+        ensures count { result ≡ span_of self.now }
+        ensures some { 0 < result }
+    {
+        if self.relative {
+            self.slots()
+        } else {
+            self.geometry.size
+        }
+    }
+
+    /// The number of the first place: slots are numbered from 1, bytes from 0.
+    pub fn start(&self) -> u32
+        ensures { result ≡ start_of self.now }
+    {
+        if self.relative { 1 } else { 0 }
     }
 
     /// The block of an area's roster.

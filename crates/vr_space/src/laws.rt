@@ -4,7 +4,7 @@ ghost use Rattle.vr_types.specs.Content.{Content, IsContent, Item, Standing, ite
 ghost use Rattle.vr_types.specs.Image.{Image};
 ghost use Rattle.vr_space.specs.Owners.{Owners};
 ghost use Rattle.vr_space.specs.Part.{Shape, StandsFor, HasKeptRoom, IsPlaceOf, IsSound, MayHold};
-ghost use Rattle.vr_space.specs.Part.{Stands, fits_at, item_of, room_of};
+ghost use Rattle.vr_space.specs.Part.{MayGoBack, Stands, fits_at, item_of, room_of};
 ghost use Rattle.vr_space.specs.Known.{Known};
 ghost use Rattle.vr_space.specs.Room.{Lengths, with_length};
 
@@ -35,7 +35,7 @@ pub fn kept_takes_no_room<B: Blocks>(blocks: &B)
         → (owners : Owners) → IsSound shape owners (B.seen blocks.now)
         → HasKeptRoom shape kept (B.seen blocks.now)
         → ((item : Option Item) → MayHold shape (B.seen blocks.now).may place item
-        → (bytes : List ℕ) × (item ≡ Some (Standing bytes)) × (n ≤ length bytes))
+        → (bytes : List ℕ) × (item ≡ Some (Standing bytes)) × MayGoBack shape (length bytes) n)
         → HasKeptRoom shape (with_length kept place n) (B.seen blocks.now) }
 {}
 
@@ -51,7 +51,7 @@ pub fn kept_counts_once()
         ≡ room_of shape known image free kept other m }
     ensures fits { (shape : Shape) (image : Image) (kept : Lengths) (place bytes : List ℕ) (n : ℕ)
         → Stands shape image → item_of shape image place ≡ Some (Standing bytes) → n ≤ length bytes
-        → (other : List ℕ) (m : ℕ)
-        → fits_at shape image (with_length kept place n) other m
-        ≡ fits_at shape image kept other m }
+        → (known : Known) (other : List ℕ) (m : ℕ)
+        → fits_at shape known image (with_length kept place n) other m
+        ≡ fits_at shape known image kept other m }
 {}

@@ -15,6 +15,7 @@ ghost use Rattle.vr_space.specs.Met.{met_next};
 ghost use Rattle.vr_space.specs.Owners.{Owners};
 ghost use Rattle.vr_space.specs.Part.{
   Shape,
+  address_of,
   part_no,
   place_length,
   item_of,
@@ -141,6 +142,7 @@ pub trait Part {
         ensures shape { shape self.new ≡ shape self.old }
         ensures split { (known self.new).split ≡ (known self.old).split }
         ensures areas { (known self.new).areas ≡ (known self.old).areas }
+        ensures tail { (known self.new).tail ≡ (known self.old).tail }
         ensures put { put self.new ≡ put self.old };
 
     /// Does the stage that comes before such a record, and answers it. Each place keeps its item.
@@ -217,7 +219,8 @@ pub trait Part {
         ensures cause { HasCause (B.faults blocks.old) (B.faults blocks.new) result }
         ensures shape { shape self.new ≡ shape self.old };
 
-    /// Makes these bytes the record at the place, or takes the record there away.
+    /// Makes these bytes the record at the place, or takes the record there away: what is taken out
+    /// of an entry-sequenced part is withdrawn, and keeps its address.
     fn set<B: Blocks, K: Kept>(
         &mut self,
         blocks: &mut B,
@@ -277,6 +280,12 @@ pub trait Part {
         ensures shape { shape self.new ≡ shape self.old }
         ensures split { (known self.new).split ≡ (known self.old).split }
         ensures areas { (known self.new).areas ≡ (known self.old).areas };
+
+    /// The address that the next record of this length gets, in bytes from the start of the part
+    /// (DFSMS Using Data Sets, relative byte address). None of a part that isn't entry-sequenced. It
+    /// reads nothing.
+    fn address(&self, length: u32) -> Option<u32>
+        ensures { result ≡ address_of (shape self.now) (known self.now) length };
 
     /// How many areas it has, where they are a chain of rosters; 0 of a keyed part.
     fn areas(&self) -> u32

@@ -8,6 +8,7 @@ pub enum Room {
     Ready,
     /// This stage comes first.
     Stage(StageKind),
-    /// The place needs more areas than are free.
+    /// The place needs more areas than are free; or none, where an entry-sequenced part has its
+    /// interval already, and a record of this length may not stand there.
     NoSpace { need: u64, free: u32 },
 }

@@ -127,7 +127,8 @@ module _ (part : Keyed) (tells : Bool) (told : IsTrue tells) (a m : Seen) (call 
       → KeyedUnderWay part (Some split) m
   kept-way split left way =
       way-keeps tells told (KeyedShape part) (all_of part)
-      (record { split = Some split; met = []; areas = []; used = 0 }) a m call any-sound left way
+      (record { split = Some split; met = []; areas = []; used = 0; tail = None }) a m call any-sound
+      left way
 
   pub then-part : (kept : Lengths) (b : Seen) → KeepsRoom part kept a → KeepsPart part kept m b
       → KeepsPart part kept a b

@@ -15,7 +15,7 @@ use Rattle.vr_types.specs.declared.unit.StageKind.{StageKind}
 use Rattle.vr_types.specs.declared.unit.StageKind.TheVariants as stages
 use Rattle.vr_space.specs.Known.{Known}
 use Rattle.vr_space.specs.Part.{IsClaimed, KeepsChain, KeyedShape, OwnersAfter, OwnsChain}
-use Rattle.vr_space.specs.Part.{RelativeShape, Shape, owned_count, part_no}
+use Rattle.vr_space.specs.Part.{NumberedShape, Shape, owned_count, part_no}
 
 -- how many of a list pass a test, once one of them is another
 count-set : {X : Type 0} (p : X → Bool) (xs : List X) (i : ℕ) (y d : X) → i < length xs
@@ -131,7 +131,7 @@ module _ (part : PartNo) (areas after : List ℕ) (old new : List (Option PartNo
   pub owns-other : (shape : Shape) (known : Known) → (part_no shape).0 ≢ part.0
       → OwnsChain shape known old → OwnsChain shape known new
   owns-other (KeyedShape keyed) known apart owns = tt
-  owns-other (RelativeShape numbered) known apart owns = ⊎_elim
+  owns-other (NumberedShape numbered) known apart owns = ⊎_elim
       (λ same. ap (owned_count (record { 0 = numbered.part })) same.1 ∙ owns)
       (λ more. more.claimed.others (record { 0 = numbered.part }) apart ∙ owns) chain-by
 
@@ -140,7 +140,7 @@ pub owns-mine : (shape : Shape) (known later : Known) (old new : List (Option Pa
     → KeepsChain (part_no shape) known.areas later.areas old new → OwnsChain shape known old
     → OwnsChain shape later new
 owns-mine (KeyedShape keyed) known later old new chain owns = tt
-owns-mine (RelativeShape numbered) known later old new chain owns = ⊎_elim
+owns-mine (NumberedShape numbered) known later old new chain owns = ⊎_elim
     (λ same. ap (owned_count part) same.1 ∙ owns ∙ sym (ap length same.0))
     (λ more. more.claimed.mine ∙ ap (λ (n : ℕ). n + 1) owns ∙ sym more.kept)
     (chain-by part known.areas later.areas old new chain)

@@ -79,7 +79,8 @@ part-of number shape known =
 
 -- a part by its split alone
 abbrev pub part-split : PartNo → Shape → Option SplitNow → PartNow
-part-split number shape split = part-of number shape (record { split = split; met = []; areas = []; used = 0 })
+part-split number shape split = part-of number shape
+    (record { split = split; met = []; areas = []; used = 0; tail = None })
 
 -- A part that a call left with its shape, its split under way and its areas is the same but for what
 -- it met.
@@ -93,7 +94,7 @@ same-met number shape now known later shapes splits areas =
   where
     part-met : Shape → Option SplitNow → List ℕ → PartNow
     part-met s split kept =
-        part-of number s (record { split = split; met = []; areas = kept; used = 0 })
+        part-of number s (record { split = split; met = []; areas = kept; used = 0; tail = None })
 
 -- a part that a call left as it was
 pub laid-same : {P : Type 0} (shape : P → Shape) (known : P → Known)

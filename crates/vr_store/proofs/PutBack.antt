@@ -6,7 +6,8 @@ use Rattle.std.specs.List.{Contains}
 use Rattle.std.proofs.lemmas.Bool.{true≢false}
 use Rattle.std.proofs.lemmas.Bool.Decides.{Decides-eqb}
 use Rattle.std.proofs.lemmas.List.Elements.{All-nil}
-use Rattle.vr_types.specs.Content.{Content}
+use Rattle.std.specs.Option.{option_and_then, option_map}
+use Rattle.vr_types.specs.Content.{Content, Item, item_at}
 use Rattle.vr_types.specs.Locks.{same_unit}
 use Rattle.vr_types.specs.Seen.{Seen}
 use Rattle.vr_types.specs.declared.geometry.Geometry.{Geometry}
@@ -14,7 +15,7 @@ use Rattle.vr_types.specs.declared.unit.PartNo.{PartNo}
 use Rattle.vr_types.specs.declared.unit.Unit.{Unit as UnitOfRecovery}
 use Rattle.vr_space.specs.Known.{Known}
 use Rattle.vr_space.specs.Owners.{Owners}
-use Rattle.vr_space.specs.Part.{IsDueTo, Shape, part_no}
+use Rattle.vr_space.specs.Part.{IsDueTo, Shape, left_by, part_no}
 use Rattle.vr_log.specs.LogNow.{LogNow}
 use Rattle.vr_history.specs.Effects.{without_last}
 use Rattle.vr_history.specs.State.{BeforeImage, State}
@@ -32,7 +33,7 @@ use Rattle.vr_store.specs.Change.{IsSetIn}
 use Rattle.vr_store.specs.PutBack.{IsTakenFrom, IsToBack, back_at}
 use Rattle.vr_store.specs.Parts.{but_split}
 use Rattle.vr_store.specs.Store.{ChangedBy, IsFitImage, IsPartSet, IsRestedPart, IsSet, IsStored}
-use Rattle.vr_store.specs.Store.{PartNow, StoreNow, blocks_of, owners_of, part_among}
+use Rattle.vr_store.specs.Store.{PartNow, StoreNow, blocks_of, left_among, owners_of, part_among}
 use Rattle.vr_store.proofs.Among.{HasShape, among-all, among-shape}
 use Rattle.vr_store.proofs.PutNothing.{stored-sound}
 use Rattle.vr_store.proofs.PartsAt.{IsPartAt}
@@ -224,11 +225,15 @@ module _ (number : ℕ) (store : StoreNow) (unit : UnitOfRecovery) (part : PartN
       (among-all (IsRestedPart (record store { undo = from.undo }) state a) store.parts part.0
       before from.stored.parts found)
 
+  -- what putting back a record, or none, makes of the place
+  abbrev pub put-item : Option (List ℕ) → Option Item
+  put-item item = left_among store.parts part.0 state place item
+
   module _ (was item : Option (List ℕ)) (new : State)
-      (of : IsChangeOf store.log.geometry state (back_at unit part place was item))
-      (back : IsPutBack (back_at unit part place was item) state new) where
+      (of : IsChangeOf store.log.geometry state (back_at unit part place was (put-item item)))
+      (back : IsPutBack (back_at unit part place was (put-item item)) state new) where
     pub to-back : IsToBack store.log.geometry number (owners_of store) store.log
-        (images_in store.undo) state new (back_at unit part place was item) before.shape
+        (images_in store.undo) state new (back_at unit part place was (put-item item)) before.shape
         before.known place item a
     to-back = record {
       volume = subst (λ (i : List BeforeImage).
@@ -240,7 +245,9 @@ module _ (number : ℕ) (store : StoreNow) (unit : UnitOfRecovery) (part : PartN
       given = record {
         part = part-number-at store a set part before found;
         place_is = refl;
-        item = refl;
+        item = ap (λ (one : Option PartNow). option_and_then
+            (λ (shape : Shape). left_by shape (item_at (state.contents part.0) place) item)
+            (option_map (λ (part : PartNow). part.shape) one)) found;
       };
     }
 
@@ -257,7 +264,7 @@ module _ (number : ℕ) (store : StoreNow) (unit : UnitOfRecovery) (part : PartN
         → IsStored number (record store { parts = parts; changed = changed }) new b
     stored-taken b changed parts now into same sets had others =
         stored-back number (record store { undo = from.undo }) unit state new
-        (back_at unit part place was item) a (set-bare store a set) from.stored before
+        (back_at unit part place was (put-item item)) a (set-bare store a set) from.stored before
         found refl of back b store.undo changed parts now into same
         (subst (λ (i : List BeforeImage). IsSetIn store.log.geometry number (owners_of store)
         store.log i i state new before.shape now.known place (blocks_of unit changed) a b)

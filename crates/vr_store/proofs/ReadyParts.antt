@@ -2,16 +2,16 @@
 use Rattle.std.proofs.Common.{◌≡◌, ◌≤◌, inl, ℕ, Bool, true, false, cond, List, []}
 use Rattle.std.proofs.Common.{◌∷◌, ◌++◌, ◌+◌, Option, Some, None, refl, sym, ap, subst, ◌∙◌, arith}
 use Rattle.std.proofs.Common.{length}
-use Rattle.std.specs.Option.{option_map}
+use Rattle.std.specs.Option.{option_and_then, option_map}
 use Rattle.std.proofs.lemmas.List.{length-append, take_all}
-use Rattle.vr_types.specs.Content.{Content, Item, Standing}
+use Rattle.vr_types.specs.Content.{Content, Item, item_at}
 use Rattle.vr_types.specs.Seen.{Left, Seen}
 use Rattle.vr_types.specs.declared.geometry.Geometry.{Geometry}
 use Rattle.vr_types.specs.declared.unit.PartNo.{PartNo}
 use Rattle.vr_types.specs.declared.unit.Unit.{Unit as UnitOfRecovery}
 use Rattle.vr_space.specs.Known.{Known}
 use Rattle.vr_space.specs.Owners.{Owners}
-use Rattle.vr_space.specs.Part.{HasKeptRoom, IsFirm, IsPlaceOf, Shape, part_no}
+use Rattle.vr_space.specs.Part.{HasKeptRoom, IsFirm, IsPlaceOf, Shape, left_by, part_no}
 use Rattle.vr_space.specs.Room.{Lengths}
 use Rattle.vr_history.specs.Effects.{image_kept, with_change}
 use Rattle.vr_history.specs.State.{BeforeImage, State, is_kept, is_logged}
@@ -22,16 +22,15 @@ use Rattle.vr_undo.specs.Records.{before_of, images_in}
 use Rattle.vr_undo.proofs.Recording.{images-made}
 use Rattle.vr_volume.specs.Committed.{committed_by}
 use Rattle.vr_volume.specs.Laid.{shape_by}
-use Rattle.vr_volume.specs.PutBack.{images_of, lengths_kept, oldest}
+use Rattle.vr_volume.specs.PutBack.{lengths_kept, oldest}
 use Rattle.vr_volume.specs.Rests.{IsGivenFor, IsPartAtRest}
 use Rattle.vr_volume.specs.Safe.{IsSafe, IsSafeBy}
 use Rattle.vr_volume.specs.Steps.{Changing, IsChangeOf, image_by}
 use Rattle.vr_volume.proofs.Befores.{safe-more}
-use Rattle.vr_volume.proofs.Committing.{catalog-same}
-use Rattle.vr_volume.proofs.Meeting.{item-there}
 use Rattle.vr_volume.proofs.Rested.{laid-by-more}
 use Rattle.vr_store.specs.Change.{IsMadeOf, IsReadyBy, IsToSet, has_kept, has_logged, need_with}
-use Rattle.vr_store.specs.Store.{IsRestedPart, IsSet, PartNow, StoreNow, owners_of, part_among}
+use Rattle.vr_store.specs.Store.{IsRestedPart, IsSet, PartNow, StoreNow, left_among, owners_of}
+use Rattle.vr_store.specs.Store.{part_among}
 use Rattle.vr_store.specs.declared.prepared.Prepared.{Prepared}
 use Rattle.vr_store.proofs.Among.{among-all}
 use Rattle.vr_store.proofs.Recorded.{number-at}
@@ -90,17 +89,8 @@ module _ (geometry : Geometry) (number : ℕ) (owners : Owners) (log : LogNow)
       by_logged false logged = room-first logged
 
   -- a place that no unit has logged has what stands there, whatever a crash leaves
-  pub firm-to : oldest (images_of log.records) (part_no shape).0 place ≡ None
-      → IsFirm shape a place
-  firm-to none item holds =
-      ((all-safe geometry number owners log (committed_by old) a (omega (arith, to.volume.forced))
-      to.volume.safe).parts (part_no shape).0 shape
-      (ap (λ (c : Content). shape_by geometry c (part_no shape).0)
-      (catalog-same geometry old to.volume.laid log.records) ∙ to.part.laid)).items place item holds
-      none
-      ∙ item-there geometry old to.volume.laid log to.volume.logged to.volume.forced
-      (part_no shape).0 place none
-      ∙ sym (to.part.reads place)
+  pub firm-to : oldest images (part_no shape).0 place ≡ None → IsFirm shape a place
+  firm-to none item holds = to.part.firm place item none holds ∙ sym (to.part.reads place)
 
 -- ---- what is to be set
 
@@ -116,7 +106,13 @@ module _ (number : ℕ) (store : StoreNow) (unit : UnitOfRecovery) (part : PartN
     (found : part_among store.parts part.0 ≡ Some before) (set : IsSet store a)
     (at : IsPlaceOf before.shape place) (item : Option (List ℕ)) where
   abbrev pub new-item : Option Item
-  new-item = option_map Standing item
+  new-item = left_by before.shape (item_at (old.contents part.0) place) item
+
+  -- which is what the store says of the part of that number
+  pub left-item : left_among store.parts part.0 old place item ≡ new-item
+  left-item = ap (λ (one : Option PartNow). option_and_then
+      (λ (shape : Shape). left_by shape (item_at (old.contents part.0) place) item)
+      (option_map (λ (part : PartNow). part.shape) one)) found
 
   abbrev pub change : Changing
   change = change-by number store unit part place prepared was old a ready new-item
@@ -142,7 +138,7 @@ module _ (number : ℕ) (store : StoreNow) (unit : UnitOfRecovery) (part : PartN
     place = at;
   }
 
-  given : IsGivenFor change before.shape place item
+  given : IsGivenFor old change before.shape place item
   given = record {
     part = no-same (part_no before.shape) part numbered;
     place_is = refl;

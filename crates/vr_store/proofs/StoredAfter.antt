@@ -27,7 +27,7 @@ use Rattle.vr_undo.specs.Records.{before_of, befores_of, has_at, image_of, image
 use Rattle.vr_undo.specs.Records.{logged_of}
 use Rattle.vr_undo.proofs.Recording.{befores-made, logged-made}
 use Rattle.vr_volume.specs.Laid.{shape_by}
-use Rattle.vr_volume.specs.PutBack.{images_of, is_image_of, oldest}
+use Rattle.vr_volume.specs.PutBack.{is_image_of, oldest}
 use Rattle.vr_volume.specs.Steps.{Changing, image_by}
 use Rattle.vr_volume.proofs.Alone.{is-there}
 use Rattle.vr_space.proofs.CallerLemmas.{due-fewer}
@@ -159,9 +159,9 @@ module _ (number : ℕ) (store : StoreNow) (unit : UnitOfRecovery) (part : PartN
         (rest-sound before.shape (owners_of store) a its-to.part.rests)
         (firm-to store.log.geometry number (owners_of store) store.log images (images_in store.undo)
         old after its-change prepared before.shape before.known place item a its-to left at
-        (ap (λ (n : ℕ). oldest (images_of store.log.records) n place)
+        (ap (λ (n : ℕ). oldest images n place)
         (numbered number store unit part place prepared was old a ready before found set at item)
-        ∙ ap (λ (i : List BeforeImage). oldest i part.0 place) (sym stored.volume.kept) ∙ none)))
+        ∙ none)))
 
     due-was : (u : UnitOfRecovery) (p : ℕ) (q : List ℕ) (image : BeforeImage) (shape : Shape)
         → oldest (images_in store.undo) p q ≡ Some image → same_unit u image.unit ≡ true
@@ -284,12 +284,12 @@ module _ (number : ℕ) (store : StoreNow) (unit : UnitOfRecovery) (part : PartN
           (ap (λ (n : PartNo). record {
             number = n;
             shape = now.shape;
-            known = record { split = None; met = []; areas = []; used = 0 };
+            known = record { split = None; met = []; areas = []; used = 0; tail = None };
           }) number-same
           ∙ ap (λ (s : Shape). record {
             number = before.number;
             shape = s;
-            known = record { split = None; met = []; areas = []; used = 0 };
+            known = record { split = None; met = []; areas = []; used = 0; tail = None };
           }) shape-same) store.parts into.found
 
       -- the store as the call left it

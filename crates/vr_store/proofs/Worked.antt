@@ -183,6 +183,7 @@ rested-met geometry owners images state shape same known now b shapes part knows
       room = part.room;
       knows = knows;
       reads = part.reads;
+      firm = part.firm;
     })
 
 module _ (tells : Bool) (told : IsTrue tells) (a b : Seen) (call : Keeps tells a b)

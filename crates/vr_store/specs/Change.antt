@@ -139,7 +139,7 @@ pub record IsToSet (geometry : Geometry) (number : ℕ) (owners : Owners) (log :
   pub of : IsChangeOf geometry old change
   pub step : IsStep prepared.logged log change old new
   pub rec : prepared.rec ≡ records.Before change.unit change.part change.place change.old
-  pub given : IsGivenFor change shape place found
+  pub given : IsGivenFor old change shape place found
   pub kept : after ≡ cond prepared.logged images (images ++ image_by change ∷ [])
 
 -- The blocks that a call put are in the list of changed blocks, or forced.

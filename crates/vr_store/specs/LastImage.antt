@@ -1,18 +1,23 @@
 -- The last before-image that a unit keeps, and what putting it back makes of the state. The rules are
 -- those of the record file; that the stages of a split come first is this project's own.
 use Rattle.std.specs.Prelude.{◌≡◌, ℕ, Bool, true, false, List, Option, Some, None, IfSome}
+use Rattle.std.specs.Option.{option_and_then}
 use Rattle.vr_types.specs.Image.{Image}
 use Rattle.vr_types.specs.declared.unit.Unit.{Unit as UnitOfRecovery}
 use Rattle.vr_types.specs.declared.unit.PartNo.{PartNo}
 use Rattle.vr_types.specs.declared.unit.StageKind.{StageKind}
+use Rattle.vr_types.specs.declared.unit.StageKind.TheVariants.{Extend}
+use Rattle.vr_types.specs.declared.geometry.Geometry.{Geometry}
+use Rattle.vr_types.specs.Content.{item_at, record_of}
 use Rattle.vr_space.specs.Owners.{Owners}
-use Rattle.vr_space.specs.Part.{IsStageOf, OwnersAfter, Shape, stage_of}
+use Rattle.vr_space.specs.Part.{IsStageOf, OwnersAfter, Shape, left_by, stage_of}
 use Rattle.vr_attach.specs.Owning.{claimed_by, owner_of}
 use Rattle.vr_space.specs.declared.room.Room.{Room}
 use Rattle.vr_space.specs.declared.room.Room.TheVariants.{NoSpace, Ready, Stage}
 use Rattle.vr_history.specs.Effects.{last_kept, with_change, without_last}
 use Rattle.vr_history.specs.State.{BeforeImage, State}
 use Rattle.vr_undo.specs.Records.{befores_of, last_in}
+use Rattle.vr_volume.specs.Laid.{shape_by}
 use Rattle.vr_store.specs.Room.{IsDueAt}
 use Rattle.vr_store.specs.Store.{PartNow, StoreNow, part_among}
 
@@ -45,7 +50,10 @@ abbrev pub last_claimed : StoreNow → UnitOfRecovery → Owners
 last_claimed store unit =
     owner_of store.log.geometry (claimed_for store.space (last_of_unit store unit))
 
+-- A stage of a split comes first. Where a chain of areas has the place already, it need not become
+-- longer for what is put back there.
 abbrev pub is_stage : Room → Bool
+is_stage (Stage Extend) = false
 is_stage (Stage kind) = true
 is_stage Ready = false
 is_stage (NoSpace need free) = false
@@ -60,12 +68,19 @@ abbrev pub IsMetBy : Bool → StoreNow → Image → ℕ → List ℕ → ℕ �
 IsMetBy true store image number place n = IsDueAt store image number place n
 IsMetBy false store image number place n = HasNoStage store image number place
 
--- The last before-image that the unit keeps is put back, and kept no more.
-pub record IsBackIn (unit : UnitOfRecovery) (old new : State) : Type 0 where
+-- The last before-image that the unit keeps is put back, and kept no more: at its place is what a
+-- part that is laid so leaves there.
+pub record IsBackIn (geometry : Geometry) (unit : UnitOfRecovery) (old new : State) : Type 0 where
   pub last : BeforeImage
   pub is : last_kept old unit ≡ Some last
-  pub contents : new.contents
-      ≡ with_change (record { part = last.part; place = last.place; new = last.old }) old.contents
+  pub shape : Shape
+  pub laid : shape_by geometry (old.contents 0) last.part ≡ Some shape
+  pub contents : new.contents ≡ with_change (record {
+    part = last.part;
+    place = last.place;
+    new = left_by shape (item_at (old.contents last.part) last.place)
+        (option_and_then record_of last.old);
+  }) old.contents
   pub befores : new.befores ≡ without_last unit old.befores
   pub logged : new.logged ≡ old.logged
   pub used : new.used ≡ old.used

@@ -13,11 +13,19 @@ with_part number after (part ∷ parts) =
 -- a part by its split under way and its areas alone, and but for all that it keeps of its blocks
 abbrev pub but_met : PartNow → PartNow
 but_met part = record part {
-  known = record { split = part.known.split; met = []; areas = part.known.areas; used = 0 };
+  known = record {
+    split = part.known.split;
+    met = [];
+    areas = part.known.areas;
+    used = 0;
+    tail = None;
+  };
 }
 
 abbrev pub but_split : PartNow → PartNow
-but_split part = record part { known = record { split = None; met = []; areas = []; used = 0 } }
+but_split part = record part {
+  known = record { split = None; met = []; areas = []; used = 0; tail = None };
+}
 
 -- each other part stays as it is
 abbrev pub OthersStay : ℕ → List PartNow → List PartNow → Type 0

@@ -1,6 +1,6 @@
 -- What a call that puts a before-image back has to know. The rules are this project's own.
-use Rattle.std.specs.Prelude.{◌≡◌, ℕ, List, Option, option_map}
-use Rattle.vr_types.specs.Content.{Standing}
+use Rattle.std.specs.Prelude.{◌≡◌, ℕ, List, Option}
+use Rattle.vr_types.specs.Content.{Item}
 use Rattle.vr_types.specs.Seen.{Seen}
 use Rattle.vr_types.specs.declared.geometry.Geometry.{Geometry}
 use Rattle.vr_types.specs.declared.unit.PartNo.{PartNo}
@@ -26,7 +26,7 @@ pub record IsToBack (geometry : Geometry) (number : ℕ) (owners : Owners) (log 
   pub part : IsPartAtRest geometry owners images old shape known now
   pub of : IsChangeOf geometry old change
   pub step : IsPutBack change old new
-  pub given : IsGivenFor change shape place found
+  pub given : IsGivenFor old change shape place found
 
 -- The store was the state's before the last before-image of the unit was taken out, which is to be
 -- put back.
@@ -43,12 +43,12 @@ pub record IsTaken (store : StoreNow) (unit : UnitOfRecovery) (now : Seen) : Typ
   pub state : State
   pub from : IsTakenFrom number store unit state now
 
--- what putting it back changes
-abbrev pub back_at : UnitOfRecovery → PartNo → List ℕ → Option (List ℕ) → Option (List ℕ) → Changing
-back_at unit part place was found = record {
+-- what putting it back changes: `new` is what the part leaves then
+abbrev pub back_at : UnitOfRecovery → PartNo → List ℕ → Option (List ℕ) → Option Item → Changing
+back_at unit part place was new = record {
   unit = unit;
   part = part;
   place = place;
   old = was;
-  new = option_map Standing found;
+  new = new;
 }

@@ -4,9 +4,9 @@
 use Rattle.std.specs.Prelude.{◌≡◌, ◌≢◌, ◌<◌, ℕ, Bool, false, ◌==◌, List, [], All, Option, Some}
 use Rattle.std.specs.Prelude.{IfSome, None, find, length, map, option_map}
 use Rattle.std.specs.List.{IsDistinct}
-use Rattle.std.specs.Option.{option_map_or}
+use Rattle.std.specs.Option.{option_and_then, option_map_or}
 use Rattle.std.specs.Prelude.{nat_eq}
-use Rattle.vr_types.specs.Content.{Item, Standing, Withdrawn}
+use Rattle.vr_types.specs.Content.{Item, Standing, Withdrawn, item_at}
 use Rattle.vr_types.specs.Geometry.{IsAllowed, area_count}
 use Rattle.vr_types.specs.Locks.{same_unit}
 use Rattle.vr_types.specs.Seen.{Seen}
@@ -14,7 +14,7 @@ use Rattle.vr_types.specs.declared.unit.PartNo.{PartNo}
 use Rattle.vr_types.specs.declared.unit.Unit.{Unit as UnitOfRecovery}
 use Rattle.vr_space.specs.Known.{Known}
 use Rattle.vr_space.specs.Owners.{Owners}
-use Rattle.vr_space.specs.Part.{IsOn, IsPlaceOf, IsRecordOf, OwnsChain, Shape, part_no}
+use Rattle.vr_space.specs.Part.{IsOn, IsPlaceOf, IsRecordOf, OwnsChain, Shape, left_by, part_no}
 use Rattle.vr_attach.specs.Owning.{owner_of}
 use Rattle.vr_log.specs.Live.{live_in}
 use Rattle.vr_log.specs.LogNow.{IsOf, LogNow}
@@ -50,6 +50,13 @@ part_among parts number = find (has_number number) parts
 
 abbrev pub shape_among : List PartNow → ℕ → Option Shape
 shape_among parts number = option_map (λ (part : PartNow). part.shape) (part_among parts number)
+
+-- What a call leaves at a place of the part of this number, by the item that the state has there,
+-- as it gives a record to the place, or takes the one there away.
+abbrev pub left_among : List PartNow → ℕ → State → List ℕ → Option (List ℕ) → Option Item
+left_among parts number state place bytes = option_and_then
+    (λ (shape : Shape). left_by shape (item_at (state.contents number) place) bytes)
+    (shape_among parts number)
 
 -- the blocks that a unit changed and that were not forced since
 pub record ChangedBy : Type 0 where

@@ -1,10 +1,9 @@
 //! A change of a place of a store: it is logged where its unit has not logged the place yet, and set.
 ghost use Rattle.std.specs.Prelude.{◌≡◌, ◌≢◌, ◌<◌, ℕ, List, All, IsTrue, OnOk, IfErr, false, map};
 ghost use Rattle.std.specs.Prelude.{true};
-ghost use Rattle.std.specs.Prelude.{IfSome, None, Option, option_map};
+ghost use Rattle.std.specs.Prelude.{IfSome, None, Option};
 ghost use Rattle.std.specs.List.{Contains};
 ghost use Rattle.vr_types.specs.Blocks.{Keeps};
-ghost use Rattle.vr_types.specs.Content.{Standing};
 ghost use Rattle.vr_types.specs.Faults.{HasWriteCause};
 ghost use Rattle.vr_types.specs.Locks.{same_unit};
 ghost use Rattle.vr_types.specs.Moments.{Guards};
@@ -38,7 +37,7 @@ ghost use Rattle.vr_store.specs.Change.{IsBefore, IsMadeOf, IsNoted, IsReady, Is
 ghost use Rattle.vr_store.specs.Change.{IsSettable, IsToSet, log_with, need_with};
 ghost use Rattle.vr_store.specs.Parts.{OnlyMet};
 ghost use Rattle.vr_store.specs.Store.{ChangedBy, IsSet, IsStored, blocks_of, changed_by};
-ghost use Rattle.vr_store.specs.Store.{owners_of, part_among, shape_among};
+ghost use Rattle.vr_store.specs.Store.{left_among, owners_of, part_among, shape_among};
 
 use crate::changed::{UnitBlocks, note};
 use crate::parts::index_of;
@@ -263,7 +262,8 @@ impl<P: Part> Store<P> {
             (old after : State) (need : ℕ)
             → IsReadyBy volume self.old unit number place.now prepared.now was old
             (B.seen blocks.old)
-            → IsMadeOf unit number place.now (option_map Standing (given bytes.entry)) need old after
+            → IsMadeOf unit number place.now
+            (left_among self.old.parts number.0 old place.now (given bytes.entry)) need old after
             → need ≡ need_with prepared.now.logged self.old.log prepared.now.rec
             → IsStored volume self.new after (B.seen blocks.new)) }
         // At every moment, whether it fails or not.

@@ -20,7 +20,8 @@ ghost use Rattle.vr_store.specs.LastImage.{is_stage as is_a_stage, last_of_unit}
 ghost use Rattle.vr_store.specs.Change.{IsSettable};
 ghost use Rattle.vr_store.specs.PutBack.{IsTaken, IsTakenFrom, back_at};
 ghost use Rattle.vr_store.specs.Parts.{HasMoreAt, OnlyMet};
-ghost use Rattle.vr_store.specs.Store.{IsOldOf, IsSet, IsStored, Stands, owners_of, part_among};
+ghost use Rattle.vr_store.specs.Store.{IsOldOf, IsSet, IsStored, Stands, left_among, owners_of};
+ghost use Rattle.vr_store.specs.Store.{part_among};
 ghost use Rattle.vr_store.specs.Store.{shape_among};
 
 use crate::stage::{advance_at, ask_at};
@@ -29,11 +30,15 @@ use vr_space::{Part, Room};
 use vr_types::{Blocks, DeviceFault, PartNo, StageKind, Unit};
 use vr_undo::Before;
 
-/// Whether it is a stage that comes first.
+/// Whether it is a stage of a split that comes first.
 fn is_stage(room: Room) -> bool
     ensures { result ≡ is_a_stage room }
 {
-    matches!(room, Room::Stage(_))
+    match room {
+        Room::Stage(StageKind::Extend) => false,
+        Room::Stage(_) => true,
+        _ => false,
+    }
 }
 
 /// The part of a stage by which an interval of it is split in two.
@@ -193,15 +198,21 @@ impl<P: Part> Store<P> {
         ensures back { IsTrue B.tells → OnOk result ((volume : ℕ) (was : Option (List ℕ))
             (old new : State) → IsTakenFrom volume self.old unit old (B.seen blocks.old)
             → IsChangeOf self.old.log.geometry old
-            (back_at unit before.now.part before.now.place was before.now.old)
-            → IsPutBack (back_at unit before.now.part before.now.place was before.now.old) old new
+            (back_at unit before.now.part before.now.place was
+            (left_among self.old.parts before.now.part.0 old before.now.place before.now.old))
+            → IsPutBack (back_at unit before.now.part before.now.place was
+            (left_among self.old.parts before.now.part.0 old before.now.place before.now.old))
+            old new
             → IsStored volume self.new new (B.seen blocks.new)) }
         // At every moment, whether it fails or not.
         ensures moments { IsTrue B.tells → (volume : ℕ) (was : Option (List ℕ)) (old new : State)
             → IsTakenFrom volume self.old unit old (B.seen blocks.old)
             → IsChangeOf self.old.log.geometry old
-            (back_at unit before.now.part before.now.place was before.now.old)
-            → IsPutBack (back_at unit before.now.part before.now.place was before.now.old) old new
+            (back_at unit before.now.part before.now.place was
+            (left_among self.old.parts before.now.part.0 old before.now.place before.now.old))
+            → IsPutBack (back_at unit before.now.part before.now.place was
+            (left_among self.old.parts before.now.part.0 old before.now.place before.now.old))
+            old new
             → Guards (B.seen blocks.old) (B.seen blocks.new)
             (IsSafeImage self.old.log.geometry volume (owners_of self.old) self.old.log
             (committed_by old)) }
@@ -238,7 +249,8 @@ impl<P: Part> Store<P> {
             last_of_unit self.old unit ≡ Some (image_of unit before)) }
         ensures back { IsTrue B.tells → OnOk result ((volume : ℕ) (old new : State)
             → IsStored volume self.old old (B.seen blocks.old) → IsCurrent old.numbers unit
-            → IsBackIn unit old new → IsStored volume self.new new (B.seen blocks.new)) }
+            → IsBackIn self.old.log.geometry unit old new
+            → IsStored volume self.new new (B.seen blocks.new)) }
         // At every moment, whether it fails or not.
         ensures moments { IsTrue B.tells → (volume : ℕ) (old : State)
             → IsStored volume self.old old (B.seen blocks.old) → IsCurrent old.numbers unit

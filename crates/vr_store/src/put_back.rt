@@ -30,7 +30,7 @@ ghost use Rattle.vr_store.specs.Change.{IsSetIn, IsSettable};
 ghost use Rattle.vr_store.specs.PutBack.{IsTaken, IsTakenFrom, IsToBack, back_at};
 ghost use Rattle.vr_store.specs.Parts.{OnlyMet};
 ghost use Rattle.vr_store.specs.Store.{ChangedBy, IsSet, IsStored, blocks_of, changed_by};
-ghost use Rattle.vr_store.specs.Store.{owners_of, part_among, shape_among};
+ghost use Rattle.vr_store.specs.Store.{left_among, owners_of, part_among, shape_among};
 
 use crate::change::note_put;
 use crate::changed::UnitBlocks;
@@ -128,15 +128,19 @@ impl<P: Part> Store<P> {
         ensures back { IsTrue B.tells → OnOk result ((volume : ℕ) (was : Option (List ℕ))
             (old new : State) → IsTakenFrom volume self.old unit old (B.seen blocks.old)
             → IsChangeOf self.old.log.geometry old
-            (back_at unit number place.now was (given bytes.entry))
-            → IsPutBack (back_at unit number place.now was (given bytes.entry)) old new
+            (back_at unit number place.now was
+            (left_among self.old.parts number.0 old place.now (given bytes.entry)))
+            → IsPutBack (back_at unit number place.now was
+            (left_among self.old.parts number.0 old place.now (given bytes.entry))) old new
             → IsStored volume self.new new (B.seen blocks.new)) }
         // At every moment, whether it fails or not.
         ensures moments { IsTrue B.tells → (volume : ℕ) (was : Option (List ℕ)) (old new : State)
             → IsTakenFrom volume self.old unit old (B.seen blocks.old)
             → IsChangeOf self.old.log.geometry old
-            (back_at unit number place.now was (given bytes.entry))
-            → IsPutBack (back_at unit number place.now was (given bytes.entry)) old new
+            (back_at unit number place.now was
+            (left_among self.old.parts number.0 old place.now (given bytes.entry)))
+            → IsPutBack (back_at unit number place.now was
+            (left_among self.old.parts number.0 old place.now (given bytes.entry))) old new
             → Guards (B.seen blocks.old) (B.seen blocks.new)
             (IsSafeImage self.old.log.geometry volume (owners_of self.old) self.old.log
             (committed_by old)) }

@@ -2,8 +2,9 @@
 ghost use Rattle.std.specs.Prelude.{◌≡◌, ◌==◌, IsTrue, MatchOption, [], false, is_some};
 ghost use Rattle.std.specs.Prelude.{length, option_map};
 ghost use Rattle.std.specs.List.{list_any};
-ghost use Rattle.std.specs.Option.{option_map_or};
+ghost use Rattle.std.specs.Option.{option_and_then, option_map_or};
 ghost use Rattle.vr_types.specs.Space.{free_count, least_free};
+ghost use Rattle.vr_space.specs.Part.{address_of};
 ghost use Rattle.vr_log.specs.Live.{is_in, live_in, used_by};
 ghost use Rattle.vr_undo.specs.Others.{IsLeastAllowed, NoneAllowed, others_in};
 ghost use Rattle.vr_undo.specs.Records.{is_logged_in, logged_of};
@@ -39,6 +40,20 @@ impl<P: Part> Store<P> {
         match index_of(&self.parts, number) {
             Some(at) => self.parts[at].part.areas(),
             None => 0,
+        }
+    }
+
+    /// The address that the next record of this length gets in a part, in bytes from its start (DFSMS
+    /// Using Data Sets, relative byte address). None of a part that isn't entry-sequenced, and where
+    /// no part of this number is laid. It reads nothing.
+    pub fn address(&self, number: PartNo, length: u32) -> Option<u32>
+        ensures { result ≡ option_and_then
+            (λ (part : PartNow). address_of part.shape part.known length)
+            (part_among self.now.parts number.0) }
+    {
+        match index_of(&self.parts, number) {
+            Some(at) => self.parts[at].part.address(length),
+            None => None,
         }
     }
 

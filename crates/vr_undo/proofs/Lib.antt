@@ -5,4 +5,5 @@ pub mod NextOther
 pub mod Recording
 pub mod Leaving
 pub mod Stating
+pub mod Standing
 pub mod CallerLemmas

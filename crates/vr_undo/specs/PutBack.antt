@@ -1,14 +1,27 @@
 -- Before-images, put back into a content: what backout is in the DFSMStvs Planning and Operating
--- Guide. That the oldest one of a place counts, and how much room is kept for them, is this
--- project's own.
-use Rattle.std.specs.Prelude.{ℕ, Bool, List, [], ◌∷◌, length, Option, Some, None, find}
-use Rattle.std.specs.Prelude.{◌==◌, ◌&&◌, if◌then◌else◌, bytes_eq}
+-- Guide. That the oldest one of a place counts, how much room is kept for them, and that what is
+-- committed is a matter of records, is this project's own.
+use Rattle.std.specs.Prelude.{ℕ, Bool, true, false, List, [], ◌∷◌, length, Option, Some, None, find}
+use Rattle.std.specs.Prelude.{◌==◌, ◌&&◌, if◌then◌else◌, bytes_eq, filter}
 use Rattle.std.specs.List.{filter_map}
-use Rattle.std.specs.Option.{option_and_then}
-use Rattle.vr_types.specs.Content.{Content, record_of}
+use Rattle.std.specs.Option.{option_and_then, option_map}
+use Rattle.vr_types.specs.Content.{Content, Item, Placed, Standing, Withdrawn, record_of}
 use Rattle.vr_altkey.specs.Placing.{placed_in}
 use Rattle.vr_history.specs.State.{BeforeImage}
 use Rattle.vr_space.specs.Room.{Lengths, with_lengths}
+
+-- what is at the place is a record
+abbrev pub stands : Placed → Bool
+stands (place, Standing bytes) = true
+stands (place, Withdrawn length) = false
+
+-- the records of a content: what was withdrawn is none
+abbrev pub standing : Content → Content
+standing content = filter stands content
+
+-- what is at a place, where it is a record
+abbrev pub standing_of : Option Item → Option Item
+standing_of item = option_map Standing (option_and_then record_of item)
 
 abbrev pub is_image_of : ℕ → List ℕ → BeforeImage → Bool
 is_image_of part place image = image.part == part && bytes_eq place image.place

@@ -15,8 +15,9 @@ use Rattle.vr_types.specs.declared.geometry.Geometry.{Geometry}
 use Rattle.vr_types.specs.declared.unit.PartNo.{PartNo}
 use Rattle.vr_types.specs.declared.unit.Unit.{Unit as UnitOfRecovery}
 use Rattle.vr_space.specs.Owners.{Owners}
-use Rattle.vr_space.specs.Part.{HasKeptRoom, HasOnly, IsPlaceOf, IsRecordOf, MayHold}
-use Rattle.vr_space.specs.Part.{Shape}
+use Rattle.vr_space.specs.Numbered.{IsKeptLength}
+use Rattle.vr_space.specs.Part.{HasKeptRoom, HasOnly, IsPlaceOf, IsRecordOf, KeyedShape, MayGoBack}
+use Rattle.vr_space.specs.Part.{MayHold, NumberedShape, Shape}
 use Rattle.vr_space.specs.Room.{Lengths, with_length}
 use Rattle.vr_space.proofs.CallerLemmas.{keep-room, sound-image}
 use Rattle.vr_history.specs.State.{BeforeImage}
@@ -25,6 +26,7 @@ use Rattle.vr_log.specs.Content.{Content as LogContent}
 use Rattle.vr_log.specs.LogNow.{IsLogOf, IsPrefixOf, LogNow, first_of, with_record}
 use Rattle.vr_log.specs.declared.record.LogRecord.{LogRecord}
 use Rattle.vr_log.specs.declared.record.LogRecord.TheVariants.{Before}
+use Rattle.vr_undo.proofs.CallerLemmas.{stands-record}
 use Rattle.vr_volume.specs.Laid.{shape_by}
 use Rattle.vr_volume.specs.Logged.{IsFirstBefore}
 use Rattle.vr_volume.specs.PutBack.{AreAlone, images_of, is_image_of, length_of, lengths_kept}
@@ -73,9 +75,18 @@ module _ (log : LogNow) (rec : LogRecord) where
 
 -- ---- a before-image more
 
-option-first : {X : Type 0} (one other : Option X) → option_or one other ≡ None → one ≡ None
+pub option-first : {X : Type 0} (one other : Option X) → option_or one other ≡ None → one ≡ None
 option-first None other none = refl
 option-first (Some x) other none = absurd (cc)
+
+-- a record may go back where one of its length is kept
+length-same : (relative : Bool) (n : ℕ) → IsKeptLength relative n n
+length-same true n = omega arith
+length-same false n = refl
+
+pub goes-back : (shape : Shape) (n : ℕ) → MayGoBack shape n n
+goes-back (KeyedShape part) n = omega arith
+goes-back (NumberedShape part) n = length-same part.relative n
 
 shape-is : (one other : Shape) → Some one ≡ Some other → one ≡ other
 shape-is one other same = cc
@@ -165,11 +176,11 @@ module _ (geometry : Geometry) (number : ℕ) (owners : Owners) (log : LogNow)
         mine.sound mine.room
         (λ item held. (
           bytes,
-          mine.items place item held
+          stands-record item bytes (mine.items place item held
               (sym (ap (λ (p : ℕ). oldest (images_of log.records) p place) here) ∙ next.first)
               ∙ sym (ap (λ (p : ℕ). item_at (committed log.records p) place) here)
-              ∙ sym next.item ∙ ap (option_map Standing) is,
-          omega arith,
+              ∙ sym next.item ∙ ap (option_map Standing) is),
+          goes-back shape (length bytes),
         ))
 
     room-by : (same : Bool) → (part.0 == other) ≡ same → (was : Option (List ℕ)) → old ≡ was
@@ -207,8 +218,9 @@ module _ (geometry : Geometry) (number : ℕ) (owners : Owners) (log : LogNow)
   -- what stands at its place is the record that it has
   record-old : (bytes : List ℕ) → old ≡ Some bytes → IsRecordOf next.shape place bytes
   record-old bytes is = record-read next.shape a.cur stands.content stands.stands place bytes
+      (stands-record (item_at stands.content place) bytes
       (safe-here.items place (item_at stands.content place) (stands.each place) next.first
-      ∙ sym next.item ∙ ap (option_map Standing) is)
+      ∙ sym next.item ∙ ap (option_map Standing) is))
 
   can-put-back : CanPutBack (shape_by geometry (committed log.records 0)) image
   can-put-back = record {

@@ -1,3 +1,16 @@
--- What the crates above cite: to what the images recover that a crash leaves while an event goes on.
+-- What the crates above cite.
+
+-- to what the images recover that a crash leaves while an event goes on
 pub use Rattle.vr_volume.proofs.Crashing.{rest-recovers, before-recovers, backed-out-recovers}
 pub use Rattle.vr_volume.proofs.Crashing.{commit-recovers, safe-recovers}
+-- the records of a catalog lay the parts as it does, and keep its rules, as committed ones do
+pub use Rattle.vr_volume.proofs.RecordsLaid.{catalog-stands, catalog-whole, shape-stands}
+pub use Rattle.vr_volume.proofs.Committing.{shape-same}
+-- what stands once before-images were put back into the records of a content
+pub use Rattle.vr_volume.proofs.PuttingBack.{back-record, records-ascend}
+-- the record that a call leaves at a place is the one that it gives
+pub use Rattle.vr_volume.proofs.PuttingBack.{left-stands}
+-- each length that is kept of fewer before-images is one that was kept
+pub use Rattle.vr_volume.proofs.Among.{AreSome, keep-less, kept-among, some-skip}
+-- a record may go back where one of its length is kept
+pub use Rattle.vr_volume.proofs.Befores.{goes-back}

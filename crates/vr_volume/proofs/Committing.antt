@@ -22,10 +22,12 @@ use Rattle.vr_volume.specs.Committed.{HasLogged, IsCurrent, IsKeptIn, IsLaidStat
 use Rattle.vr_volume.specs.Committed.{committed_by, commits_unit, has_commit, is_committing}
 use Rattle.vr_volume.specs.Committed.{kept_by}
 use Rattle.vr_volume.specs.Laid.{shape_by}
-use Rattle.vr_volume.specs.PutBack.{AreAlone, images_of, oldest, put_back}
+use Rattle.vr_volume.specs.PutBack.{AreAlone, images_of, oldest, put_back, standing}
+use Rattle.vr_volume.specs.PutBack.{standing_of}
 use Rattle.vr_volume.specs.Safe.{AreCommitted}
 use Rattle.vr_volume.specs.Volume.{CanPutBack, IsInside}
-use Rattle.vr_volume.proofs.PuttingBack.{back-ascends, back-item}
+use Rattle.vr_volume.proofs.PuttingBack.{back-record, records-ascend}
+use Rattle.vr_volume.proofs.RecordsLaid.{catalog-stands, shape-stands}
 
 -- ---- contents to which nothing is put back
 
@@ -126,7 +128,7 @@ before-same state records unit part place old =
     ∙ or-false (has_commit records other)) state.befores)
   where
     contents-of : List BeforeImage → ℕ → Content
-    contents-of images p = put_back p images (state.contents p)
+    contents-of images p = put_back p images (standing (state.contents p))
 
     or-false : (b : Bool) → (b || false) ≡ b
     or-false true = refl
@@ -149,33 +151,70 @@ all-map P Q more (image ∷ images) all = All-cons Q image images
     (all-map P Q more images (All-tail P image images all))
 
 module _ (geometry : Geometry) (state : State) (laid : IsLaidState geometry state) where
-  -- the catalog is committed as it is
-  pub catalog-same : (records : List LogRecord) → committed_by state records 0 ≡ state.contents 0
-  catalog-same records = back-apart 0 (kept_by records state.befores) (state.contents 0)
+  -- the records of the catalog are committed as they are
+  pub catalog-same : (records : List LogRecord)
+      → committed_by state records 0 ≡ standing (state.contents 0)
+  catalog-same records = back-apart 0 (kept_by records state.befores) (standing (state.contents 0))
       (kept-some records (λ (image : BeforeImage). image.part ≢ 0) state.befores
       (all-map (IsKeptIn geometry state) (λ (image : BeforeImage). image.part ≢ 0)
       (λ image kept. kept.not_catalog) state.befores laid.kept))
+
+  -- and so the parts are laid by them as by the state
+  pub shape-same : (records : List LogRecord) (part : ℕ)
+      → shape_by geometry (committed_by state records 0) part
+      ≡ shape_by geometry (state.contents 0) part
+  shape-same records part =
+      ap (λ (catalog : Content). shape_by geometry catalog part) (catalog-same records)
+      ∙ shape-stands geometry (state.contents 0) part
 
   -- a part that isn't laid keeps nothing
   none-kept : (records : List LogRecord) (part : ℕ)
       → shape_by geometry (state.contents 0) part ≡ None
       → committed_by state records part ≡ []
   none-kept records part none =
-      back-apart part (kept_by records state.befores) (state.contents part)
+      back-apart part (kept_by records state.befores) (standing (state.contents part))
       (kept-some records (λ (image : BeforeImage). image.part ≢ part) state.befores
       (all-map (IsKeptIn geometry state) (λ (image : BeforeImage). image.part ≢ part)
       (λ image kept here. no-shape kept.shape
       (sym (ap (shape_by geometry (state.contents 0)) here ∙ none) ∙ kept.laid))
       state.befores laid.kept))
-      ∙ laid.others part none
+      ∙ ap standing (laid.others part none)
     where
       no-shape : (shape : Shape) → None ≡ Some shape → ⊥
       no-shape shape same = cc
 
   pub committed-ascends : (records : List LogRecord) (part : ℕ)
       → Ascends (committed_by state records part)
-  committed-ascends records part = back-ascends part (kept_by records state.befores)
+  committed-ascends records part = records-ascend part (kept_by records state.befores)
       (state.contents part) (laid.each part)
+
+  -- a before-image that may be put back by the state may be by what is committed
+  pub images-same : (records : List LogRecord) (images : List BeforeImage)
+      → All (CanPutBack (shape_by geometry (state.contents 0))) images
+      → All (CanPutBack (shape_by geometry (committed_by state records 0))) images
+  images-same records images all = all-map
+      (CanPutBack (shape_by geometry (state.contents 0)))
+      (CanPutBack (shape_by geometry (committed_by state records 0)))
+      (λ image can. record {
+        shape = can.shape;
+        laid = shape-same records image.part ∙ can.laid;
+        place = can.place;
+        old = can.old;
+      }) images all
+
+  -- and the other way round
+  pub images-back : (records : List LogRecord) (images : List BeforeImage)
+      → All (CanPutBack (shape_by geometry (committed_by state records 0))) images
+      → All (CanPutBack (shape_by geometry (state.contents 0))) images
+  images-back records images all = all-map
+      (CanPutBack (shape_by geometry (committed_by state records 0)))
+      (CanPutBack (shape_by geometry (state.contents 0)))
+      (λ image can. record {
+        shape = can.shape;
+        laid = sym (shape-same records image.part) ∙ can.laid;
+        place = can.place;
+        old = can.old;
+      }) images all
 
   -- the contents are committed ones, where the parts are on blocks that there are, and each
   -- before-image of the log may be put back, and is the item of its place
@@ -190,15 +229,11 @@ module _ (geometry : Geometry) (state : State) (laid : IsLaidState geometry stat
       → AreCommitted geometry records (committed_by state records)
   are-committed records inside images alone olds = record {
     each = committed-ascends records;
-    catalog = subst (IsCatalog geometry) (sym (catalog-same records)) laid.catalog;
-    inside = λ part shape is. inside part shape
-        (sym (ap (λ (catalog : Content). shape_by geometry catalog part) (catalog-same records))
-        ∙ is);
-    others = λ part none. none-kept records part
-        (sym (ap (λ (catalog : Content). shape_by geometry catalog part) (catalog-same records))
-        ∙ none);
-    images = subst (λ (catalog : Content). All (CanPutBack (shape_by geometry catalog))
-        (images_of records)) (sym (catalog-same records)) images;
+    catalog = subst (IsCatalog geometry) (sym (catalog-same records))
+        (catalog-stands geometry (state.contents 0) laid.catalog);
+    inside = λ part shape is. inside part shape (sym (shape-same records part) ∙ is);
+    others = λ part none. none-kept records part (sym (shape-same records part) ∙ none);
+    images = images-same records (images_of records) images;
     alone = alone;
     olds = olds;
   }
@@ -215,10 +250,12 @@ module _ (geometry : Geometry) (state : State) (laid : IsLaidState geometry stat
     pub all-kept : kept_by log.records state.befores ≡ state.befores
     all-kept = kept-all log.records state.befores none-ended
 
-    -- the item that is committed at a place
+    -- the record that is committed at a place
     pub item-now : (part : ℕ) (place : List ℕ) → item_at (committed_by state log.records part) place
-        ≡ kept_or (oldest state.befores part place) (item_at (state.contents part) place)
+        ≡ kept_or (oldest state.befores part place)
+        (standing_of (item_at (state.contents part) place))
     item-now part place =
-        back-item part (kept_by log.records state.befores) (state.contents part) place
+        back-record part (kept_by log.records state.befores) (state.contents part) place
+        (laid.each part)
         ∙ ap (λ (images : List BeforeImage). kept_or (oldest images part place)
-        (item_at (state.contents part) place)) all-kept
+        (standing_of (item_at (state.contents part) place))) all-kept

@@ -21,7 +21,8 @@ use Rattle.vr_history.specs.Committed.{kept_or}
 use Rattle.vr_history.specs.State.{BeforeImage, State}
 use Rattle.vr_volume.specs.Committed.{committed_by, commits_unit, has_commit, kept_by}
 use Rattle.vr_volume.specs.Crashes.{RecoversTo, committed_with, is_among, kept_but}
-use Rattle.vr_volume.specs.PutBack.{images_of, is_image_of, oldest, put_back}
+use Rattle.vr_volume.specs.PutBack.{images_of, is_image_of, oldest, put_back, standing}
+use Rattle.vr_volume.specs.PutBack.{standing_of}
 use Rattle.vr_volume.specs.Rests.{IsVolumeAtRest}
 use Rattle.vr_volume.specs.Safe.{IsSafeImage}
 use Rattle.vr_volume.specs.Volume.{Recovers}
@@ -29,7 +30,7 @@ use Rattle.vr_volume.proofs.Befores.{log-cases}
 use Rattle.vr_volume.proofs.Committing.{before-same, commit-append, committed-ascends, item-now}
 use Rattle.vr_volume.proofs.Committing.{none-ended}
 use Rattle.vr_volume.proofs.Meeting.{find-none, none-kept}
-use Rattle.vr_volume.proofs.PuttingBack.{back-ascends, back-item}
+use Rattle.vr_volume.proofs.PuttingBack.{back-record, records-ascend}
 use Rattle.vr_volume.proofs.Recovering.{image_recovers}
 use Rattle.vr_volume.proofs.Resting.{rest-records}
 
@@ -91,27 +92,25 @@ recovers-same geometry number image one other same recovers = record {
 module _ (geometry : Geometry) (number : ℕ) (owners : Owners) (log : LogNow)
     (images : List BeforeImage) (state : State) (now : Seen)
     (rest : IsVolumeAtRest geometry number owners log images state now) where
-  -- the item of a place by the state alone
-  abbrev item : ℕ → List ℕ → Type 0
-  item part place = (records : List LogRecord)
-      → item_at (committed_by state records part) place
-      ≡ kept_or (oldest state.befores part place) (item_at (state.contents part) place)
-
   -- where no before-image is kept, none is put back
   without : (records : List LogRecord) (part : ℕ) (place : List ℕ)
       → oldest state.befores part place ≡ None
       → item_at (committed_by state records part) place
-      ≡ kept_or (oldest state.befores part place) (item_at (state.contents part) place)
+      ≡ kept_or (oldest state.befores part place)
+      (standing_of (item_at (state.contents part) place))
   without records part place none =
-      back-item part (kept_by records state.befores) (state.contents part) place
-      ∙ ap (λ (found : Option BeforeImage). kept_or found (item_at (state.contents part) place))
+      back-record part (kept_by records state.befores) (state.contents part) place
+      (rest.laid.each part)
+      ∙ ap (λ (found : Option BeforeImage). kept_or found
+      (standing_of (item_at (state.contents part) place)))
       (find-none (is_image_of part place)
       (λ (i : BeforeImage). not (has_commit records i.unit)) state.befores none ∙ sym none)
 
-  -- by a log that there is, each place has the item of the state, or what is put back
+  -- by a log that there is, each place has the record of the state, or what is put back
   own-item : (content : LogContent) → IsLogOf log content → (part : ℕ) (place : List ℕ)
       → item_at (committed_by state content.records part) place
-      ≡ kept_or (oldest state.befores part place) (item_at (state.contents part) place)
+      ≡ kept_or (oldest state.befores part place)
+      (standing_of (item_at (state.contents part) place))
   own-item content is part place = ⊎_elim
       (λ same.
       ap (λ (records : List LogRecord). item_at (committed_by state records part) place) same
@@ -127,18 +126,19 @@ module _ (geometry : Geometry) (number : ℕ) (owners : Owners) (log : LogNow)
   own-contents content is part =
       same_items (committed_by state content.records part) (committed_with [] state part)
       (committed-ascends geometry state rest.laid content.records part)
-      (back-ascends part (kept_but [] state.befores) (state.contents part) (rest.laid.each part))
+      (records-ascend part (kept_but [] state.befores) (state.contents part) (rest.laid.each part))
       (λ place. own-item content is part place
-      ∙ sym (back-item part (kept_but [] state.befores) (state.contents part) place
+      ∙ sym (back-record part (kept_but [] state.befores) (state.contents part) place
+      (rest.laid.each part)
       ∙ ap (λ (befores : List BeforeImage). kept_or (oldest befores part place)
-      (item_at (state.contents part) place)) (kept-whole state.befores)))
+      (standing_of (item_at (state.contents part) place))) (kept-whole state.befores)))
 
   -- by the log with a record more
   more-contents : (rec : LogRecord) (counted : List UnitOfRecovery)
       → ((unit : UnitOfRecovery) → commits_unit unit rec ≡ is_among counted unit) → (part : ℕ)
       → committed_by state (log.records ++ rec ∷ []) part ≡ committed_with counted state part
   more-contents rec counted is part =
-      ap (λ (befores : List BeforeImage). put_back part befores (state.contents part))
+      ap (λ (befores : List BeforeImage). put_back part befores (standing (state.contents part)))
       (counted-end log.records rec counted state.befores is
       (none-ended geometry state rest.laid log rest.logged))
 

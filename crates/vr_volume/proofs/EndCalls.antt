@@ -1,9 +1,10 @@
 -- What the calls that end a unit leave of a volume at rest.
 use Rattle.std.proofs.Common.{◌≡◌, ◌≢◌, ◌⊎◌, inl, inr, ⊎_elim, ◌<◌, ◌+◌, ◌^◌, ℕ, Bool, true, false}
-use Rattle.std.proofs.Common.{cond, List, [], ◌∷◌, None, refl, sym, ap, subst}
+use Rattle.std.proofs.Common.{cond, not, List, [], ◌∷◌, Option, Some, None, refl, sym, ap, subst}
 use Rattle.std.proofs.Common.{◌∙◌, length, filter, map}
-use Rattle.std.specs.Prelude.{nat_eq}
-use Rattle.vr_types.specs.Content.{Content, item_at}
+use Rattle.std.specs.Prelude.{All, Contains, nat_eq}
+use Rattle.vr_types.specs.Content.{Content, Item, item_at}
+use Rattle.vr_types.specs.Locks.{same_unit}
 use Rattle.vr_types.specs.Image.{Image}
 use Rattle.vr_types.specs.Moments.{Guards}
 use Rattle.vr_types.specs.Regions.{Touches}
@@ -12,7 +13,7 @@ use Rattle.vr_types.specs.declared.geometry.Geometry.{Geometry}
 use Rattle.vr_types.specs.declared.unit.Unit.{Unit as UnitOfRecovery}
 use Rattle.vr_space.specs.Owners.{Owners}
 use Rattle.vr_space.specs.Known.{Known}
-use Rattle.vr_space.specs.Part.{IsSound, Shape, part_no}
+use Rattle.vr_space.specs.Part.{IsSound, MayHold, Shape, part_no}
 use Rattle.vr_space.proofs.CallerLemmas.{StaysPart, fewer-room, knows-stays, rest-sound, rest-stays}
 use Rattle.vr_space.proofs.CallerLemmas.{on-still, room-stays, same-stays}
 use Rattle.vr_log.specs.Live.{is_in, live_in}
@@ -23,7 +24,6 @@ use Rattle.vr_log.specs.declared.record.EndKind.{EndKind}
 use Rattle.vr_log.specs.declared.record.LogRecord.{LogRecord}
 use Rattle.vr_log.specs.declared.record.LogRecord.TheVariants.{End}
 use Rattle.vr_log.proofs.CallerLemmas.{restarted_stands}
-use Rattle.vr_attach.specs.Owning.{IsPastLog}
 use Rattle.vr_history.specs.Effects.{is_other}
 use Rattle.vr_history.specs.State.{BeforeImage, Logged, State}
 use Rattle.vr_volume.specs.Committed.{IsCurrent, IsFirmFor, IsLaidState, KeepsNoneIf}
@@ -31,10 +31,12 @@ use Rattle.vr_volume.specs.Committed.{committed_by, kept_by, logged_of}
 use Rattle.vr_volume.specs.EndedLog.{IsEndForced, IsEndedLog}
 use Rattle.vr_volume.specs.Laid.{shape_by}
 use Rattle.vr_volume.specs.Laying.{IsLogged}
-use Rattle.vr_volume.specs.PutBack.{images_of, lengths_kept, put_back}
+use Rattle.vr_volume.specs.PutBack.{AreAlone, images_of, is_image_of, lengths_kept, oldest}
+use Rattle.vr_volume.specs.PutBack.{put_back, standing}
 use Rattle.vr_volume.specs.Rests.{IsPartAtRest, IsVolumeAtRest}
 use Rattle.vr_volume.specs.Safe.{IsSafe, IsSafeImage}
 use Rattle.vr_volume.specs.Steps.{IsEndedIn}
+use Rattle.vr_volume.proofs.Among.{keep-less, kept-among}
 use Rattle.vr_volume.proofs.Calls.{stays-part}
 use Rattle.vr_volume.proofs.Ending.{committed-end, laid-ended, logged-end, logged-restart, none-left}
 use Rattle.vr_volume.proofs.Ending.{none-live}
@@ -42,7 +44,8 @@ use Rattle.vr_volume.proofs.Endings.{AreSome, kept-under, safe-ended, some-skip}
 use Rattle.vr_volume.proofs.LogCalls.{forced-geometry, forced-is}
 use Rattle.vr_volume.proofs.LogCalls.{forced-records, forced-sound, log-after, log-guards}
 use Rattle.vr_volume.proofs.LogCalls.{safe-fewer}
-use Rattle.vr_volume.proofs.Meeting.{end-of, images-ended}
+use Rattle.vr_volume.proofs.Meeting.{end-of, find-stays, images-ended}
+use Rattle.vr_volume.proofs.Rested.{stays-holds}
 use Rattle.vr_volume.proofs.Restarting.{no-images, safe-restarted}
 use Rattle.vr_volume.proofs.Resting.{safe-same}
 
@@ -215,7 +218,8 @@ module _ (geometry : Geometry) (number : ℕ) (owners : Owners) (log : LogNow)
     same-none gone = ap (by []) gone ∙ sym (ap (by mid.records) gone)
       where
         by : List LogRecord → List BeforeImage → ℕ → Content
-        by records befores part = put_back part (kept_by records befores) (new.contents part)
+        by records befores part = put_back part (kept_by records befores)
+            (standing (new.contents part))
 
     rests-begun : new.logged ≡ [] → log.generation + 1 < 2 ^ 64
         → IsVolumeAtRest geometry number owners (restarted mid) others new b
@@ -269,14 +273,47 @@ some-filter keeps (image ∷ images) = by_keep (keeps image) (some-filter keeps 
     by_keep true some = inl (refl, some)
     by_keep false some = some-skip (filter keeps images) image images some
 
+-- each length that is kept of other units is one that was kept
+pub others-among : (images : List BeforeImage) (unit : UnitOfRecovery) (part : ℕ)
+    → AreAlone images
+    → All (λ (entry : List ℕ × ℕ). Contains (lengths_kept images part) entry)
+    (lengths_kept (others_of unit images) part)
+others-among images unit part alone = kept-among part (others_of unit images) images alone
+    (some-filter (λ (image : BeforeImage). is_other unit image.unit) images)
+
+-- a place that is free once the images of a unit are gone is free, or has one of the unit
+free-others : (images : List BeforeImage) (unit : UnitOfRecovery) (part : ℕ) (place : List ℕ)
+    → oldest (others_of unit images) part place ≡ None → (found : Option BeforeImage)
+    → oldest images part place ≡ found
+    → (oldest images part place ≡ None)
+    ⊎ ((image : BeforeImage) × (oldest images part place ≡ Some image)
+    × (same_unit unit image.unit ≡ true))
+free-others images unit part place none None is = inl is
+free-others images unit part place none (Some image) is =
+    by_unit (same_unit unit image.unit) refl
+  where
+    some-none : Some image ≡ None → ⊥
+    some-none same = cc
+
+    by_unit : (mine : Bool) → same_unit unit image.unit ≡ mine
+        → (oldest images part place ≡ None)
+        ⊎ ((other : BeforeImage) × (oldest images part place ≡ Some other)
+        × (same_unit unit other.unit ≡ true))
+    by_unit true mine = inr (image, is, mine)
+    by_unit false mine = absurd (some-none (sym (find-stays (is_image_of part place)
+        (λ (one : BeforeImage). is_other unit one.unit) images image is (ap not mine)) ∙ none))
+
 -- A part stays at rest, by the new state.
-pub part-after : (geometry : Geometry) (owners : Owners) (log : LogNow) (Q : Image → Type 0)
-    (images : List BeforeImage) (old new : State) (unit : UnitOfRecovery) (shape : Shape)
-    (known : Known) (a b : Seen) → log.geometry ≡ geometry → IsPastLog geometry owners
+pub part-after : (geometry : Geometry) (number : ℕ) (owners : Owners) (log : LogNow)
+    (Q : Image → Type 0) (images : List BeforeImage) (old new : State) (unit : UnitOfRecovery)
+    (shape : Shape) (known : Known) (a b : Seen) → log.geometry ≡ geometry
+    → IsVolumeAtRest geometry number owners log images old a
+    → IsFirmFor geometry log old unit a
     → Left a a.cur → Touches (InLog log.geometry) Q a b → IsEndedIn unit old new
     → IsPartAtRest geometry owners images old shape known a
     → IsPartAtRest geometry owners (others_of unit images) new shape known b
-part-after geometry owners log Q images old new unit shape known a b is past left call made part =
+part-after geometry number owners log Q images old new unit shape known a b is rest firm left call
+    made part =
     record {
       laid = ap (λ (catalog : Content). shape_by geometry catalog (part_no shape).0)
           (made.contents 0) ∙ part.laid;
@@ -286,6 +323,10 @@ part-after geometry owners log Q images old new unit shape known a b is past lef
           (lengths_kept images (part_no shape).0) b
           (kept-under (part_no shape).0 (others_of unit images) images [] [] tt tt
           (some-filter (λ (image : BeforeImage). is_other unit image.unit) images))
+          (keep-less shape (lengths_kept (others_of unit images) (part_no shape).0)
+          (lengths_kept images (part_no shape).0)
+          (others-among images unit (part_no shape).0 (subst AreAlone (sym rest.kept)
+          rest.logged.alone)))
           (rest-sound shape owners b (rest-stays a b shape owners stays part.rests))
           (room-stays a b shape owners (lengths_kept images (part_no shape).0) stays sound
           part.room);
@@ -293,11 +334,28 @@ part-after geometry owners log Q images old new unit shape known a b is past lef
       reads = λ place. same-stays a b shape owners stays sound left place ∙ part.reads place
           ∙ sym (ap (λ (content : Content). item_at content place)
           (made.contents (part_no shape).0));
+      firm = λ place found none holds. firm-at place found
+          (stays-holds shape owners a b stays sound place found holds)
+          (free-others images unit (part_no shape).0 place none
+          (oldest images (part_no shape).0 place) refl)
+          ∙ sym (ap (λ (content : Content). item_at content place)
+          (made.contents (part_no shape).0));
     }
   where
+    firm-at : (place : List ℕ) (found : Option Item) → MayHold shape a.may place found
+        → (oldest images (part_no shape).0 place ≡ None)
+        ⊎ ((image : BeforeImage) × (oldest images (part_no shape).0 place ≡ Some image)
+        × (same_unit unit image.unit ≡ true))
+        → found ≡ item_at (old.contents (part_no shape).0) place
+    firm-at place found holds = ⊎_elim
+        (λ none. part.firm place found none holds)
+        (λ mine. firm (part_no shape).0 place mine.0 shape found
+        (sym (ap (λ (them : List BeforeImage). oldest them (part_no shape).0 place) rest.kept)
+        ∙ mine.1) mine.2 part.laid holds)
+
     sound : IsSound shape owners a
     sound = rest-sound shape owners a part.rests
 
     stays : StaysPart shape owners a b
-    stays = stays-part geometry shape owners Q a b past
+    stays = stays-part geometry shape owners Q a b rest.safe.past
         (subst (λ (g : Geometry). Touches (InLog g) Q a b) is call)

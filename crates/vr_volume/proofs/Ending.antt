@@ -33,6 +33,7 @@ use Rattle.vr_volume.specs.Committed.{kept_by, logged_of}
 use Rattle.vr_volume.specs.Ended.{ended}
 use Rattle.vr_volume.specs.Laid.{shape_by}
 use Rattle.vr_volume.specs.PutBack.{AreAlone, images_of, is_image_of, oldest, put_back}
+use Rattle.vr_volume.specs.PutBack.{standing, standing_of}
 use Rattle.vr_volume.specs.Steps.{IsEndedIn}
 use Rattle.vr_volume.proofs.Committing.{all-map, commit-append, none-ended}
 use Rattle.vr_volume.proofs.Images.{live-append}
@@ -251,7 +252,8 @@ module _ (geometry : Geometry) (old new : State) (laid : IsLaidState geometry ol
 
     back-on : (part : ℕ) (place : List ℕ) (image : BeforeImage)
         → oldest (images_of more.records) part place ≡ Some image
-        → oldest new.befores part place ≡ None → image.old ≡ item_at (new.contents part) place
+        → oldest new.befores part place ≡ None
+        → image.old ≡ standing_of (item_at (new.contents part) place)
     back-on part place image is none = by_kept (oldest old.befores part place) refl
       where
         among : oldest (filter keeps (images_of log.records)) part place ≡ Some image
@@ -261,9 +263,10 @@ module _ (geometry : Geometry) (old new : State) (laid : IsLaidState geometry ol
         all = filter-alone keeps part place (images_of log.records) image logged.alone among
 
         by_kept : (found : Option BeforeImage) → oldest old.befores part place ≡ found
-            → image.old ≡ item_at (new.contents part) place
+            → image.old ≡ standing_of (item_at (new.contents part) place)
         by_kept None free = logged.back part place image all free
-            ∙ sym (ap (λ (content : Content). item_at content place) (made.contents part))
+            ∙ sym (ap (λ (content : Content). standing_of (item_at content place))
+            (made.contents part))
         by_kept (Some kept) there =
             let same : Some image ≡ Some kept = sym all ∙ logged.kept part place kept there in
             let one : image ≡ kept = cc in
@@ -430,10 +433,11 @@ module _ (geometry : Geometry) (old new : State) (laid : IsLaidState geometry ol
   pub committed-end : KeepsNoneIf kind old unit → (part : ℕ)
       → committed_by new (ended log unit kind) part ≡ committed_by old (ended log unit kind) part
   committed-end none part =
-      ap (λ (images : List BeforeImage). put_back part images (new.contents part))
+      ap (λ (images : List BeforeImage). put_back part images (standing (new.contents part)))
       (ap (kept_by (ended log unit kind)) made.befores
       ∙ same-kept old.befores (none-ended geometry old laid log logged) (own kind refl none))
-      ∙ ap (put_back part (kept_by (ended log unit kind) old.befores)) (made.contents part)
+      ∙ ap (λ (content : Content). put_back part (kept_by (ended log unit kind) old.befores)
+      (standing content)) (made.contents part)
     where
       own : (k : EndKind) → kind ≡ k → KeepsNoneIf k old unit
           → All (λ (image : BeforeImage). (same_unit unit image.unit ≡ false)

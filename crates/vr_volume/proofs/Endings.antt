@@ -1,10 +1,10 @@
 -- What the end of a unit leaves of a safe volume.
-use Rattle.std.proofs.Common.{◌≡◌, ◌⊎◌, inl, inr, ⊎_elim, ℕ, Bool, true, false, cond}
+use Rattle.std.proofs.Common.{◌≡◌, inl, ⊎_elim, ℕ, Bool, true, false, cond}
 use Rattle.std.proofs.Common.{List}
 use Rattle.std.proofs.Common.{[], ◌∷◌, ◌++◌, Option, Some, None, refl, sym, ap, subst, ◌∙◌, arith}
 use Rattle.std.proofs.Common.{length}
 use Rattle.std.specs.List.{cons_option, filter_map}
-use Rattle.std.specs.Prelude.{◌||◌}
+use Rattle.std.specs.Prelude.{◌||◌, All, Contains}
 use Rattle.std.proofs.lemmas.Bool.{true≢false}
 use Rattle.std.proofs.lemmas.List.{append-nil, take_all}
 use Rattle.std.proofs.lemmas.List.Elements.{filter_map-append}
@@ -25,24 +25,14 @@ use Rattle.vr_log.specs.declared.record.LogRecord.{LogRecord}
 use Rattle.vr_log.specs.declared.record.LogRecord.TheVariants.{Before, End}
 use Rattle.vr_log.proofs.Growing.{has_more}
 use Rattle.vr_volume.specs.Ended.{IsEndOf, ended}
-use Rattle.vr_volume.specs.PutBack.{image_in, images_of, length_in, lengths_kept}
+use Rattle.vr_volume.specs.PutBack.{AreAlone, image_in, images_of, length_in, lengths_kept}
 use Rattle.vr_volume.specs.Safe.{IsSafe, IsSafeBy}
+use Rattle.vr_volume.proofs.Among.{keep-less, kept-among}
 use Rattle.vr_volume.proofs.Befores.{log-cases}
 use Rattle.vr_volume.proofs.Images.{image_of, live-append}
-
 -- ---- fewer images
 
--- the first are some of the others, in their order
-abbrev pub AreSome : List BeforeImage → List BeforeImage → Type 0
-AreSome [] images = Unit {0}
-AreSome (image ∷ fewer) [] = ⊥
-AreSome (image ∷ fewer) (first ∷ images) =
-    ((image ≡ first) × AreSome fewer images) ⊎ AreSome (image ∷ fewer) images
-
-pub some-skip : (fewer : List BeforeImage) (first : BeforeImage) (images : List BeforeImage)
-    → AreSome fewer images → AreSome fewer (first ∷ images)
-some-skip [] first images some = tt
-some-skip (image ∷ fewer) first images some = inr some
+pub use Rattle.vr_volume.proofs.Among.{AreSome, some-skip}
 
 -- a unit that is among others without one is among them
 pub in-without : (unit gone : UnitOfRecovery) (units : List UnitOfRecovery)
@@ -149,6 +139,18 @@ kept-under part (image ∷ fewer) (first ∷ images) lengths more rise under som
     more-first (Some entry) further = further (with_length more entry.0 entry.1)
         (rise-with more entry.0 entry.1 rise) (under-more lengths more entry.0 entry.1 under)
 
+-- each length that is kept with the end is one that was kept
+pub ended-among : (records : List LogRecord) (unit : UnitOfRecovery) (kind : EndKind) (part : ℕ)
+    → AreAlone (images_of records)
+    → All (λ (entry : List ℕ × ℕ). Contains (lengths_kept (images_of records) part) entry)
+    (lengths_kept (images_of (records ++ End unit kind ∷ [])) part)
+ended-among records unit kind part alone =
+    subst (λ (images : List BeforeImage).
+    All (λ (entry : List ℕ × ℕ). Contains (lengths_kept (images_of records) part) entry)
+    (lengths_kept images part)) (sym (ended-images records unit kind))
+    (kept-among part (filter_map (image_in (without unit (live_in records))) records)
+    (images_of records) alone (fewer-images unit (live_in records) records))
+
 ended-under : (records : List LogRecord) (unit : UnitOfRecovery) (kind : EndKind) (part : ℕ)
     → Under (lengths_kept (images_of (records ++ End unit kind ∷ [])) part)
     (lengths_kept (images_of records) part)
@@ -186,7 +188,11 @@ module _ (geometry : Geometry) (number : ℕ) (owners : Owners) (log : LogNow)
           items = end.items part shape laid;
           room = fewer-room shape owners (lengths_kept (images_of (ended log unit kind)) part)
               (lengths_kept (images_of log.records) part) a
-              (ended-under log.records unit kind part) before.sound before.room;
+              (ended-under log.records unit kind part)
+              (keep-less shape (lengths_kept (images_of (ended log unit kind)) part)
+              (lengths_kept (images_of log.records) part)
+              (ended-among log.records unit kind part by-all.committed.alone)) before.sound
+              before.room;
         };
   }
 

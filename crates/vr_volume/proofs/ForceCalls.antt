@@ -91,4 +91,4 @@ module _ (tells : Bool) (told : IsTrue tells) (a b : Seen) (call : Keeps tells a
         size = call.size_same;
         same = λ n inside. ap (λ (image : Image). block_at image n) (call.content told);
         fewer = λ n block below inside may. call.adds_none told n block below may;
-      }) left part refl refl refl
+      }) left part refl refl refl (λ place none. none)

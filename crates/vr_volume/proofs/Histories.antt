@@ -1,9 +1,9 @@
 -- What is committed in the state of a history is what the history committed.
 use Rattle.std.proofs.Common.{◌≡◌, ℕ, Bool, true, false, cond, not, List, [], ◌∷◌, Option, Some}
-use Rattle.std.proofs.Common.{refl, sym, ap, ◌∙◌, ◌&&◌}
+use Rattle.std.proofs.Common.{None, refl, sym, ap, ◌∙◌, ◌&&◌}
 use Rattle.std.specs.Prelude.{All, find}
 use Rattle.std.proofs.lemmas.List.Elements.{All-head, All-tail}
-use Rattle.vr_types.specs.Content.{Content, item_at}
+use Rattle.vr_types.specs.Content.{Ascends, Content, Item, item_at}
 use Rattle.vr_types.specs.declared.geometry.Geometry.{Geometry}
 use Rattle.vr_types.specs.declared.unit.Unit.{Unit as UnitOfRecovery}
 use Rattle.vr_history.specs.declared.entry.Entry.{Entry}
@@ -13,9 +13,10 @@ use Rattle.vr_history.specs.Legal.{AreSteps, state_of}
 use Rattle.vr_history.specs.State.{BeforeImage, Owned, State, opening_state}
 use Rattle.vr_history.proofs.Counting.{settled_everywhere}
 use Rattle.vr_log.specs.declared.record.LogRecord.{LogRecord}
+use Rattle.vr_undo.proofs.CallerLemmas.{stands-read}
 use Rattle.vr_volume.specs.Committed.{CountAlike, committed_by, has_commit, kept_by}
-use Rattle.vr_volume.specs.PutBack.{is_image_of, oldest}
-use Rattle.vr_volume.proofs.PuttingBack.{back-item}
+use Rattle.vr_volume.specs.PutBack.{is_image_of, oldest, standing_of}
+use Rattle.vr_volume.proofs.PuttingBack.{back-record}
 
 -- of the images that the log keeps, the oldest of a place is the first that a unit which doesn't
 -- count keeps there
@@ -45,6 +46,13 @@ same-found counts records part place (image ∷ befores) alike =
         ∙ sym (ap (λ (b : Bool). cond (b && is_image_of part place image) (Some image)
         (find (is_kept_of counts part place) befores)) same)
 
+-- what was withdrawn is no record there either
+record-kept : (found : Option BeforeImage) (item : Option Item)
+    → record_in (kept_or found (standing_of item)) ≡ record_in (kept_or found item)
+record-kept None item = stands-read item
+record-kept (Some image) item = refl
+
+-- The records are the same where the places of the state's content ascend.
 pub committed-everywhere : (geometry : Geometry) (contents : ℕ → Content) (owned : List Owned)
     (entries : List Entry) (others : List UnitOfRecovery) (records : List LogRecord) (part : ℕ)
     → AreSteps geometry (opening_state contents owned) entries
@@ -52,15 +60,20 @@ pub committed-everywhere : (geometry : Geometry) (contents : ℕ → Content) (o
     contents entries
     → CountAlike others entries records
     (state_of geometry (opening_state contents owned) entries)
+    → Ascends ((state_of geometry (opening_state contents owned) entries).contents part)
     → (place : List ℕ)
     → record_now (committed_by (state_of geometry (opening_state contents owned) entries) records)
     part place
     ≡ record_now (committed geometry (opening_state contents owned) entries others) part place
-committed-everywhere geometry contents owned entries others records part steps has alike place =
+committed-everywhere geometry contents owned entries others records part steps has alike ascends
+    place =
     ap record_in
-    (back-item part (kept_by records state.befores) (state.contents part) place
-    ∙ ap (λ (found : Option BeforeImage). kept_or found (item_at (state.contents part) place))
-    (same-found (is_counted others entries) records part place state.befores alike))
+    (back-record part (kept_by records state.befores) (state.contents part) place ascends)
+    ∙ record-kept (oldest (kept_by records state.befores) part place)
+    (item_at (state.contents part) place)
+    ∙ ap (λ (found : Option BeforeImage).
+    record_in (kept_or found (item_at (state.contents part) place)))
+    (same-found (is_counted others entries) records part place state.befores alike)
     ∙ sym (settled_everywhere geometry contents owned entries others part steps has place)
   where
     state : State

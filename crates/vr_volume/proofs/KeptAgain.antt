@@ -21,9 +21,10 @@ use Rattle.vr_log.specs.declared.record.LogRecord.{LogRecord}
 use Rattle.vr_history.specs.Committed.{kept_or}
 use Rattle.vr_history.specs.State.{BeforeImage, Logged, State}
 use Rattle.vr_space.specs.Part.{Shape, part_no}
+use Rattle.vr_undo.proofs.CallerLemmas.{record-stands}
 use Rattle.vr_volume.specs.Committed.{HasLogged, IsCurrent, IsKeptIn, IsLaidState, IsPast}
 use Rattle.vr_volume.specs.Committed.{committed_by}
-use Rattle.vr_volume.specs.PutBack.{AreAlone, images_of, is_image_of, oldest}
+use Rattle.vr_volume.specs.PutBack.{AreAlone, images_of, is_image_of, oldest, standing_of}
 use Rattle.vr_volume.specs.Rests.{IsGivenFor, IsVolumeAtRest}
 use Rattle.vr_volume.specs.Safe.{IsSafe}
 use Rattle.vr_volume.specs.Steps.{Changing, IsChangeOf, IsKeptAgain, image_by}
@@ -66,7 +67,7 @@ module _ (geometry : Geometry) (log : LogNow) (old new : State) (change : Changi
       let there = found-there (images_of log.records) change.part.0 change.place made.image
       made.image_is in
       let item = logged.back change.part.0 change.place made.image made.image_is made.none
-      ∙ sym made.item in
+      ∙ ap standing_of (sym made.item) ∙ record-stands change.old in
       same made.image made.own there.0 (sym there.1) item
     where
       same : (one : BeforeImage) → one.unit ≡ image.unit → one.part ≡ image.part
@@ -139,8 +140,8 @@ module _ (geometry : Geometry) (log : LogNow) (old new : State) (change : Changi
         ∙ ap (λ (p : ℕ). oldest new.befores p change.place) (sym there.0)
         ∙ ap (oldest new.befores part) (sym there.1) ∙ none)))
         (λ apart. logged.back part place found is (sym (kept-else part place apart) ∙ none)
-        ∙ sym (item-else geometry old new change laid of made.contents part place
-        (apart-from part place apart)))
+        ∙ sym (ap standing_of (item-else geometry old new change laid of made.contents part place
+        (apart-from part place apart))))
         (here-or part place);
     logged = logged.logged ∙ sym made.logged;
     live = λ unit. logged.live unit
@@ -175,21 +176,22 @@ module _ (geometry : Geometry) (log : LogNow) (old new : State) (change : Changi
       item-now geometry new laid-kept-again log logged-kept-again part place
       ∙ ⊎_elim
       (λ there.
-      ap (λ (p : ℕ). kept_or (oldest new.befores p place) (item_at (new.contents p) place)) there.0
+      ap (λ (p : ℕ). kept_or (oldest new.befores p place)
+      (standing_of (item_at (new.contents p) place))) there.0
       ∙ ap (λ (q : List ℕ). kept_or (oldest new.befores change.part.0 q)
-      (item_at (new.contents change.part.0) q)) there.1
+      (standing_of (item_at (new.contents change.part.0) q))) there.1
       ∙ ap (λ (found : Option BeforeImage). kept_or found
-      (item_at (new.contents change.part.0) change.place)) kept-here
-      ∙ made.item
+      (standing_of (item_at (new.contents change.part.0) change.place))) kept-here
+      ∙ sym (record-stands change.old) ∙ ap standing_of made.item
       ∙ sym (item-now geometry old laid log logged change.part.0 change.place
       ∙ ap (λ (found : Option BeforeImage). kept_or found
-      (item_at (old.contents change.part.0) change.place)) made.none)
+      (standing_of (item_at (old.contents change.part.0) change.place))) made.none)
       ∙ sym (ap (λ (p : ℕ). item_at (committed_by old log.records p) place) there.0
       ∙ ap (item_at (committed_by old log.records change.part.0)) there.1))
       (λ apart.
-      ap (λ (found : Option BeforeImage). kept_or found (item_at (new.contents part) place))
-      (kept-else part place apart)
-      ∙ ap (kept_or (oldest old.befores part place))
+      ap (λ (found : Option BeforeImage). kept_or found
+      (standing_of (item_at (new.contents part) place))) (kept-else part place apart)
+      ∙ ap (λ (item : Option Item). kept_or (oldest old.befores part place) (standing_of item))
       (item-else geometry old new change laid of made.contents part place
       (apart-from part place apart))
       ∙ sym (item-now geometry old laid log logged part place))
@@ -219,7 +221,7 @@ module _ (geometry : Geometry) (number : ℕ) (owners : Owners) (log : LogNow)
 
   -- The place that a call was given has an image.
   pub place-again : (shape : Shape) (place : List ℕ) (found : Option (List ℕ))
-      → IsGivenFor change shape place found → oldest images (part_no shape).0 place ≢ None
+      → IsGivenFor old change shape place found → oldest images (part_no shape).0 place ≢ None
   place-again shape place found given none = image-there
       (ap (λ (p : ℕ). oldest images p change.place) (sym (ap (λ (p : PartNo). p.0) given.part))
       ∙ ap (oldest images (part_no shape).0) (sym given.place_is) ∙ none)

@@ -11,16 +11,16 @@ use Rattle.vr_history.specs.Committed.{kept_or}
 use Rattle.vr_history.specs.State.{BeforeImage, State}
 use Rattle.vr_volume.specs.Committed.{committed_by, has_commit, kept_by}
 use Rattle.vr_volume.specs.Durable.{RecoversState}
-use Rattle.vr_volume.specs.PutBack.{images_of, is_image_of, oldest}
+use Rattle.vr_volume.specs.PutBack.{images_of, is_image_of, oldest, standing_of}
 use Rattle.vr_volume.specs.Rests.{IsVolumeAtRest}
 use Rattle.vr_volume.specs.Safe.{IsSafeImage}
 use Rattle.vr_volume.proofs.Committing.{item-now}
 use Rattle.vr_volume.proofs.Meeting.{find-none, none-kept}
-use Rattle.vr_volume.proofs.PuttingBack.{back-item}
+use Rattle.vr_volume.proofs.PuttingBack.{back-record}
 use Rattle.vr_volume.proofs.Recovering.{each_image_is_safe, image_recovers}
 use Rattle.vr_volume.proofs.Resting.{rest-records}
 
--- Each image recovers to the items of the state, but where before-images are kept.
+-- Each image recovers to the records of the state, but where before-images are kept.
 pub recovers-state : (geometry : Geometry) (number : ℕ) (owners : Owners) (log : LogNow)
     (images : List BeforeImage)
     (state : State) (now : Seen) → IsVolumeAtRest geometry number owners log images state now
@@ -46,9 +46,12 @@ recovers-state geometry number owners log images state now rest image left =
     without : (records : List LogRecord) (part : ℕ) (place : List ℕ)
         → oldest state.befores part place ≡ None
         → item_at (committed_by state records part) place
-        ≡ kept_or (oldest state.befores part place) (item_at (state.contents part) place)
+        ≡ kept_or (oldest state.befores part place)
+        (standing_of (item_at (state.contents part) place))
     without records part place none =
-        back-item part (kept_by records state.befores) (state.contents part) place
-        ∙ ap (λ (found : Option BeforeImage). kept_or found (item_at (state.contents part) place))
+        back-record part (kept_by records state.befores) (state.contents part) place
+        (rest.laid.each part)
+        ∙ ap (λ (found : Option BeforeImage). kept_or found
+        (standing_of (item_at (state.contents part) place)))
         (find-none (is_image_of part place)
         (λ (i : BeforeImage). not (has_commit records i.unit)) state.befores none ∙ sym none)

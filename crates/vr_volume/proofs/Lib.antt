@@ -1,4 +1,5 @@
 pub mod PuttingBack
+pub mod RecordsLaid
 pub mod Recovering
 pub mod Apart
 pub mod Calls
@@ -6,6 +7,7 @@ pub mod Images
 pub mod Alone
 pub mod Befores
 pub mod LogCalls
+pub mod Among
 pub mod Endings
 pub mod Restarting
 pub mod Unique

@@ -10,7 +10,7 @@ use Rattle.std.proofs.lemmas.Bool.Decides.{Decides-eqb}
 use Rattle.std.proofs.lemmas.List.{take_all}
 use Rattle.std.proofs.lemmas.List.Elements.{All-filter, All-head, All-tail}
 use Rattle.std.proofs.lemmas.Slice.Eq.{bytes_eq-Decides}
-use Rattle.vr_types.specs.Content.{Content, Item, Standing, item_at}
+use Rattle.vr_types.specs.Content.{Item, Standing, item_at}
 use Rattle.vr_types.specs.Locks.{same_unit}
 use Rattle.vr_types.specs.Seen.{Seen}
 use Rattle.vr_types.specs.declared.geometry.Geometry.{Geometry}
@@ -27,18 +27,19 @@ use Rattle.vr_history.specs.Committed.{kept_or}
 use Rattle.vr_history.specs.Effects.{is_other}
 use Rattle.vr_history.specs.State.{BeforeImage, State}
 use Rattle.vr_history.proofs.Same.{first_holds, second_holds}
+use Rattle.vr_undo.proofs.CallerLemmas.{record-stands}
 use Rattle.vr_volume.specs.Committed.{HasLogged, IsCurrent, IsFirmFor, IsLaidState}
 use Rattle.vr_volume.specs.Committed.{KeepsNoneIf, committed_by, has_commit, is_committing, kept_by}
 use Rattle.vr_volume.specs.Ended.{IsEndOf, ended}
 use Rattle.vr_volume.specs.Laid.{shape_by}
 use Rattle.vr_volume.specs.Logged.{IsFirstBefore}
-use Rattle.vr_volume.specs.PutBack.{AreAlone, images_of, is_image_of, oldest}
+use Rattle.vr_volume.specs.PutBack.{AreAlone, images_of, is_image_of, oldest, standing_of}
 use Rattle.vr_volume.specs.Safe.{IsSafe, IsSafeBy}
 use Rattle.vr_volume.specs.Volume.{CanPutBack, IsInside}
-use Rattle.vr_volume.proofs.Committing.{are-committed, catalog-same, commit-append}
+use Rattle.vr_volume.proofs.Committing.{are-committed, commit-append, images-back, shape-same}
 use Rattle.vr_volume.proofs.Committing.{before-same, item-now, none-ended}
 use Rattle.vr_volume.proofs.Living.{left-images, live-or-none}
-use Rattle.vr_volume.proofs.PuttingBack.{back-item}
+use Rattle.vr_volume.proofs.PuttingBack.{back-record}
 
 -- ---- what is found among some of the images
 
@@ -191,13 +192,14 @@ module _ (geometry : Geometry) (state : State) (laid : IsLaidState geometry stat
       by_found None is = refl
       by_found (Some image) is = absurd (some-none (sym (logged.kept part place image is) ∙ none))
 
-  -- what stands at such a place is committed
+  -- the record that stands at such a place is committed
   pub item-there : (part : ℕ) (place : List ℕ)
       → oldest (images_of log.records) part place ≡ None
-      → item_at (committed_by state log.records part) place ≡ item_at (state.contents part) place
+      → item_at (committed_by state log.records part) place
+      ≡ standing_of (item_at (state.contents part) place)
   item-there part place none = item-now geometry state laid log logged part place
-      ∙ ap (λ (found : Option BeforeImage). kept_or found (item_at (state.contents part) place))
-      (none-kept part place none)
+      ∙ ap (λ (found : Option BeforeImage). kept_or found
+      (standing_of (item_at (state.contents part) place))) (none-kept part place none)
 
   pub first-before : (unit : UnitOfRecovery) (part : PartNo) (place : List ℕ)
       (old : Option (List ℕ)) (shape : Shape) → IsCurrent state.numbers unit
@@ -209,11 +211,10 @@ module _ (geometry : Geometry) (state : State) (laid : IsLaidState geometry stat
     forced = omega (arith, forced);
     live = live-or-none state.numbers unit current [] log.records logged.ended;
     first = none;
-    item = item ∙ sym (item-there part.0 place none);
+    item = sym (record-stands old) ∙ ap standing_of item ∙ sym (item-there part.0 place none);
     same = before-same state log.records unit part place old;
     shape = shape;
-    laid = ap (λ (catalog : Content). shape_by geometry catalog part.0)
-        (catalog-same geometry state laid log.records) ∙ is;
+    laid = shape-same geometry state laid log.records part.0 ∙ is;
     at = at;
   }
 
@@ -249,10 +250,11 @@ module _ (geometry : Geometry) (state : State) (laid : IsLaidState geometry stat
     -- what is committed with the end at a place that nobody keeps then
     item-ended : (part : ℕ) (place : List ℕ) → oldest kept-on part place ≡ None
         → item_at (committed_by state (ended log unit kind) part) place
-        ≡ item_at (state.contents part) place
-    item-ended part place none = back-item part kept-on (state.contents part) place
-        ∙ ap (λ (found : Option BeforeImage). kept_or found (item_at (state.contents part) place))
-        none
+        ≡ standing_of (item_at (state.contents part) place)
+    item-ended part place none =
+        back-record part kept-on (state.contents part) place (laid.each part)
+        ∙ ap (λ (found : Option BeforeImage). kept_or found
+        (standing_of (item_at (state.contents part) place))) none
 
     none-on : (part : ℕ) (place : List ℕ) → oldest state.befores part place ≡ None
         → oldest kept-on part place ≡ None
@@ -307,9 +309,9 @@ module _ (geometry : Geometry) (state : State) (laid : IsLaidState geometry stat
             ∙ ap (λ (i : BeforeImage). same_unit unit i.unit && is_committing kind) (sym one)
             ∙ ap (λ (b : Bool). b && is_committing kind) others)) in
             ap (λ (i : BeforeImage). i.old) one
-            ∙ sym (back-item part kept-on (state.contents part) place
+            ∙ sym (back-record part kept-on (state.contents part) place (laid.each part)
             ∙ ap (λ (found : Option BeforeImage). kept_or found
-            (item_at (state.contents part) place)) stays)
+            (standing_of (item_at (state.contents part) place))) stays)
 
     -- at a place of the unit nobody keeps anything then
     own-none : KeepsNoneIf kind state unit → (part : ℕ) (place : List ℕ) (image : BeforeImage)
@@ -365,14 +367,12 @@ module _ (geometry : Geometry) (state : State) (laid : IsLaidState geometry stat
       inside-now : (part : ℕ) (shape : Shape)
           → shape_by geometry (state.contents 0) part ≡ Some shape → IsInside geometry shape
       inside-now part shape is = by-all.committed.inside part shape
-          (ap (λ (catalog : Content). shape_by geometry catalog part)
-          (catalog-same geometry state laid log.records) ∙ is)
+          (shape-same geometry state laid log.records part ∙ is)
 
       -- and each before-image that is left may be put back
       images-left : All (CanPutBack (shape_by geometry (state.contents 0)))
           (images_of (ended log unit kind))
-      images-left = subst (λ (catalog : Content). All (CanPutBack (shape_by geometry catalog))
-          (images_of (ended log unit kind))) (catalog-same geometry state laid log.records)
+      images-left = images-back geometry state laid log.records (images_of (ended log unit kind))
           (subst (All (CanPutBack (shape_by geometry (committed_by state log.records 0))))
           (sym images-ended)
           (All-filter keeps (CanPutBack (shape_by geometry (committed_by state log.records 0)))
@@ -390,14 +390,10 @@ module _ (geometry : Geometry) (state : State) (laid : IsLaidState geometry stat
         contents = are-committed geometry state laid (ended log unit kind) inside-now images-left
             alone-left olds-ended;
         laid = λ part shape is.
-            ap (λ (catalog : Content). shape_by geometry catalog part)
-            (catalog-same geometry state laid log.records)
-            ∙ sym (ap (λ (catalog : Content). shape_by geometry catalog part)
-            (catalog-same geometry state laid (ended log unit kind)))
-            ∙ is;
+            shape-same geometry state laid log.records part
+            ∙ sym (shape-same geometry state laid (ended log unit kind) part) ∙ is;
         items = λ part shape is place found may gone. at-place part shape
-            (sym (ap (λ (catalog : Content). shape_by geometry catalog part)
-            (catalog-same geometry state laid (ended log unit kind))) ∙ is)
+            (sym (shape-same geometry state laid (ended log unit kind) part) ∙ is)
             place found may gone (oldest (images_of log.records) part place) refl;
       }
         where
@@ -406,14 +402,13 @@ module _ (geometry : Geometry) (state : State) (laid : IsLaidState geometry stat
               (found : Option Item) → MayHold shape now.may place found
               → oldest (images_of (ended log unit kind)) part place ≡ None
               → (image : Option BeforeImage) → oldest (images_of log.records) part place ≡ image
-              → found ≡ item_at (committed_by state (ended log unit kind) part) place
+              → standing_of found ≡ item_at (committed_by state (ended log unit kind) part) place
           at-place part shape is place found may gone None free =
               (by-all.parts part shape
-              (ap (λ (catalog : Content). shape_by geometry catalog part)
-              (catalog-same geometry state laid log.records) ∙ is)).items place found may free
+              (shape-same geometry state laid log.records part ∙ is)).items place found may free
               ∙ item-there part place free
               ∙ sym (item-ended part place (none-on part place (none-kept part place free)))
           at-place part shape is place found may gone (Some image) there =
               let mine : same_unit unit image.unit ≡ true = gone-of part place image there gone in
-              firm part place image shape found there mine is may
+              ap standing_of (firm part place image shape found there mine is may)
               ∙ sym (item-ended part place (own-none none part place image there mine))

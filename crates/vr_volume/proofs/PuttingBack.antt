@@ -1,14 +1,18 @@
--- What stands in a content once before-images were put back into it.
+-- What stands in a content once before-images were put back into it, or into its records.
 use Rattle.std.proofs.Common.{◌≡◌, ℕ, Bool, true, false, cond, List, [], ◌∷◌, Option, Some}
 use Rattle.std.proofs.Common.{refl, sym, ap, ◌∙◌, bytes_eq, ◌==◌, ◌&&◌}
 use Rattle.std.proofs.lemmas.Bool.{true≢false}
 use Rattle.std.proofs.lemmas.Slice.Eq.{bytes_eq-Decides}
-use Rattle.vr_types.specs.Content.{Content, Item, Ascends, item_at}
+use Rattle.std.specs.Option.{option_map}
+use Rattle.vr_types.specs.Content.{Content, Item, Ascends, Standing, item_at}
+use Rattle.vr_space.specs.Part.{Shape, left_by}
+use Rattle.vr_space.proofs.CallerLemmas.{left-none}
 use Rattle.vr_history.specs.Committed.{kept_or}
 use Rattle.vr_history.specs.State.{BeforeImage}
 use Rattle.vr_altkey.specs.Placing.{placed_in}
 use Rattle.vr_altkey.proofs.CallerLemmas.{placed_here, placed_elsewhere, placed_ascends}
-use Rattle.vr_volume.specs.PutBack.{oldest, put_back}
+use Rattle.vr_undo.proofs.CallerLemmas.{stands-ascends, stands-item}
+use Rattle.vr_volume.specs.PutBack.{oldest, put_back, standing, standing_of}
 
 pub back-ascends : (part : ℕ) (images : List BeforeImage) (content : Content) → Ascends content
     → Ascends (put_back part images content)
@@ -54,3 +58,24 @@ back-item part (image ∷ images) content place =
         (oldest images part place)) (item_at content place)
     by_part true rest = by_place (bytes_eq place image.place) refl rest
     by_part false rest = rest
+
+-- ---- the records of a content
+
+pub records-ascend : (part : ℕ) (images : List BeforeImage) (content : Content) → Ascends content
+    → Ascends (put_back part images (standing content))
+records-ascend part images content ascends =
+    back-ascends part images (standing content) (stands-ascends content ascends)
+
+-- at each place the oldest image of it stands, and else the record that stood there
+pub back-record : (part : ℕ) (images : List BeforeImage) (content : Content) (place : List ℕ)
+    → Ascends content
+    → item_at (put_back part images (standing content)) place
+    ≡ kept_or (oldest images part place) (standing_of (item_at content place))
+back-record part images content place ascends =
+    back-item part images (standing content) place
+    ∙ ap (kept_or (oldest images part place)) (stands-item content place ascends)
+
+-- the record that a call leaves at a place is the one that it gives
+pub left-stands : (shape : Shape) (now : Option Item) (bytes : Option (List ℕ))
+    → standing_of (left_by shape now bytes) ≡ option_map Standing bytes
+left-stands shape now bytes = ap (option_map Standing) (left-none shape now bytes)

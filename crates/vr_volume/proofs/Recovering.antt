@@ -20,9 +20,10 @@ use Rattle.vr_log.specs.declared.record.LogRecord.{LogRecord}
 use Rattle.vr_volume.specs.CatalogRules.{IsCatalog}
 use Rattle.vr_volume.specs.Laid.{shape_by}
 use Rattle.vr_volume.specs.PutBack.{images_of, oldest, put_back, lengths_kept}
+use Rattle.vr_volume.specs.PutBack.{standing, standing_of}
 use Rattle.vr_volume.specs.Safe.{IsImageSafe, IsItemOf, IsPartIn, IsPartSafe, IsSafe, IsSafeImage}
 use Rattle.vr_volume.specs.Volume.{CanPutBack, Recovers, shapes_by}
-use Rattle.vr_volume.proofs.PuttingBack.{back-ascends, back-item}
+use Rattle.vr_volume.proofs.PuttingBack.{back-record, records-ascend}
 
 some-same : (one other : Shape) → Some one ≡ Some other → one ≡ other
 some-same one other same = cc
@@ -62,11 +63,12 @@ module _ (geometry : Geometry) (number : ℕ) (owners : Owners) (image : Image) 
   none-held part None is none = refl
   none-held part (Some shape) is none = absurd (cc)
 
-  -- once the images are put back, each place has the committed item
+  -- once the images are put back, each place has the committed record
   item-back : (part : ℕ) (found : Option Shape)
       (is : shape_by geometry (committed 0) part ≡ found) (place : List ℕ)
       (kept : Option BeforeImage) → oldest images part place ≡ kept
-      → kept_or kept (item_at (held part found is) place) ≡ item_at (committed part) place
+      → kept_or kept (standing_of (item_at (held part found is) place))
+      ≡ item_at (committed part) place
   item-back part found is place (Some old) here = safe.committed.olds part place old here
   item-back part None is place None here =
       sym (ap (λ (c : Content). item_at c place) (safe.committed.others part is))
@@ -78,12 +80,14 @@ module _ (geometry : Geometry) (number : ℕ) (owners : Owners) (image : Image) 
   held-ascends part (Some shape) is =
       (stands_content shape image (has part shape is).content (has part shape is).stands).ascends
 
-  is-back : (part : ℕ) → put_back part images (contents part) ≡ committed part
-  is-back part = same_items (put_back part images (contents part)) (committed part)
-      (back-ascends part images (contents part)
-      (held-ascends part (shape_by geometry (committed 0) part) refl))
+  each-ascends : (part : ℕ) → Ascends (contents part)
+  each-ascends part = held-ascends part (shape_by geometry (committed 0) part) refl
+
+  is-back : (part : ℕ) → put_back part images (standing (contents part)) ≡ committed part
+  is-back part = same_items (put_back part images (standing (contents part))) (committed part)
+      (records-ascend part images (contents part) (each-ascends part))
       (safe.committed.each part)
-      (λ place. back-item part images (contents part) place
+      (λ place. back-record part images (contents part) place (each-ascends part)
       ∙ item-back part (shape_by geometry (committed 0) part) refl place
       (oldest images part place) refl)
 

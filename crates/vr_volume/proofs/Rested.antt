@@ -1,15 +1,15 @@
 -- What calls leave of a volume at rest.
 use Rattle.std.proofs.Common.{◌≡◌, ◌≢◌, inl, inr, ⊎_elim, ◌<◌, ◌+◌, ℕ, Bool, true}
 use Rattle.std.proofs.Common.{false, cond, List, [], ◌∷◌, ◌++◌, Option, Some, None, refl, sym, ap}
-use Rattle.std.proofs.Common.{subst, ◌∙◌, arith, length, ◌==◌, IsTrue}
+use Rattle.std.proofs.Common.{subst, ◌∙◌, arith, length, ◌==◌, ◌&&◌, IsTrue}
 use Rattle.std.specs.List.{filter_map}
-use Rattle.std.specs.Option.{option_and_then, option_map}
+use Rattle.std.specs.Option.{option_and_then, option_or}
 use Rattle.std.proofs.lemmas.Bool.{true≢false}
 use Rattle.std.proofs.lemmas.List.{take_all}
 use Rattle.std.proofs.lemmas.Bool.Decides.{Decides-eqb}
 use Rattle.std.proofs.lemmas.Slice.Eq.{bytes_eq-Decides}
 use Rattle.std.specs.Prelude.{bytes_eq}
-use Rattle.vr_types.specs.Content.{Content, Standing, item_at, record_of}
+use Rattle.vr_types.specs.Content.{Content, Item, item_at, record_of}
 use Rattle.vr_types.specs.Image.{Block, Image, block_at}
 use Rattle.vr_types.specs.Regions.{Touches}
 use Rattle.vr_types.specs.Seen.{Left, Seen}
@@ -21,9 +21,10 @@ use Rattle.vr_space.specs.Owners.{Owners}
 use Rattle.vr_space.specs.Known.{Known}
 use Rattle.vr_attach.specs.Owning.{IsPastLog}
 use Rattle.vr_space.specs.Part.{HasKeptRoom, InPart, IsAtRest, Knows, SameRecords}
-use Rattle.vr_space.specs.Part.{IsPlaceOf, IsSound, SetsOne, Shape, item_of, part_no}
+use Rattle.vr_space.specs.Part.{IsPlaceOf, IsSound, MayHold, SetsOne, Shape, item_of, left_by}
+use Rattle.vr_space.specs.Part.{part_no}
 use Rattle.vr_space.specs.Room.{Lengths}
-use Rattle.vr_space.proofs.CallerLemmas.{StaysPart, knows-stays, left-is, on-still, one-owner}
+use Rattle.vr_space.proofs.CallerLemmas.{StaysPart, holds-less, knows-stays, on-still, one-owner}
 use Rattle.vr_space.proofs.CallerLemmas.{rest-grows, rest-sound, rest-stays, room-stays, same-stays}
 use Rattle.vr_space.proofs.CallerLemmas.{stays-keeps}
 use Rattle.vr_log.specs.Content.{Content as LogContent}
@@ -38,14 +39,15 @@ use Rattle.vr_volume.specs.Laid.{shape_by}
 use Rattle.vr_volume.specs.Laying.{IsFreeIn, IsLaidBy, IsLaidSo, IsLogged}
 use Rattle.vr_volume.specs.Logged.{IsFirstBefore}
 use Rattle.vr_volume.specs.PutBack.{image_in, images_of, length_of, lengths_kept}
-use Rattle.vr_volume.specs.PutBack.{oldest}
-use Rattle.vr_volume.specs.Rests.{IsGivenFor, IsPartAtRest, IsVolumeAtRest}
+use Rattle.vr_volume.specs.PutBack.{is_image_of, oldest}
+use Rattle.vr_volume.specs.Rests.{HoldsNoMore, IsGivenFor, IsPartAtRest, IsVolumeAtRest}
 use Rattle.vr_volume.specs.Safe.{IsSafe}
 use Rattle.vr_volume.specs.Steps.{Changing, IsChangeOf, IsFirstChange, IsNextChange, IsPutBack}
 use Rattle.vr_volume.specs.Steps.{IsPutIn, image_by}
 use Rattle.vr_volume.proofs.Calls.{Leaves, safe-grows, safe-keeps}
-use Rattle.vr_volume.proofs.Committing.{catalog-same}
-use Rattle.vr_volume.proofs.Images.{kept-append, kept_more}
+use Rattle.vr_volume.proofs.Committing.{shape-same}
+use Rattle.vr_volume.proofs.Befores.{option-first}
+use Rattle.vr_volume.proofs.Images.{kept-append, kept_more, oldest-append}
 use Rattle.vr_volume.proofs.Meeting.{first-before}
 use Rattle.vr_volume.proofs.Moving.{catalog-stays, images-now, item-else, item-here}
 use Rattle.vr_volume.proofs.Moving.{laid-first-change, logged-first-change, other-part}
@@ -135,6 +137,13 @@ stays-then shape owners a b c first second = record {
       (second.fewer n block (omega (arith, below, first.count)) inside may);
 }
 
+-- its places may hold no more,
+pub stays-holds : (shape : Shape) (owners : Owners) (a b : Seen) → StaysPart shape owners a b
+    → IsSound shape owners a → (place : List ℕ) (found : Option Item)
+    → MayHold shape b.may place found → MayHold shape a.may place found
+stays-holds shape owners a b stays sound = holds-less shape owners a b.may sound
+    (λ n block is. stays.fewer n block is.0 is.1)
+
 -- so it stays at rest
 pub part-stays : (geometry : Geometry) (owners : Owners) (images more : List BeforeImage)
     (old new : State)
@@ -142,9 +151,11 @@ pub part-stays : (geometry : Geometry) (owners : Owners) (images more : List Bef
     → IsPartAtRest geometry owners images old shape known a → new.contents 0 ≡ old.contents 0
     → new.contents (part_no shape).0 ≡ old.contents (part_no shape).0
     → lengths_kept more (part_no shape).0 ≡ lengths_kept images (part_no shape).0
+    → ((place : List ℕ) → oldest more (part_no shape).0 place ≡ None
+    → oldest images (part_no shape).0 place ≡ None)
     → IsPartAtRest geometry owners more new shape known b
 part-stays geometry owners images more old new shape known a b stays left part catalog content kept
-    =
+    free =
     record {
       laid = ap (λ (c : Content). shape_by geometry c (part_no shape).0) catalog ∙ part.laid;
       on = on-still shape a b part.on stays.count stays.size;
@@ -156,10 +167,23 @@ part-stays geometry owners images more old new shape known a b stays left part c
       reads = λ place.
           same-stays a b shape owners stays sound left place ∙ part.reads place
           ∙ sym (ap (λ (c : Content). item_at c place) content);
+      firm = λ place found none holds. part.firm place found (free place none)
+          (stays-holds shape owners a b stays sound place found holds)
+          ∙ sym (ap (λ (c : Content). item_at c place) content);
     }
   where
     sound : IsSound shape owners a
     sound = rest-sound shape owners a part.rests
+
+-- ---- what a call is given
+
+-- the item of the change, by the place of the change
+pub given-item : (old : State) (change : Changing) (shape : Shape) (place : List ℕ)
+    (found : Option (List ℕ)) → IsGivenFor old change shape place found
+    → change.new ≡ left_by shape (item_at (old.contents change.part.0) change.place) found
+given-item old change shape place found given = given.item
+    ∙ ap (λ (q : List ℕ). left_by shape (item_at (old.contents change.part.0) q) found)
+    given.place_is
 
 -- ---- a first change
 
@@ -175,6 +199,38 @@ other-kept images image part apart = kept-append images image part
     none true is = absurd (apart ((Decides-eqb image.part part).0 is))
     none false is = refl
 
+-- ---- the images of a place
+
+-- a place that is free with an image more was free,
+pub free-before : (images : List BeforeImage) (image : BeforeImage) (part : ℕ) (place : List ℕ)
+    → oldest (images ++ image ∷ []) part place ≡ None → oldest images part place ≡ None
+free-before images image part place none =
+    option-first (oldest images part place) _ (sym (oldest-append images image part place) ∙ none)
+
+-- and the place of the image isn't
+pub image-there : (images : List BeforeImage) (image : BeforeImage)
+    → oldest (images ++ image ∷ []) image.part image.place ≢ None
+image-there images image none = by_found (oldest images image.part image.place)
+    (sym (oldest-append images image image.part image.place
+    ∙ ap (λ (here : Bool). option_or (oldest images image.part image.place)
+    (cond here (Some image) None)) self) ∙ none)
+  where
+    self : is_image_of image.part image.place image ≡ true
+    self = ap (λ (mine : Bool). mine && bytes_eq image.place image.place)
+        ((Decides-eqb image.part image.part).1 refl)
+        ∙ (bytes_eq-Decides image.place image.place).1 refl
+
+    by_found : (found : Option BeforeImage) → option_or found (Some image) ≡ None → ⊥
+    by_found None same = some-none same
+    by_found (Some first) same = some-none same
+
+-- The place has an image after a call, and each place that is free then was free before it.
+pub record HasImageHere (shape : Shape) (images after : List BeforeImage) (at : List ℕ) : Type 0
+  where
+    pub some : oldest after (part_no shape).0 at ≢ None
+    pub free : (place : List ℕ) → oldest after (part_no shape).0 place ≡ None
+        → oldest images (part_no shape).0 place ≡ None
+
 -- ---- the part in which a record is set
 
 module _ (geometry : Geometry) (owners : Owners) (old new : State) (change : Changing)
@@ -183,12 +239,15 @@ module _ (geometry : Geometry) (owners : Owners) (old new : State) (change : Cha
   pub part-set : (shape : Shape) (known later : Known) (found : Option (List ℕ))
       (images after : List BeforeImage)
       → IsPartAtRest geometry owners images old shape known a
+      → HasImageHere shape images after change.place → HoldsNoMore shape change.place a d
       → part_no shape ≡ change.part → d.count ≡ a.count → d.size ≡ a.size
       → IsAtRest shape owners d → HasKeptRoom shape (lengths_kept after (part_no shape).0) d
       → Knows shape later d → SetsOne shape change.place found a.cur d.cur
-      → change.new ≡ option_map Standing found
+      → change.new
+      ≡ left_by shape (item_at (old.contents change.part.0) change.place) found
       → IsPartAtRest geometry owners after new shape later d
-  part-set shape known later found images after part at count size rests room knows set given =
+  part-set shape known later found images after part here holds at count size rests room knows set
+      given =
       record {
         laid = ap (λ (c : Content). shape_by geometry c (part_no shape).0)
             (catalog-stays geometry old new change laid of put) ∙ part.laid;
@@ -197,17 +256,32 @@ module _ (geometry : Geometry) (owners : Owners) (old new : State) (change : Cha
         room = room;
         knows = knows;
         reads = λ place. by_place place (bytes_eq place change.place) refl;
+        firm = λ place item none held. elsewhere place item none held
+            (λ same. here.some (sym (ap (oldest after (part_no shape).0) same) ∙ none));
       }
     where
+      elsewhere : (place : List ℕ) (item : Option Item)
+          → oldest after (part_no shape).0 place ≡ None → MayHold shape d.may place item
+          → place ≢ change.place → item ≡ item_at (new.contents (part_no shape).0) place
+      elsewhere place item none held apart =
+          part.firm place item (here.free place none) (holds place item apart held)
+          ∙ sym (item-else geometry old new change laid of put (part_no shape).0 place
+          (λ same there. apart there))
+
       same-part : (part_no shape).0 ≡ change.part.0
       same-part = ap (λ (p : PartNo). p.0) at
+
+      item-before : item_of shape a.cur change.place
+          ≡ item_at (old.contents change.part.0) change.place
+      item-before = part.reads change.place
+          ∙ ap (λ (p : ℕ). item_at (old.contents p) change.place) same-part
 
       by_place : (place : List ℕ) (here : Bool) → bytes_eq place change.place ≡ here
           → item_of shape d.cur place ≡ item_at (new.contents (part_no shape).0) place
       by_place place true is =
           let there : place ≡ change.place = (bytes_eq-Decides place change.place).0 is in
           ap (item_of shape d.cur) there ∙ set.here
-          ∙ left-is shape (item_of shape a.cur change.place) found ∙ sym given
+          ∙ ap (λ (now : Option Item). left_by shape now found) item-before ∙ sym given
           ∙ sym (item-here geometry old new change laid of put)
           ∙ sym (ap (λ (p : ℕ). item_at (new.contents p) place) same-part
           ∙ ap (item_at (new.contents change.part.0)) there)
@@ -234,6 +308,8 @@ module _ (geometry : Geometry) (number : ℕ) (owners : Owners) (log : LogNow)
       (other-part geometry old new change rest.laid of put (part_no shape).0 apart)
       (ap (λ (found : List BeforeImage). lengths_kept found (part_no shape).0) kept
       ∙ other-kept images (image_by change) (part_no shape).0 (λ same. apart (sym same)))
+      (λ place none. free-before images (image_by change) (part_no shape).0 place
+      (sym (ap (λ (found : List BeforeImage). oldest found (part_no shape).0 place) kept) ∙ none))
 
 module _ (geometry : Geometry) (number : ℕ) (owners : Owners) (log more : LogNow)
     (images after : List BeforeImage) (old new : State) (change : Changing) (a d : Seen)
@@ -263,14 +339,27 @@ module _ (geometry : Geometry) (number : ℕ) (owners : Owners) (log more : LogN
   -- and so is the part that is changed.
   pub part-first-change : (shape : Shape) (known later : Known) (found : Option (List ℕ))
       → IsPartAtRest geometry owners images old shape known a
-      → part_no shape ≡ change.part → d.count ≡ a.count → d.size ≡ a.size
+      → HoldsNoMore shape change.place a d → part_no shape ≡ change.part
+      → d.count ≡ a.count → d.size ≡ a.size
       → IsAtRest shape owners d → HasKeptRoom shape (lengths_kept after (part_no shape).0) d
       → Knows shape later d → SetsOne shape change.place found a.cur d.cur
-      → change.new ≡ option_map Standing found
+      → change.new
+      ≡ left_by shape (item_at (old.contents change.part.0) change.place) found
       → IsPartAtRest geometry owners after new shape later d
-  part-first-change shape known later found part at count size rests room knows set
+  part-first-change shape known later found part holds at count size rests room knows set
       given = part-set geometry owners old new change a d rest.laid of made.contents shape known
-      later found images after part at count size rests room knows set given
+      later found images after part
+      (record {
+        some = λ none. image-there images (image_by change)
+            (ap (λ (p : ℕ). oldest (images ++ image_by change ∷ []) p change.place)
+            (sym (ap (λ (p : PartNo). p.0) at))
+            ∙ sym (ap (λ (them : List BeforeImage). oldest them (part_no shape).0 change.place)
+            kept) ∙ none);
+        free = λ place none. free-before images (image_by change) (part_no shape).0 place
+            (sym (ap (λ (them : List BeforeImage). oldest them (part_no shape).0 place) kept)
+            ∙ none);
+      })
+      holds at count size rests room knows set given
 
 -- ---- what a first change asks for
 
@@ -281,7 +370,7 @@ module _ (geometry : Geometry) (number : ℕ) (owners : Owners) (log : LogNow)
     (rest : IsVolumeAtRest geometry number owners log images old a)
     (part : IsPartAtRest geometry owners images old shape known a)
     (of : IsChangeOf geometry old change) (made : IsFirstChange log change old new)
-    (given : IsGivenFor change shape place found)
+    (given : IsGivenFor old change shape place found)
     (kept : after ≡ images ++ image_by change ∷ []) where
   part-same : (part_no shape).0 ≡ change.part.0
   part-same = ap (λ (p : PartNo). p.0) given.part
@@ -321,9 +410,8 @@ module _ (geometry : Geometry) (number : ℕ) (owners : Owners) (log : LogNow)
       (log.records ++ Before change.unit (part_no shape) place change.old ∷ []) (committed_by old)
       (part_no shape).0 shape (lengths_kept after (part_no shape).0)
   laid-by-more = record {
-    laid = ap (λ (c : Content). shape_by geometry c (part_no shape).0)
-        (catalog-same geometry old rest.laid (log.records
-        ++ Before change.unit (part_no shape) place change.old ∷ [])) ∙ part.laid;
+    laid = shape-same geometry old rest.laid (log.records
+        ++ Before change.unit (part_no shape) place change.old ∷ []) (part_no shape).0 ∙ part.laid;
     kept_is = ap (λ (found : List BeforeImage). lengths_kept found (part_no shape).0)
         (sym images-with);
   }
@@ -355,8 +443,7 @@ module _ (geometry : Geometry) (number : ℕ) (owners : Owners) (log : LogNow)
       → (kept : Lengths) → kept ≡ lengths_kept images (part_no shape).0
       → IsLaidSo geometry log (committed_by old) (part_no shape).0 shape kept
   laid-again shape known place part some kept room content is = record {
-    laid = ap (λ (c : Content). shape_by geometry c (part_no shape).0)
-        (catalog-same geometry old rest.laid content.records) ∙ part.laid;
+    laid = shape-same geometry old rest.laid content.records (part_no shape).0 ∙ part.laid;
     kept_is = room ∙ ap (λ (found : List BeforeImage). lengths_kept found (part_no shape).0)
         (rest.kept ∙ ap images_of (sym (all-records (part_no shape).0 place some content is)));
   }
@@ -376,7 +463,7 @@ module _ (geometry : Geometry) (number : ℕ) (owners : Owners) (log : LogNow)
 
     -- so has the place that a call was given
     pub place-some : (shape : Shape) (place : List ℕ) (found : Option (List ℕ))
-        → IsGivenFor change shape place found
+        → IsGivenFor old change shape place found
         → oldest old.befores change.part.0 change.place ≢ None
         → oldest images (part_no shape).0 place ≢ None
     place-some shape place found given some none = kept-some some
@@ -398,6 +485,7 @@ module _ (geometry : Geometry) (number : ℕ) (owners : Owners) (log : LogNow)
           (λ same. apart (same ∙ ap (λ (p : PartNo). p.0) at)) call)
           left others (catalog-stays geometry old new change rest.laid of put)
           (other-part geometry old new change rest.laid of put (part_no other).0 apart) refl
+          (λ place none. none)
 
   module _ (new : State) (change : Changing) (d : Seen) (of : IsChangeOf geometry old change)
       (stands : LogStands log d)
@@ -435,14 +523,22 @@ module _ (geometry : Geometry) (number : ℕ) (owners : Owners) (log : LogNow)
     pub part-put : (shape : Shape) (known later : Known) (place : List ℕ)
         (found : Option (List ℕ)) → IsPutIn change old new
         → IsPartAtRest geometry owners images old shape known a
-        → IsGivenFor change shape place found → d.count ≡ a.count → d.size ≡ a.size
+        → oldest images (part_no shape).0 place ≢ None → HoldsNoMore shape place a d
+        → IsGivenFor old change shape place found → d.count ≡ a.count → d.size ≡ a.size
         → IsAtRest shape owners d → HasKeptRoom shape (lengths_kept images (part_no shape).0) d
         → Knows shape later d → SetsOne shape place found a.cur d.cur
         → IsPartAtRest geometry owners images new shape later d
-    part-put shape known later place found put part given count size rests room knows
+    part-put shape known later place found put part some holds given count size rests room knows
         set = part-set geometry owners old new change a d rest.laid of put shape known later found
-        images images part given.part count size rests room knows
-        (subst (λ (q : List ℕ). SetsOne shape q found a.cur d.cur) given.place_is set) given.item
+        images images part
+        (record {
+          some = λ none. some (ap (oldest images (part_no shape).0) given.place_is ∙ none);
+          free = λ other none. none;
+        })
+        (subst (λ (q : List ℕ). HoldsNoMore shape q a d) given.place_is holds)
+        given.part count size rests room knows
+        (subst (λ (q : List ℕ). SetsOne shape q found a.cur d.cur) given.place_is set)
+        (given-item old change shape place found given)
 
 -- ---- calls that leave the records as they are
 
@@ -485,8 +581,7 @@ module _ (geometry : Geometry) (number : ℕ) (owners : Owners) (log : LogNow)
       → kept ≡ lengths_kept images (part_no shape).0
       → IsLaidSo geometry log (committed_by state) (part_no shape).0 shape kept
   laid-rest shape known part kept room content is = record {
-    laid = ap (λ (c : Content). shape_by geometry c (part_no shape).0)
-        (catalog-same geometry state rest.laid content.records) ∙ part.laid;
+    laid = shape-same geometry state rest.laid content.records (part_no shape).0 ∙ part.laid;
     kept_is = room ∙ ap (λ (found : List BeforeImage). lengths_kept found (part_no shape).0)
         (images-rest content is);
   }
@@ -510,15 +605,18 @@ pub part-same-records : (geometry : Geometry) (owners : Owners) (images : List B
     → IsPartAtRest geometry owners images state shape known a → d.count ≡ a.count → d.size ≡ a.size
     → IsAtRest shape owners d → HasKeptRoom shape (lengths_kept images (part_no shape).0) d
     → Knows shape later d → SameRecords shape a.cur d.cur
+    → ((place : List ℕ) (found : Option Item) → MayHold shape d.may place found
+    → MayHold shape a.may place found)
     → IsPartAtRest geometry owners images state shape later d
 part-same-records geometry owners images state shape known later a d part count size rests room
-    knows same = record {
+    knows same holds = record {
       laid = part.laid;
       on = on-still shape a d part.on count size;
       rests = rests;
       room = room;
       knows = knows;
       reads = λ place. same place ∙ part.reads place;
+      firm = λ place found none held. part.firm place found none (holds place found held);
     }
 
 -- ---- calls that put nothing
@@ -546,6 +644,7 @@ module _ (tells : Bool) (told : IsTrue tells) (a b : Seen) (call : Keeps tells a
   part-keeps geometry owners images state shape known left part =
       part-stays geometry owners images images state state shape known a b
       (stays-keeps tells told a b call shape owners) left part refl refl refl
+      (λ place none. none)
 
 -- ---- owners who leave each part the blocks that it has
 
@@ -560,6 +659,7 @@ part-grows geometry owners grown images state shape known now leaves part = reco
   room = part.room;
   knows = part.knows;
   reads = part.reads;
+  firm = part.firm;
 }
 
 pub volume-grows : (geometry : Geometry) (number : ℕ) (owners grown : Owners) (log : LogNow)

@@ -13,7 +13,8 @@ use Rattle.vr_space.specs.Known.{Known}
 use Rattle.vr_space.specs.Owners.{Owners}
 use Rattle.vr_space.specs.Part.{AddsTo, DueMore, HasKeptRoom, HasRoom, InPart, IsAtRest, IsSound}
 use Rattle.vr_space.specs.Part.{IsUnderWay, Knows, MayGrow, Nothing, OwnersAfter, SameRecords}
-use Rattle.vr_space.specs.Part.{HasOwners, KeyedShape, RelativeShape, Shape, part_no, room_of}
+use Rattle.vr_space.specs.Part.{HasOwners, KeyedShape, NumberedShape, Shape}
+use Rattle.vr_space.specs.Part.{part_no, room_of}
 use Rattle.vr_space.specs.Room.{Lengths}
 use Rattle.vr_space.specs.declared.room.Room.TheVariants.{Stage}
 use Rattle.vr_space.proofs.CallerLemmas.{StaysPart, due-stays, rest-sound, room-stage, sound-less}
@@ -82,7 +83,7 @@ module _ (geometry : Geometry) (number : ℕ) (log : LogNow)
       owners-inside : (shape : Shape) (areas : List (Option PartNo)) → IsInside geometry shape
           → length areas ≡ area_count geometry → HasOwners shape areas
       owners-inside (KeyedShape part) areas inside count = tt
-      owners-inside (RelativeShape part) areas inside count =
+      owners-inside (NumberedShape part) areas inside count =
           count ∙ ap area_count (sym inside.1)
 
 -- ---- a part that has no block more
@@ -203,7 +204,7 @@ module _ (number : ℕ) (log : LogNow) (images : List BeforeImage) (state : Stat
 
       still : IsPartAtRest log.geometry own images state other met d
       still = part-stays log.geometry own images images state state other met a d
-          (stays-other other apart) left others refl refl refl
+          (stays-other other apart) left others refl refl refl (λ place none. none)
 
   -- and what has to be forced for its places stays.
   pub stage-other-due : (other : Shape) (met : Known) → (part_no other).0 ≢ (part_no shape).0
@@ -240,7 +241,8 @@ module _ (number : ℕ) (log : LogNow) (images : List BeforeImage) (state : Stat
     part-by owners before rests = part-same-records log.geometry owners images state shape known
         later a d before adds.touches.count_same adds.touches.size_same rests
         (subst (λ (lengths : Lengths). HasKeptRoom shape lengths d) room call.room) call.knows
-        call.same
+        call.same (λ place found held. ⊎_elim (λ was. was) (λ none. absurd none)
+        (adds.rest place found held))
 
     abbrev RestBy : List (Option PartNo) → Type 0
     RestBy now = IsVolumeAtRest log.geometry number (owner_of log.geometry now) log images state d

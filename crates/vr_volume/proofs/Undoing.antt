@@ -7,7 +7,7 @@ use Rattle.std.specs.Prelude.{All}
 use Rattle.std.specs.List.{list_any}
 use Rattle.std.proofs.lemmas.Bool.{true≢false}
 use Rattle.std.proofs.lemmas.List.Elements.{All-cons, All-head, All-tail}
-use Rattle.vr_types.specs.Content.{item_at}
+use Rattle.vr_types.specs.Content.{Item, item_at}
 use Rattle.vr_types.specs.Locks.{same_unit}
 use Rattle.vr_types.specs.declared.geometry.Geometry.{Geometry}
 use Rattle.vr_types.specs.declared.unit.Unit.{Unit as UnitOfRecovery}
@@ -17,7 +17,7 @@ use Rattle.vr_history.specs.Effects.{keeps_other, last_of, without_last}
 use Rattle.vr_history.specs.State.{BeforeImage, Logged, State}
 use Rattle.vr_volume.specs.Committed.{HasLogged, IsCurrent, IsKeptIn, IsLaidState, IsPast}
 use Rattle.vr_volume.specs.Committed.{committed_by}
-use Rattle.vr_volume.specs.PutBack.{AreAlone, images_of, is_image_of, oldest}
+use Rattle.vr_volume.specs.PutBack.{AreAlone, images_of, is_image_of, oldest, standing_of}
 use Rattle.vr_volume.specs.Steps.{Changing, IsChangeOf, IsNextChange, IsPutBack}
 use Rattle.vr_volume.proofs.Committing.{item-now}
 use Rattle.vr_volume.proofs.Alone.{is-own, is-there}
@@ -231,7 +231,7 @@ module _ (geometry : Geometry) (log : LogNow) (old new : State) (change : Changi
     unit = change.unit;
     part = change.part.0;
     place = change.place;
-    old = change.new;
+    old = standing_of change.new;
   }
 
   -- whether a place is the one that is changed
@@ -278,11 +278,11 @@ module _ (geometry : Geometry) (log : LogNow) (old new : State) (change : Changi
           (sym (kept-same part place) ∙ is);
       back = λ part place found is none. logged.back part place found is
           (sym (kept-same part place) ∙ none)
-          ∙ sym (item-else geometry old new change laid of made.contents part place
+          ∙ sym (ap standing_of (item-else geometry old new change laid of made.contents part place
           (λ same at. made.kept
           (ap (λ (p : ℕ). oldest old.befores p change.place) (sym same)
           ∙ ap (oldest old.befores part) (sym at)
-          ∙ sym (kept-same part place) ∙ none)));
+          ∙ sym (kept-same part place) ∙ none))));
       logged = logged.logged ∙ sym made.logged;
       live = λ unit. logged.live unit
           ∙ sym (ap (list_any (λ (l : Logged). same_unit unit l.unit)) made.logged);
@@ -303,24 +303,26 @@ module _ (geometry : Geometry) (log : LogNow) (old new : State) (change : Changi
         ≡ item_at (committed_by old log.records part) place
     items-next-change part place =
         item-now geometry new laid-next-change log logged-next-change part place
-        ∙ by-place (λ p q. kept_or (oldest new.befores p q) (item_at (new.contents p) q))
-        (λ p q. kept_or (oldest old.befores p q) (item_at (old.contents p) q))
+        ∙ by-place
+        (λ p q. kept_or (oldest new.befores p q) (standing_of (item_at (new.contents p) q)))
+        (λ p q. kept_or (oldest old.befores p q) (standing_of (item_at (old.contents p) q)))
         (ap (λ (found : Option BeforeImage). kept_or found
-        (item_at (new.contents change.part.0) change.place))
+        (standing_of (item_at (new.contents change.part.0) change.place)))
         (kept-same change.part.0 change.place)
         ∙ by_found (oldest old.befores change.part.0 change.place) refl)
         (λ p q apart.
-        ap (λ (found : Option BeforeImage). kept_or found (item_at (new.contents p) q))
+        ap (λ (found : Option BeforeImage).
+        kept_or found (standing_of (item_at (new.contents p) q)))
         (kept-same p q)
-        ∙ ap (kept_or (oldest old.befores p q))
+        ∙ ap (λ (item : Option Item). kept_or (oldest old.befores p q) (standing_of item))
         (item-else geometry old new change laid of made.contents p q (apart-from p q apart)))
         part place
         ∙ sym (item-now geometry old laid log logged part place)
       where
         by_found : (found : Option BeforeImage)
             → oldest old.befores change.part.0 change.place ≡ found
-            → kept_or found (item_at (new.contents change.part.0) change.place)
-            ≡ kept_or found (item_at (old.contents change.part.0) change.place)
+            → kept_or found (standing_of (item_at (new.contents change.part.0) change.place))
+            ≡ kept_or found (standing_of (item_at (old.contents change.part.0) change.place))
         by_found None is = absurd (made.kept is)
         by_found (Some kept) is = refl
 
@@ -367,12 +369,12 @@ module _ (geometry : Geometry) (log : LogNow) (old new : State) (change : Changi
           ∙ ap (λ (p : ℕ). oldest (images_of log.records) p place) there.0
           ∙ ap (oldest (images_of log.records) change.part.0) there.1 ∙ log-here in
           let one : found ≡ image = cc in
-          ap (λ (i : BeforeImage). i.old) one ∙ sym item-back
+          ap (λ (i : BeforeImage). i.old) one ∙ ap standing_of (sym item-back
           ∙ sym (ap (λ (p : ℕ). item_at (new.contents p) place) there.0
-          ∙ ap (item_at (new.contents change.part.0)) there.1))
+          ∙ ap (item_at (new.contents change.part.0)) there.1)))
           (λ apart. logged.back part place found is (sym (same-else part place apart) ∙ none)
-          ∙ sym (item-else geometry old new change laid of made.contents part place
-          (apart-from part place apart)))
+          ∙ sym (ap standing_of (item-else geometry old new change laid of made.contents part place
+          (apart-from part place apart))))
           (here-or part place);
       logged = logged.logged ∙ sym made.logged;
       live = λ unit. logged.live unit
@@ -396,17 +398,19 @@ module _ (geometry : Geometry) (log : LogNow) (old new : State) (change : Changi
         ≡ item_at (committed_by old log.records part) place
     items-put-back part place =
         item-now geometry new laid-put-back log logged-put-back part place
-        ∙ by-place (λ p q. kept_or (oldest new.befores p q) (item_at (new.contents p) q))
-        (λ p q. kept_or (oldest old.befores p q) (item_at (old.contents p) q))
+        ∙ by-place
+        (λ p q. kept_or (oldest new.befores p q) (standing_of (item_at (new.contents p) q)))
+        (λ p q. kept_or (oldest old.befores p q) (standing_of (item_at (old.contents p) q)))
         (ap (λ (found : Option BeforeImage). kept_or found
-        (item_at (new.contents change.part.0) change.place)) none-here
-        ∙ item-back
+        (standing_of (item_at (new.contents change.part.0) change.place))) none-here
+        ∙ ap standing_of item-back
         ∙ sym (ap (λ (found : Option BeforeImage). kept_or found
-        (item_at (old.contents change.part.0) change.place)) was-here))
+        (standing_of (item_at (old.contents change.part.0) change.place))) was-here))
         (λ p q apart.
-        ap (λ (found : Option BeforeImage). kept_or found (item_at (new.contents p) q))
+        ap (λ (found : Option BeforeImage).
+        kept_or found (standing_of (item_at (new.contents p) q)))
         (same-else p q apart)
-        ∙ ap (kept_or (oldest old.befores p q))
+        ∙ ap (λ (item : Option Item). kept_or (oldest old.befores p q) (standing_of item))
         (item-else geometry old new change laid of made.contents p q (apart-from p q apart)))
         part place
         ∙ sym (item-now geometry old laid log logged part place)

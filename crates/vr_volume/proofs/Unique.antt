@@ -8,7 +8,7 @@ use Rattle.vr_space.proofs.CallerLemmas.{one_content}
 use Rattle.vr_log.specs.Content.{Content as LogContent}
 use Rattle.vr_log.proofs.Unique.{one_log}
 use Rattle.vr_volume.specs.Laid.{shape_by, catalog_shape}
-use Rattle.vr_volume.specs.PutBack.{images_of, put_back}
+use Rattle.vr_volume.specs.PutBack.{images_of, put_back, standing}
 use Rattle.vr_volume.specs.Volume.{Recovers, VolumeStandsFor, shapes_by}
 
 module _ (geometry : Geometry) (number : ℕ) (image : Image) (log : LogContent)
@@ -20,7 +20,8 @@ module _ (geometry : Geometry) (number : ℕ) (image : Image) (log : LogContent)
 
   shapes : (part : ℕ) → shapes_by geometry log one part ≡ shapes_by geometry log other part
   shapes part =
-      ap (λ (c : Content). shape_by geometry (put_back 0 (images_of log.records) c) part) catalogs
+      ap (λ (c : Content). shape_by geometry (put_back 0 (images_of log.records) (standing c)) part)
+      catalogs
 
   part-by : (part : ℕ) (shape : Option Shape) → shapes_by geometry log one part ≡ shape
       → one part ≡ other part
@@ -54,6 +55,7 @@ one_recovery geometry number image one other long first second part =
     let same = one_stand geometry number image first.log second.log first.contents second.contents
     long first.stands second.stands in
     first.back part
-    ∙ ap (λ (l : LogContent). put_back part (images_of l.records) (first.contents part)) same.0
-    ∙ ap (put_back part (images_of second.log.records)) (same.1 part)
+    ∙ ap (λ (l : LogContent). put_back part (images_of l.records)
+    (standing (first.contents part))) same.0
+    ∙ ap (λ (c : Content). put_back part (images_of second.log.records) (standing c)) (same.1 part)
     ∙ sym (second.back part)

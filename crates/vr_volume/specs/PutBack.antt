@@ -12,6 +12,8 @@ use Rattle.vr_history.specs.State.{BeforeImage}
 -- putting before-images back, and the room that is kept for them
 pub use Rattle.vr_undo.specs.PutBack.{is_image_of, length_in, length_of, lengths_kept, oldest}
 pub use Rattle.vr_undo.specs.PutBack.{put_back}
+-- the records of a content, into which they are put back
+pub use Rattle.vr_undo.specs.PutBack.{standing, standing_of, stands}
 
 -- the before-image that a record of the log is, where its unit is one of these
 abbrev pub image_in : List UnitOfRecovery → LogRecord → Option BeforeImage

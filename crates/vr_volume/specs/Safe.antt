@@ -1,6 +1,7 @@
--- What makes the blocks of a volume recover to the committed contents: off the places that the log
--- has free, each block that a crash may leave has the committed item, and each before-image of a
--- unit without an end is the committed item of its place. The rules are this project's own.
+-- What makes the blocks of a volume recover to the committed contents, which have records alone:
+-- off the places that the log has free, each block that a crash may leave has the committed record,
+-- or none, and each before-image of a unit without an end is the committed item of its place. The
+-- rules are this project's own.
 use Rattle.std.specs.Prelude.{◌≡◌, ℕ, List, [], All, Option, Some, None}
 use Rattle.vr_types.specs.Content.{Content as ContentOf, Item, Ascends, item_at}
 use Rattle.vr_types.specs.Geometry.{IsAllowed}
@@ -20,13 +21,13 @@ use Rattle.vr_history.specs.State.{BeforeImage}
 use Rattle.vr_volume.specs.CatalogRules.{IsCatalog}
 use Rattle.vr_volume.specs.Header.{header_block}
 use Rattle.vr_volume.specs.Laid.{shape_by}
-use Rattle.vr_volume.specs.PutBack.{AreAlone, images_of, oldest, lengths_kept}
+use Rattle.vr_volume.specs.PutBack.{AreAlone, images_of, oldest, lengths_kept, standing_of}
 use Rattle.vr_volume.specs.Volume.{CanPutBack, IsInside}
 
--- off the places of before-images, what is found is the item of the content
+-- off the places of before-images, the record that is found is the item of the content
 abbrev pub IsItemOf : ℕ → List BeforeImage → ContentOf → List ℕ → Option Item → Type 0
 IsItemOf part images content place found =
-    oldest images part place ≡ None → found ≡ item_at content place
+    oldest images part place ≡ None → standing_of found ≡ item_at content place
 
 -- ---- the contents
 
@@ -48,7 +49,7 @@ pub record AreCommitted (geometry : Geometry) (records : List LogRecord)
 
 -- ---- one image
 
--- What an image has of a part, in blocks of its own: off the places of before-images the items of
+-- What an image has of a part, in blocks of its own: off the places of before-images the records of
 -- the content alone, and room for what is put back.
 pub record IsPartIn (shape : Shape) (owners : Owners) (part : ℕ) (images : List BeforeImage)
     (content : ContentOf) (image : Image) : Type 0 where

@@ -16,7 +16,7 @@ use Rattle.vr_history.specs.Effects.{is_other, last_kept, used_after, with_chang
 use Rattle.vr_history.specs.State.{BeforeImage, State}
 use Rattle.vr_volume.specs.Committed.{IsCurrent, logged_of}
 use Rattle.vr_volume.specs.Laid.{shape_by}
-use Rattle.vr_volume.specs.PutBack.{images_of, oldest}
+use Rattle.vr_volume.specs.PutBack.{images_of, oldest, standing_of}
 
 -- a place of a part that is laid, other than the catalog, and what a unit finds there as it changes
 -- it for the first time
@@ -83,13 +83,14 @@ pub record IsKeptAgain (log : LogNow) (change : Changing) (old new : State) : Ty
   pub used : new.used ≡ old.used
   pub numbers : new.numbers ≡ old.numbers
 
--- The last before-image that a unit keeps is put back, and kept no more; its place stays logged.
+-- The last before-image that a unit keeps is put back, and kept no more; its place stays logged. A
+-- record that was added may become a withdrawn one, where no record stood before.
 pub record IsPutBack (change : Changing) (old new : State) : Type 0 where
   pub last : last_kept old change.unit ≡ Some (record {
     unit = change.unit;
     part = change.part.0;
     place = change.place;
-    old = change.new;
+    old = standing_of change.new;
   })
   pub contents : IsPutIn change old new
   pub befores : new.befores ≡ without_last change.unit old.befores

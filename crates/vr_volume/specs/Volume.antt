@@ -1,6 +1,6 @@
 -- What the blocks of a whole volume stand for: its log, and a content of each part. And what they
--- recover to: the contents with the before-images of units that haven't ended put back. The rules
--- are this project's own.
+-- recover to: the records of the contents, with the before-images of units that haven't ended put
+-- back. The rules are this project's own.
 use Rattle.std.specs.Prelude.{◌≡◌, ℕ, [], All, IfSome, Option, Some, None}
 use Rattle.std.specs.Option.{option_and_then}
 use Rattle.vr_types.specs.Content.{Content as ContentOf, record_of}
@@ -16,12 +16,12 @@ use Rattle.vr_log.specs.Spells.{Spells}
 use Rattle.vr_volume.specs.CatalogRules.{IsCatalog}
 use Rattle.vr_volume.specs.Header.{header_block}
 use Rattle.vr_volume.specs.Laid.{shape_by}
-use Rattle.vr_volume.specs.PutBack.{AreAlone, images_of, put_back, lengths_kept}
+use Rattle.vr_volume.specs.PutBack.{AreAlone, images_of, put_back, lengths_kept, standing}
 pub use Rattle.vr_attach.specs.Laid.{IsInside}
 
--- the content of part 0 once the before-images are put back: it says which parts there are
+-- the records of part 0 once the before-images are put back: they say which parts there are
 abbrev pub catalog_back : LogContent → (ℕ → ContentOf) → ContentOf
-catalog_back log contents = put_back 0 (images_of log.records) (contents 0)
+catalog_back log contents = put_back 0 (images_of log.records) (standing (contents 0))
 
 -- the shapes of the parts by it
 abbrev pub shapes_by : Geometry → LogContent → (ℕ → ContentOf) → ℕ → Option Shape
@@ -50,7 +50,7 @@ pub record CanPutBack (shapes : ℕ → Option Shape) (image : BeforeImage) : Ty
   pub place : IsPlaceOf shape image.place
   pub old : IfSome (option_and_then record_of image.old) (IsRecordOf shape image.place)
 
--- They recover to these contents.
+-- They recover to these contents, which have records alone: what was withdrawn is left out.
 pub record Recovers (geometry : Geometry) (number : ℕ) (image : Image)
     (recovered : ℕ → ContentOf) : Type 0 where
   pub log : LogContent
@@ -63,4 +63,5 @@ pub record Recovers (geometry : Geometry) (number : ℕ) (image : Image)
   -- each interval has room for the before-images of its range beside its records
   pub room : (part : ℕ) (shape : Shape) → shapes_by geometry log contents part ≡ Some shape
       → HasRoom shape (lengths_kept (images_of log.records) part) image
-  pub back : (part : ℕ) → recovered part ≡ put_back part (images_of log.records) (contents part)
+  pub back : (part : ℕ) → recovered part
+      ≡ put_back part (images_of log.records) (standing (contents part))

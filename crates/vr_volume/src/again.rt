@@ -76,7 +76,7 @@ pub fn set_again<B: Blocks, P: Part, K: Kept>(
         → IsPartAtRest log.now.geometry owners images old (P.shape part.old) (P.known part.old)
         (B.seen blocks.old)
         → IsChangeOf log.now.geometry old change → IsNextChange change old new
-        → IsGivenFor change (P.shape part.old) place.now (given bytes.entry)
+        → IsGivenFor old change (P.shape part.old) place.now (given bytes.entry)
         → K.kept kept.now (part_no (P.shape part.old))
         ≡ lengths_kept images (part_no (P.shape part.old)).0
         → IsVolumeAtRest log.now.geometry number owners log.now images new (B.seen blocks.new)
@@ -89,7 +89,7 @@ pub fn set_again<B: Blocks, P: Part, K: Kept>(
         → IsPartAtRest log.now.geometry owners images old (P.shape part.old) (P.known part.old)
         (B.seen blocks.old)
         → IsChangeOf log.now.geometry old change → IsKeptAgain log.now change old new
-        → IsGivenFor change (P.shape part.old) place.now (given bytes.entry)
+        → IsGivenFor old change (P.shape part.old) place.now (given bytes.entry)
         → K.kept kept.now (part_no (P.shape part.old))
         ≡ lengths_kept images (part_no (P.shape part.old)).0
         → IsVolumeAtRest log.now.geometry number owners log.now images new (B.seen blocks.new)
@@ -102,7 +102,7 @@ pub fn set_again<B: Blocks, P: Part, K: Kept>(
         → IsPartAtRest log.now.geometry owners images old (P.shape part.old) (P.known part.old)
         (B.seen blocks.old)
         → IsChangeOf log.now.geometry old change → IsPutBack change old new
-        → IsGivenFor change (P.shape part.old) place.now (given bytes.entry)
+        → IsGivenFor old change (P.shape part.old) place.now (given bytes.entry)
         → K.kept kept.now (part_no (P.shape part.old))
         ≡ lengths_kept images (part_no (P.shape part.old)).0
         → IsVolumeAtRest log.now.geometry number owners log.now images new (B.seen blocks.new)

@@ -45,7 +45,7 @@ ghost use Rattle.vr_log.specs.LogNow.{LogNow};
 ghost use Rattle.vr_log.specs.declared.record.LogRecord.{LogRecord};
 ghost use Rattle.vr_volume.specs.Laying.{IsFreeIn, IsLaidSo};
 ghost use Rattle.vr_volume.specs.PutBack.{lengths_kept};
-ghost use Rattle.vr_volume.specs.Rests.{IsPartAtRest, IsVolumeAtRest};
+ghost use Rattle.vr_volume.specs.Rests.{HoldsNoMore, IsPartAtRest, IsVolumeAtRest};
 ghost use Rattle.vr_volume.specs.Safe.{IsSafe, IsSafeImage};
 
 use vr_space::{Kept, Part};
@@ -81,6 +81,9 @@ pub fn set_free<B: Blocks, P: Part, K: Kept>(
         → Guards (B.seen blocks.old) (B.seen blocks.new)
         (IsSafeImage geometry number owners log committed)
         × IsSafe geometry number owners log committed (B.seen blocks.new) }
+    // Elsewhere a crash leaves nothing that it could not leave before.
+    ensures elsewhere { IsTrue B.tells → HoldsNoMore (P.shape part.old) place.now
+        (B.seen blocks.old) (B.seen blocks.new) }
     ensures set { IsTrue B.tells → OnOk result (SetsOne (P.shape part.old) place.now
         (given bytes.entry) (B.seen blocks.old).cur (B.seen blocks.new).cur) }
     ensures due { IsTrue B.tells → OnOk result

@@ -11,9 +11,9 @@ ghost use Rattle.vr_volume.specs.Rests.{IsVolumeAtRest};
 
 use vr_types::Blocks;
 
-/// Each image that a crash may leave of a volume at rest recovers to the items of the state; but at
-/// a place for which a unit keeps a before-image, to what stood there before the unit. So what an
-/// ended unit committed is there after each crash, and what it backed out is not.
+/// Each image that a crash may leave of a volume at rest recovers to the records of the state; but
+/// at a place for which a unit keeps a before-image, to what stood there before the unit. So what an
+/// ended unit committed is there after each crash, and what it backed out, withdrawn or not, isn't.
 pub fn state_recovers<B: Blocks>(blocks: &B)
     ensures { (geometry : Geometry) (number : ℕ) (owners : Owners) (log : LogNow)
         (images : List BeforeImage) (state : State)

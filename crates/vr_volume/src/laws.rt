@@ -1,7 +1,7 @@
 //! Laws of what the blocks of a volume stand for, and of what they recover to: each is the contract
 //! of a function that does nothing.
 ghost use Rattle.std.specs.Prelude.{◌≡◌, ◌≤◌, ◌⊎◌, ◌∷◌, ℕ, List, [], Option, length};
-ghost use Rattle.vr_types.specs.Content.{Content};
+ghost use Rattle.vr_types.specs.Content.{Ascends, Content};
 ghost use Rattle.vr_types.specs.Image.{Image, block_at};
 ghost use Rattle.vr_types.specs.Seen.{Left};
 ghost use Rattle.vr_types.specs.declared.unit.PartNo.{PartNo};
@@ -61,7 +61,8 @@ pub fn each_image_is_safe<B: Blocks>(blocks: &B)
 
 /// What is committed in the state that a history gives, by a log that has the commits of the units
 /// that count, is what the history committed: the records of each part that the catalog has
-/// throughout. The other units are those that are in their commit as a crash comes.
+/// throughout, where the places of its content ascend, as they do in each volume at rest. The other
+/// units are those that are in their commit as a crash comes.
 pub fn committed_by_its_history()
     ensures { (geometry : Geometry) (contents : ℕ → Content) (owned : List Owned)
         (entries : List Entry) (others : List UnitOfRecovery) (records : List LogRecord)
@@ -69,6 +70,7 @@ pub fn committed_by_its_history()
         AreSteps geometry opening entries
         → HasPartThroughout geometry part (is_counted others entries) opening contents entries
         → CountAlike others entries records (state_of geometry opening entries)
+        → Ascends ((state_of geometry opening entries).contents part)
         → (place : List ℕ)
         → record_now (committed_by (state_of geometry opening entries) records) part place
         ≡ record_now (committed geometry opening entries others) part place }

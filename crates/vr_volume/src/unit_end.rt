@@ -9,7 +9,6 @@ ghost use Rattle.vr_types.specs.declared.geometry.Geometry.{Geometry};
 ghost use Rattle.vr_space.specs.Owners.{Owners};
 ghost use Rattle.vr_space.specs.Known.{Known};
 ghost use Rattle.vr_space.specs.Part.{Shape};
-ghost use Rattle.vr_attach.specs.Owning.{IsPastLog};
 ghost use Rattle.vr_log.specs.Live.{is_in, live_in};
 ghost use Rattle.vr_log.specs.LogNow.{HasLog, IsForced, IsOf, restarted, with_record};
 ghost use Rattle.vr_log.specs.Standing.{InLog, LogStands};
@@ -98,9 +97,11 @@ pub fn end_unit<B: Blocks>(
         → log.old.generation + 1 < 2 ^ 64
         → IsVolumeAtRest geometry number owners log.new (images_in undo.new) new
         (B.seen blocks.new)) }
-    ensures others { IsTrue B.tells → OnOk result ((geometry : Geometry) (owners : Owners)
-        (old new : State) (shape : Shape) (known : Known)
-        → log.old.geometry ≡ geometry → IsPastLog geometry owners → IsEndedIn unit old new
+    ensures others { IsTrue B.tells → OnOk result ((geometry : Geometry) (number : ℕ)
+        (owners : Owners) (old new : State) (shape : Shape) (known : Known)
+        → log.old.geometry ≡ geometry
+        → IsVolumeAtRest geometry number owners log.old (images_in undo.old) old (B.seen blocks.old)
+        → IsFirmFor geometry log.old old unit (B.seen blocks.old) → IsEndedIn unit old new
         → IsPartAtRest geometry owners (images_in undo.old) old shape known (B.seen blocks.old)
         → IsPartAtRest geometry owners (images_in undo.new) new shape known (B.seen blocks.new)) }
     ensures log { OnOk result (IsEndedLog log.old unit kind log.new) }

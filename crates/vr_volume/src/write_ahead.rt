@@ -158,7 +158,7 @@ pub fn change<B: Blocks, P: Part, K: Kept>(
         (B.seen blocks.old)
         → IsChangeOf log.old.geometry old change → IsFirstChange log.old change old new
         → rec.now ≡ Before change.unit change.part change.place change.old
-        → IsGivenFor change (P.shape part.old) place.now (given bytes.entry)
+        → IsGivenFor old change (P.shape part.old) place.now (given bytes.entry)
         → after ≡ images ++ image_by change ∷ []
         → K.kept kept.now (part_no (P.shape part.old))
         ≡ lengths_kept after (part_no (P.shape part.old)).0

@@ -9,7 +9,7 @@ use Rattle.vr_history.specs.Step.{case_of}
 use Rattle.vr_event.specs.Putting.{IsSpaceOf}
 use Rattle.vr_event.specs.Getting.{IsRead, MayEnd}
 use Rattle.vr_event.proofs.Known.{whole-is}
-use Rattle.vr_event.proofs.SpaceHeld.{numbers-now}
+use Rattle.vr_event.proofs.NumbersHeld.{numbers-read}
 use Rattle.vr_event.proofs.getting.decide.Goals as goal
 
 pub returns-clause-ends : goal.returns-clause-ends
@@ -19,11 +19,11 @@ returns-clause-ends g c told volume opening is going stored deck read space none
     let case = c.case-case.result in
     let agrees : IsCaseOf case state = c.case-case.ensures.going opening is going deck
     (c.used.ensures ∙ stored.volume.logged.used) (c.free_areas.ensures ∙ space.free)
-    (numbers-now (g.B.Blocks.seen c.args.blocks.now) c.args.store.now c.requires.set opening file is
-    c.requires.laid c.requires.served c.args.unit c.args.request.now c.base_of-base.result.0
+    (numbers-read (g.B.Blocks.seen c.args.blocks.now) c.args.store.now c.requires.set opening file is
+    c.requires.laid c.args.unit c.args.request.now c.base_of-base.result.0
     c.base_of-base.ensures (subst (λ (n : ℕ). IsSpaceOf c.args.store.now n
     (case_of file.geometry state c.args.unit c.args.request.now)) (sym c.base_of-base.ensures) space)
-    c.areas_of-areas.result c.areas_of-areas.ensures) in
+    c.areas_of-areas.result c.areas_of-areas.ensures read) in
     let same = whole-is case state file.geometry c.args.unit c.args.request.now
     c.case-case.ensures.geometry c.case-case.ensures.unit c.case-case.ensures.asked in
     subst (λ (w : Case). MayEnd w c.sought.result) same

@@ -1,11 +1,13 @@
-use Rattle.std.proofs.Common.{[], refl, sym, subst}
+use Rattle.std.proofs.Common.{[], List, ap, refl, sym, subst}
 use Rattle.std.specs.Prelude.{Result, Ok, Err, OnOk, IfErr}
 use Rattle.std.specs.Option.{option_copied}
 use Rattle.vr_types.proofs.CallerLemmas.{keeps-none}
 use Rattle.vr_types.specs.Moments.{Guards}
 use Rattle.vr_volume.specs.Crashes.{RecoversTo}
-use Rattle.vr_store.specs.Store.{IsStored, StoreNow}
+use Rattle.vr_store.specs.Change.{IsMadeOf}
+use Rattle.vr_store.specs.Store.{IsStored, PartNow, StoreNow, left_among}
 use Rattle.vr_store.proofs.CallerLemmas.{moments-keeps}
+use Rattle.vr_event.specs.Putting.{need_at}
 use Rattle.vr_event.proofs.Puts.{final-is, final-stored, needs, ready-by, settable-kept}
 use Rattle.vr_event.proofs.Recovering.{stored-recovers}
 use Rattle.vr_event.proofs.putting.put_at_place.Goals as goal
@@ -63,7 +65,12 @@ returns-in-Ok-clause-made g c told = on-ok c.make_kept.result (c.make_kept.ensur
     (ready-by c.args.store.now c.keep.new.self (g.B.Blocks.seen c.args.blocks.now)
     c.args.unit c.args.part c.args.place.now (option_copied c.args.old)
     c.in_ok-prepared.prepared c.keep.ensures.rest c.keep.ensures.blocks prepared.undo
-    prepared.prepared volume state to) is
+    prepared.prepared volume state to)
+    (subst (λ (parts : List PartNow). IsMadeOf c.args.unit c.args.part c.args.place.now
+    (left_among parts c.args.part.0 state c.args.place.now (option_copied c.args.new))
+    (need_at c.args.store.now c.args.unit c.args.part c.args.place.now
+    (option_copied c.args.old)) state after)
+    (sym (ap (λ (s : StoreNow). s.parts) c.keep.ensures.rest)) is)
     (needs c.args.store.now c.keep.new.self (g.B.Blocks.seen c.args.blocks.now)
     c.args.unit c.args.part c.args.place.now (option_copied c.args.old)
     c.in_ok-prepared.prepared c.keep.ensures.rest c.keep.ensures.blocks prepared.undo

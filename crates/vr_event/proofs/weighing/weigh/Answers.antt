@@ -15,7 +15,7 @@ use Rattle.vr_record_file.specs.Now.{state_now}
 use Rattle.vr_event.specs.Lacking.{IfLacks, LacksRoomIn}
 use Rattle.vr_event.specs.Putting.{AreLaidBy, IsAskedAt, IsSpaceOf, MayWeigh}
 use Rattle.vr_event.proofs.Known.{whole-is}
-use Rattle.vr_event.proofs.SpaceHeld.{numbers-now}
+use Rattle.vr_event.proofs.NumbersHeld.{numbers-now}
 use Rattle.vr_event.proofs.Weighs.{refuse-memory}
 use Rattle.vr_event.proofs.weighing.weigh.Goals as goal
 
@@ -59,8 +59,11 @@ returns-then-may_change-clause-may g c told volume opening is going stored space
     let agrees : IsCaseOf case state = c.case-case.ensures.going opening is going deck
     (c.used.ensures ∙ stored.volume.logged.used) (c.free_areas.ensures ∙ space.free)
     (numbers-now (g.B.Blocks.seen c.args.blocks.now) c.args.store.now c.requires.set opening file is
-    c.requires.laid c.requires.served c.args.unit c.args.request.now c.args.part.0 c.requires.base
-    space c.areas_of-areas.result c.areas_of-areas.ensures) in
+    c.requires.laid c.args.unit c.args.request.now c.args.part.0 c.requires.base space
+    c.areas_of-areas.result c.areas_of-areas.ensures
+    (g.met.B.Blocks.cur_may c.args.blocks.now told) volume stored
+    (c.may_change.ensures.at c.if-may_change.true c.requires.laid).laid _
+    (c.place_of.ensures ∙ c.address_for-address.ensures)) in
     let same = whole-is case state file.geometry c.args.unit c.args.request.now
     c.case-case.ensures.geometry c.case-case.ensures.unit c.case-case.ensures.asked in
     let asked : IsAskedAt (case_of file.geometry state c.args.unit c.args.request.now) c.args.part.0
@@ -86,8 +89,11 @@ returns-then-may_change-clause-lacks g c told volume opening is going stored spa
     let agrees : IsCaseOf case state = c.case-case.ensures.going opening is going deck
     (c.used.ensures ∙ stored.volume.logged.used) (c.free_areas.ensures ∙ space.free)
     (numbers-now (g.B.Blocks.seen c.args.blocks.now) c.args.store.now c.requires.set opening file is
-    c.requires.laid c.requires.served c.args.unit c.args.request.now c.args.part.0 c.requires.base
-    space c.areas_of-areas.result c.areas_of-areas.ensures) in
+    c.requires.laid c.args.unit c.args.request.now c.args.part.0 c.requires.base space
+    c.areas_of-areas.result c.areas_of-areas.ensures
+    (g.met.B.Blocks.cur_may c.args.blocks.now told) volume stored
+    (c.may_change.ensures.at c.if-may_change.true c.requires.laid).laid _
+    (c.place_of.ensures ∙ c.address_for-address.ensures)) in
     let same = whole-is case state file.geometry c.args.unit c.args.request.now
     c.case-case.ensures.geometry c.case-case.ensures.unit c.case-case.ensures.asked in
     let found : place_changed (case_of file.geometry state c.args.unit c.args.request.now)

@@ -55,7 +55,7 @@ returns-in-Ok-Some-clause-keeps g c =
 pub returns-in-Some-clause-may : goal.returns-in-Some-clause-may
 returns-in-Some-clause-may g c told volume state is at stored space asked =
     let w = whole c.args.case.now state in
-    c.weigh_room.ensures.may told state is at space
+    c.weigh_room.ensures.may told volume state is at stored space
     (ready-at w c.args.part.0 c.args.place asked c.args.old at
     (subst (IsRefusedBy w) c.in-Ok-None.field-0-is
     (c.in-Ok-None.ensures.value state is (c.slice_of.ensures ∙ at)
@@ -89,7 +89,8 @@ returns-in-Ok-Some-clause-lacks g c told volume state is at stored space asked n
     (c.requires.stands told)
     (subst (λ (entries : List CatEntry). AreLaidBy c.args.case.now.geometry entries store.parts)
     is.file.catalog c.requires.laid)
-    (subst (λ (n : ℕ). IsSpaceOf store n w) base space) c.args.place asked.place_is need left wants
+    (subst (λ (n : ℕ). IsSpaceOf store n w) base space) c.args.place asked.place_is none need left
+    wants
     (subst (λ (n : ℕ). part_among store.parts n ≢ None) base c.requires.at.laid)))
     c.in-Ok-Some.refusal
     (subst (AreWanting w) c.in-Ok-Some.field-0-is

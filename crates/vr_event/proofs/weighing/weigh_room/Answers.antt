@@ -16,13 +16,13 @@ use Rattle.vr_event.proofs.Weighs.{asks-change, before-room, refuse-look}
 use Rattle.vr_event.proofs.weighing.weigh_room.Goals as goal
 
 pub returns-in-Err-clause-may : goal.returns-in-Err-clause-may
-returns-in-Err-clause-may g c told state is at space ready =
+returns-in-Err-clause-may g c told volume state is at stored space ready =
     let w = whole c.args.case.now state in
     subst (λ (r : Refusal). MayRefuse w r) (sym c.refusal_of.ensures)
     (refuse-look w (asks-change w w.request c.args.place ready.place_is) (Fault c.in-Err.fault))
 
 pub returns-in-Ok-Stage-clause-may : goal.returns-in-Ok-Stage-clause-may
-returns-in-Ok-Stage-clause-may g c told state is at space ready =
+returns-in-Ok-Stage-clause-may g c told volume state is at stored space ready =
     before-room (whole c.args.case.now state) ready.unheld
 
 pub returns-in-Ok-Stage-clause-fits : goal.returns-in-Ok-Stage-clause-fits
@@ -69,7 +69,7 @@ returns-in-Ok-NoSpace-clause-opens g c told =
     c.in-Ok-NoSpace.field-0-is (c.in-Ok-NoSpace.ensures.still told)))
 
 pub returns-in-Ok-NoSpace-clause-may : goal.returns-in-Ok-NoSpace-clause-may
-returns-in-Ok-NoSpace-clause-may g c told state is at space ready =
+returns-in-Ok-NoSpace-clause-may g c told volume state is at stored space ready =
     let w = whole c.args.case.now state in
     let store = c.args.store.now in
     let now = g.B.Blocks.seen c.args.blocks.now in
@@ -80,9 +80,9 @@ returns-in-Ok-NoSpace-clause-may g c told state is at space ready =
     (subst (λ (entries : List CatEntry). AreLaidBy c.args.case.now.geometry entries store.parts)
     is.file.catalog c.requires.laid)
     (subst (λ (n : ℕ). IsSpaceOf store n w) base space) c.args.place ready.place_is
-    (asks-change w w.request c.args.place ready.place_is) ready.unheld
+    volume stored (asks-change w w.request c.args.place ready.place_is) ready.unheld
     (subst (λ (n : ℕ). part_among store.parts n ≢ None) base c.requires.at.laid) c.args.length
-    c.in-Ok-NoSpace.need c.in-Ok-NoSpace.free
+    c.in-Ok-NoSpace.need c.in-Ok-NoSpace.free c.requires.long
     (subst (λ (n : ℕ). IsRoomAt store now.cur n c.args.place c.args.length
     (rooms.NoSpace c.in-Ok-NoSpace.need c.in-Ok-NoSpace.free)) base
     (subst (IsRoomAt store now.cur c.args.part.0 c.args.place c.args.length)

@@ -22,16 +22,16 @@ returns-clause-moments g c number catalog end entries old ended new run =
     ⊎ IsCommittedBy run.geometry number catalog opening entries image) run.moments
     (λ image is. ⊎_elim (λ before. inl before) (λ left. inr
     (left-committed run.geometry number catalog run.contents (owned_in run.owners) run.catalog_is
-    entries run.legal.steps run.keeps_catalog image left)) is)
+    entries run.legal.steps run.ascends run.keeps_catalog image left)) is)
 
 pub returns-clause-end : goal.returns-clause-end
 returns-clause-end g c number catalog end entries old ended new run going image left =
-    has-committed run.geometry run.contents (owned_in run.owners) entries run.legal.steps number
-    catalog run.catalog_is run.keeps_catalog [] image (run.kept going image left)
+    has-committed run.geometry run.contents (owned_in run.owners) entries run.legal.steps
+    run.ascends number catalog run.catalog_is run.keeps_catalog [] image (run.kept going image left)
 
 pub returns-clause-stopped : goal.returns-clause-stopped
 returns-clause-stopped g c number catalog end entries old ended new run stops image left =
     let stop = run.stopped stops in
     while-committed run.geometry number catalog run.contents (owned_in run.owners) run.catalog_is
-    entries run.legal.steps run.keeps_catalog stop.before (stop.made ++ stop.later) stop.made image
+    entries run.legal.steps run.ascends run.keeps_catalog stop.before (stop.made ++ stop.later) stop.made image
     stop.entries_are (stop.left image left)

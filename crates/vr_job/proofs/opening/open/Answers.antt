@@ -1,4 +1,4 @@
-use Rattle.std.proofs.Common.{◌∙◌, ◌⊎◌, List, subst, sym}
+use Rattle.std.proofs.Common.{◌≡◌, ◌∙◌, ◌⊎◌, [], ℕ, List, None, subst, sym}
 use Rattle.vr_types.specs.Image.{Image}
 use Rattle.vr_types.specs.Moments.{Guards}
 use Rattle.vr_types.specs.Seen.{Left}
@@ -8,6 +8,8 @@ use Rattle.vr_event.specs.Opening.{owned_in}
 use Rattle.vr_history.specs.State.{opening_state}
 use Rattle.vr_mount.specs.Areas.{AreOwners}
 use Rattle.vr_recover.specs.Opening.{IsVolume}
+use Rattle.vr_recover.specs.Recovered.{IsRecovered, standing_all}
+use Rattle.vr_volume.specs.Laid.{shape_by}
 use Rattle.vr_volume.specs.Volume.{Recovers}
 use Rattle.vr_job.specs.Going.{HasRun}
 use Rattle.vr_job.proofs.Readying.{own-laid}
@@ -19,8 +21,15 @@ returns-in-Ok-clause-held g c told =
     record {
       contents = from.0;
       owners = c.in-Ok.found.value.space;
-      volume_is = subst (λ (geometry : Geometry). IsVolume c.args.number geometry from.0
-          (g.B.Blocks.seen c.args.blocks)) (sym c.made.ensures.geometry) from.1.volume;
+      volume_is = subst (λ (geometry : Geometry). IsVolume c.args.number geometry
+          (standing_all from.0) (g.B.Blocks.seen c.args.blocks)) (sym c.made.ensures.geometry)
+          from.1.volume;
+      whole = subst (λ (geometry : Geometry). IsRecovered geometry c.args.number from.0
+          (g.B.Blocks.seen c.args.blocks).cur) (sym c.made.ensures.geometry) from.1.whole;
+      ascends = from.1.opened.each;
+      others = subst (λ (geometry : Geometry). (part : ℕ)
+          → shape_by geometry (from.0 0) part ≡ None → from.0 part ≡ [])
+          (sym c.made.ensures.geometry) from.1.others;
       catalog_is = c.made.ensures.catalog ∙ from.1.catalog_is;
       owners_are = subst (λ (blocks : g.row.B.Denot). AreOwners c.made.result.file.geometry
           c.made.result.file.catalog (g.B.Blocks.seen blocks).cur c.in-Ok.found.value.space)

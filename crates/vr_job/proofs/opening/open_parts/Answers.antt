@@ -1,5 +1,6 @@
 use Rattle.std.proofs.lemmas.List.Elements.{recursion_from_All}
 use Rattle.vr_event.specs.Volume.{IsServedCluster}
+use Rattle.vr_recover.specs.Recovered.{standing_all}
 use Rattle.vr_job.proofs.Readying.{handed-from, handed-ready, from-same, ready-same}
 use Rattle.vr_job.specs.Opened.{opened_now}
 use Rattle.std.proofs.Common.{map}
@@ -38,4 +39,4 @@ returns-clause-from g c told =
 pub returns-in_err-found-clause-unwritten : goal.returns-in_err-found-clause-unwritten
 returns-in_err-found-clause-unwritten g c told none =
     let is = c.in_ok-opened.ensures.opened told in
-    absurd (none c.in_ok-opened.opened.geometry is.0 is.1.volume)
+    absurd (none c.in_ok-opened.opened.geometry (standing_all is.0) is.1.volume)

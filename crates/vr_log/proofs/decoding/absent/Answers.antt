@@ -8,5 +8,5 @@ returns-then-are_zeros c =
 
 pub returns-else-are_zeros : goal.returns-else-are_zeros
 returns-else-are_zeros c =
-    absent-wrong c.args.bytes.now c.requires.long c.requires.first
+    absent-wrong c.args.bytes.now c.requires.all c.requires.first
     (λ zeros. true≢false (sym (c.if-are_zeros.ensures.1 zeros)))

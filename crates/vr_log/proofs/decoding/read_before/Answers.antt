@@ -7,14 +7,13 @@ use Rattle.vr_log.proofs.decoding.read_before.Goals as goal
 
 pub returns-then-bytes-lt15 : goal.returns-then-bytes-lt15
 returns-then-bytes-lt15 c =
-    inr (record { some = c.requires.some; kind = c.requires.first; short = inl (omega arith) })
+    inr (record { kind = c.requires.first; short = inl (omega arith) })
 
 pub returns-then-bytes-end : goal.returns-then-bytes-end
 returns-then-bytes-end c =
     inr (record {
-      some = c.requires.some;
       kind = c.requires.first;
-      short = inr (omega (arith, c.two_at.ensures));
+      short = inr (inl (omega (arith, c.two_at.ensures)));
     })
 
 pub returns-in_ok-rec-in-Absent : goal.returns-in_ok-rec-in-Absent

@@ -1,7 +1,7 @@
 use Rattle.std.proofs.Common.{rules, refl, ◌∙◌, arith}
 use Rattle.vr_types.proofs.CallerLemmas.{keeps-none, keeps-then}
-use Rattle.vr_log.specs.declared.gathering.Next.TheVariants.{Full, Last, Over}
-use Rattle.vr_log.proofs.Gathered.{gathered-none, gathered-full, gathered-last, gathered-over}
+use Rattle.vr_log.specs.declared.gathering.Next.TheVariants.{Full, Last, Wrong}
+use Rattle.vr_log.proofs.Gathered.{gathered-none, gathered-full, gathered-last, gathered-wrong}
 use Rattle.vr_log.proofs.Gathered.{gathered-all, taken}
 use Rattle.vr_log.proofs.gathering.gather.Goals as goal
 
@@ -45,22 +45,22 @@ returns-in-Last-clause-keeps g c =
     let so_far = c.loop-index.invariant in
     keeps-then B.tells a b (B.seen c.take_block.new.blocks) so_far.keeps c.take_block.ensures.keeps
 
-pub returns-in-Over-clause-bytes : goal.returns-in-Over-clause-bytes
-returns-in-Over-clause-bytes g c told =
+pub returns-in-Wrong-clause-bytes : goal.returns-in-Wrong-clause-bytes
+returns-in-Wrong-clause-bytes g c told =
     let B = g.B.Blocks in
     let a = B.seen c.args.blocks.now in
     let b = B.seen c.loop-index.blocks in
     let so_far = c.loop-index.invariant in
     let has = taken b.size c.args.geometry c.args.generation a.cur b.cur c.loop-index.index
-    c.loop-index.bytes.items c.take_block.new.bytes.items Over c.in_ok-take_block.field-0
-    (so_far.keeps.size_same ∙ c.requires.shape.size) (so_far.keeps.content told) c.in-Over.is
+    c.loop-index.bytes.items c.take_block.new.bytes.items Wrong c.in_ok-take_block.field-0
+    (so_far.keeps.size_same ∙ c.requires.shape.size) (so_far.keeps.content told) c.in-Wrong.is
     (c.in_ok-take_block.ensures.next told) in
-    gathered-over c.args.geometry c.args.generation a.cur c.loop-index.index
+    gathered-wrong c.args.geometry c.args.generation a.cur c.loop-index.index
     c.loop-index.bytes.items c.take_block.new.bytes.items c.loop-index-test.true
-    (so_far.so_far told) has.0 has.1 has.2
+    (so_far.so_far told) has
 
-pub returns-in-Over-clause-keeps : goal.returns-in-Over-clause-keeps
-returns-in-Over-clause-keeps g c =
+pub returns-in-Wrong-clause-keeps : goal.returns-in-Wrong-clause-keeps
+returns-in-Wrong-clause-keeps g c =
     let B = g.B.Blocks in
     let a = B.seen c.args.blocks.now in
     let b = B.seen c.loop-index.blocks in

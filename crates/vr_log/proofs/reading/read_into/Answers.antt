@@ -3,8 +3,8 @@ use Rattle.vr_log.specs.Decoding.{AreRead}
 use Rattle.vr_log.proofs.BackRead.{read_misspelled, no_damage_in}
 use Rattle.vr_log.proofs.reading.read_into.Goals as goal
 
-pub returns-in_err-over-clause-damaged : goal.returns-in_err-over-clause-damaged
-returns-in_err-over-clause-damaged g c told =
+pub returns-in_err-wrong-clause-damaged : goal.returns-in_err-wrong-clause-damaged
+returns-in_err-wrong-clause-damaged g c told =
     no_damage_in c.args.geometry (g.B.Blocks.seen c.args.blocks.now).cur c.from_residual.result
     (search rules)
 
@@ -20,4 +20,4 @@ returns-in-Some-default-clause-damaged g c told =
     c.in_ok-stop.ensures.read) in
     read_misspelled c.args.geometry image c.generation.result bytes
     (search rules) records at (1 + at / (c.args.geometry.size - 16))
-    (c.in_ok-over.ensures.bytes told).bytes_is read.0 read.1 refl
+    (c.in_ok-wrong.ensures.bytes told).bytes_is read.0 read.1 refl

@@ -5,6 +5,7 @@ use Rattle.vr_log.specs.LogNow.{HasLog, with_record}
 use Rattle.vr_log.specs.Standing.{InLog}
 use Rattle.vr_log.specs.declared.record.EndKind.TheVariants.{BackedOut}
 use Rattle.vr_log.specs.declared.record.LogRecord.TheVariants.{End}
+use Rattle.vr_recover.specs.Recovered.{standing_all}
 use Rattle.vr_volume.specs.Safe.{IsSafe, IsSafeImage}
 use Rattle.vr_volume.specs.Volume.{Recovers}
 use Rattle.vr_mount.specs.Touched.{Anything}
@@ -17,14 +18,14 @@ use Rattle.vr_recover.proofs.backing_out.back_out.Goals as goal
 pub returns-else-is_live-clause-any_moment : goal.returns-else-is_live-clause-any_moment
 returns-else-is_live-clause-any_moment g c told number owners contents undone =
     guards-start (g.B.Blocks.seen c.args.blocks.now)
-    (λ image. Recovers c.args.log.now.geometry number image contents)
+    (λ image. Recovers c.args.log.now.geometry number image (standing_all contents))
     (λ image there. g.met.B.Blocks.images_may c.args.blocks.now image told there)
     (left-recovers number owners c.args.log.now contents (g.B.Blocks.seen c.args.blocks.now) undone)
 
 pub returns-in_default-clause-any_moment : goal.returns-in_default-clause-any_moment
 returns-in_default-clause-any_moment g c told number owners contents undone =
     guards-start (g.B.Blocks.seen c.args.blocks.now)
-    (λ image. Recovers c.args.log.now.geometry number image contents)
+    (λ image. Recovers c.args.log.now.geometry number image (standing_all contents))
     (λ image there. g.met.B.Blocks.images_may c.args.blocks.now image told there)
     (left-recovers number owners c.args.log.now contents (g.B.Blocks.seen c.args.blocks.now) undone)
 
@@ -35,12 +36,12 @@ returns-in_ok-append_end-clause-any_moment g c told number owners contents undon
     let a = B.seen c.args.blocks.now in
     let more = with_record log (End c.in-Before.unit BackedOut) in
     guards-weaken a (B.seen c.append_end.new.blocks)
-    (IsSafeImage log.geometry number owners more (alike contents))
-    (λ image. Recovers log.geometry number image contents)
-    (c.append_end.ensures.safe told number owners (alike contents) undone.safe
+    (IsSafeImage log.geometry number owners more (alike (standing_all contents)))
+    (λ image. Recovers log.geometry number image (standing_all contents))
+    (c.append_end.ensures.safe told number owners (alike (standing_all contents)) undone.safe
     (end-undone number owners log contents a undone (c.requires.stands told).forced c.in-Before.unit
     BackedOut))
-    (λ image. safe-recovers log.geometry number owners more contents image)
+    (λ image. safe-recovers log.geometry number owners more (standing_all contents) image)
 
 pub returns-in_err-append_end-clause-any_moment : goal.returns-in_err-append_end-clause-any_moment
 returns-in_err-append_end-clause-any_moment g c told number owners contents undone =
@@ -49,12 +50,12 @@ returns-in_err-append_end-clause-any_moment g c told number owners contents undo
     let a = B.seen c.args.blocks.now in
     let more = with_record log (End c.in-Before.unit BackedOut) in
     guards-weaken a (B.seen c.append_end.new.blocks)
-    (IsSafeImage log.geometry number owners more (alike contents))
-    (λ image. Recovers log.geometry number image contents)
-    (c.append_end.ensures.safe told number owners (alike contents) undone.safe
+    (IsSafeImage log.geometry number owners more (alike (standing_all contents)))
+    (λ image. Recovers log.geometry number image (standing_all contents))
+    (c.append_end.ensures.safe told number owners (alike (standing_all contents)) undone.safe
     (end-undone number owners log contents a undone (c.requires.stands told).forced c.in-Before.unit
     BackedOut))
-    (λ image. safe-recovers log.geometry number owners more contents image)
+    (λ image. safe-recovers log.geometry number owners more (standing_all contents) image)
 
 pub returns-in_ok-append_end-clause-undone : goal.returns-in_ok-append_end-clause-undone
 returns-in_ok-append_end-clause-undone g c told number owners contents undone =
@@ -65,11 +66,13 @@ returns-in_ok-append_end-clause-undone g c told number owners contents undone =
     let b = B.seen c.append_end.new.blocks in
     let most = (c.requires.stands told).forced in
     let same = c.in_ok-append_end.ensures.log.geometry in
+    let committed = alike (standing_all contents) in
     record {
-      safe = subst (λ (geometry : Geometry). IsSafe geometry number owners new (alike contents) b)
+      safe = subst (λ (geometry : Geometry). IsSafe geometry number owners new committed b)
           (sym same)
-          (c.in_ok-append_end.ensures.ended told number owners (alike contents) undone.safe
+          (c.in_ok-append_end.ensures.ended told number owners committed undone.safe
           (end-undone number owners log contents a undone most c.in-Before.unit BackedOut));
+      ascends = undone.ascends;
       all = subst (λ (geometry : Geometry). HasAll geometry contents b) (sym same)
           (all-stays number owners log contents a undone most b
           (λ n block below out may. (c.append_end.ensures.touches told).adds_none n block below out

@@ -5,11 +5,11 @@ use Rattle.std.proofs.lemmas.List.Elements.{All-nil, All-push, All-weaker}
 use Rattle.vr_types.specs.Moments.{Guards}
 use Rattle.vr_types.specs.Regions.{Touches}
 use Rattle.vr_types.specs.declared.geometry.Geometry.{Geometry}
-use Rattle.vr_types.proofs.CallerLemmas.{guards-start, guards-then}
+use Rattle.vr_types.proofs.CallerLemmas.{guards-start, guards-then, touches-then}
 use Rattle.vr_log.specs.Live.{live_in}
 use Rattle.vr_log.specs.Standing.{InLog}
+use Rattle.vr_recover.specs.Recovered.{standing_all}
 use Rattle.vr_volume.specs.Volume.{Recovers}
-use Rattle.vr_types.proofs.CallerLemmas.{touches-then}
 use Rattle.vr_mount.proofs.CallerLemmas.{touches-none}
 use Rattle.vr_recover.proofs.BackingOut.{AreOut, left-recovers, none-live, stays-out}
 use Rattle.vr_mount.specs.Touched.{Anything}
@@ -28,7 +28,7 @@ loop-rec-init g c = record {
       (λ image there. g.met.B.Blocks.images_may c.args.blocks.now image told there);
   any_moment = λ told number owners contents undone.
       guards-start (g.B.Blocks.seen c.args.blocks.now)
-      (λ image. Recovers c.args.log.now.geometry number image contents)
+      (λ image. Recovers c.args.log.now.geometry number image (standing_all contents))
       (λ image there. g.met.B.Blocks.images_may c.args.blocks.now image told there)
       (left-recovers number owners c.args.log.now contents (g.B.Blocks.seen c.args.blocks.now)
       undone);
@@ -42,9 +42,10 @@ returns-in_err-back_out-clause-any_moment g c told number owners contents undone
     let b = g.B.Blocks.seen c.loop-rec.blocks in
     let d = g.B.Blocks.seen c.back_out.new.blocks in
     guards-then (g.B.Blocks.seen c.args.blocks.now) b d
-    (λ image. Recovers c.args.log.now.geometry number image contents)
+    (λ image. Recovers c.args.log.now.geometry number image (standing_all contents))
     (c.loop-rec.invariant.any_moment told number owners contents undone)
-    (subst (λ (geometry : Geometry). Guards b d (λ image. Recovers geometry number image contents))
+    (subst (λ (geometry : Geometry). Guards b d
+    (λ image. Recovers geometry number image (standing_all contents)))
     c.loop-rec.invariant.geometry
     (c.back_out.ensures.any_moment told number owners contents
     (c.loop-rec.invariant.undone told number owners contents undone)))
@@ -70,10 +71,10 @@ loop-rec-preserved g c =
           c.loop-rec.invariant.geometry (c.back_out.ensures.touches told));
       any_moment = λ told number owners contents undone.
           guards-then (g.B.Blocks.seen c.args.blocks.now) b d
-          (λ image. Recovers c.args.log.now.geometry number image contents)
+          (λ image. Recovers c.args.log.now.geometry number image (standing_all contents))
           (c.loop-rec.invariant.any_moment told number owners contents undone)
           (subst (λ (geometry : Geometry). Guards b d
-          (λ image. Recovers geometry number image contents))
+          (λ image. Recovers geometry number image (standing_all contents)))
           c.loop-rec.invariant.geometry
           (c.back_out.ensures.any_moment told number owners contents
           (c.loop-rec.invariant.undone told number owners contents undone)));

@@ -8,6 +8,7 @@ use Rattle.vr_space.specs.Owners.{Owners}
 use Rattle.vr_log.specs.Live.{is_in, live_in}
 use Rattle.vr_log.specs.LogNow.{IsOf}
 use Rattle.vr_log.specs.Standing.{InLog, LogStands}
+use Rattle.vr_recover.specs.Recovered.{standing_all}
 use Rattle.vr_volume.specs.Volume.{Recovers}
 use Rattle.vr_mount.specs.Touched.{Anything}
 use Rattle.vr_recover.specs.Undone.{IsUndone}
@@ -28,7 +29,7 @@ invariant-loop-rec g l = record {
       (contents : ℕ → Content)
       → IsUndone number owners l.fn.log contents (g.B.Blocks.seen l.fn.blocks)
       → Guards (g.B.Blocks.seen l.fn.blocks) (g.B.Blocks.seen l.blocks)
-      (λ image. Recovers l.fn.log.geometry number image contents);
+      (λ image. Recovers l.fn.log.geometry number image (standing_all contents));
   undone : IsTrue g.B.Blocks.tells → (number : ℕ) (owners : Owners)
       (contents : ℕ → Content)
       → IsUndone number owners l.fn.log contents (g.B.Blocks.seen l.fn.blocks)

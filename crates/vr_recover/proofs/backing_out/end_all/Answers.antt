@@ -1,16 +1,16 @@
 use Rattle.std.proofs.Common.{◌≡◌, ◌∙◌, ◌<◌, ◌+◌, ◌^◌, ℕ, ap, length, refl, subst, sym}
 use Rattle.vr_types.specs.declared.geometry.Geometry.{Geometry}
-use Rattle.vr_types.proofs.CallerLemmas.{guards-keeps, keeps-touches}
+use Rattle.vr_types.proofs.CallerLemmas.{guards-keeps, keeps-touches, touches-then}
 use Rattle.vr_log.specs.Live.{live_in}
 use Rattle.vr_log.specs.LogNow.{LogNow}
 use Rattle.vr_log.specs.Standing.{InLog, LogStands}
 use Rattle.vr_log.proofs.CallerLemmas.{restarted_stands}
+use Rattle.vr_recover.specs.Recovered.{standing_all}
 use Rattle.vr_volume.specs.Safe.{IsSafe}
 use Rattle.vr_volume.specs.Volume.{Recovers}
 use Rattle.vr_volume.proofs.EndCalls.{forced-generation}
 use Rattle.vr_volume.proofs.LogCalls.{forced-geometry, forced-is, forced-records}
 use Rattle.vr_mount.specs.Touched.{Anything}
-use Rattle.vr_types.proofs.CallerLemmas.{touches-then}
 use Rattle.vr_recover.specs.Undone.{HasAll, alike}
 use Rattle.vr_recover.proofs.BackingOut.{all-stays}
 use Rattle.vr_recover.proofs.backing_out.end_all.Goals as goal
@@ -19,7 +19,7 @@ pub returns-in_err-force_log-clause-any_moment : goal.returns-in_err-force_log-c
 returns-in_err-force_log-clause-any_moment g c told number owners contents undone =
     guards-keeps g.B.Blocks.tells (g.B.Blocks.seen c.args.blocks.now)
     (g.B.Blocks.seen c.back_out_all.new.blocks) (g.B.Blocks.seen c.force_log.new.blocks)
-    (λ image. Recovers c.args.log.now.geometry number image contents)
+    (λ image. Recovers c.args.log.now.geometry number image (standing_all contents))
     (c.back_out_all.ensures.any_moment told number owners contents undone)
     c.force_log.ensures.keeps told
 
@@ -27,7 +27,7 @@ pub returns-clause-any_moment : goal.returns-clause-any_moment
 returns-clause-any_moment g c told number owners contents undone =
     guards-keeps g.B.Blocks.tells (g.B.Blocks.seen c.args.blocks.now)
     (g.B.Blocks.seen c.back_out_all.new.blocks) (g.B.Blocks.seen c.force_log.new.blocks)
-    (λ image. Recovers c.args.log.now.geometry number image contents)
+    (λ image. Recovers c.args.log.now.geometry number image (standing_all contents))
     (c.back_out_all.ensures.any_moment told number owners contents undone)
     c.force_log.ensures.keeps told
 
@@ -64,15 +64,16 @@ returns-clause-undone g c told below number owners contents undone =
     let generation : mid.generation ≡ c.args.log.now.generation =
     ap (λ (l : LogNow). l.generation) c.in_ok-force_log.ensures.forced
     ∙ forced-generation ended ∙ c.in_ok-back_out_all.ensures.generation in
-    let safe = c.restart_log.ensures.safe told number owners (alike contents)
+    let committed = alike (standing_all contents) in
+    let safe = c.restart_log.ensures.safe told number owners committed
     (subst (λ (n : ℕ). n + 1 < 2 ^ 64) (sym generation) below)
     (c.in_ok-force_log.ensures.stands told)
-    (subst (λ (geometry : Geometry). IsSafe geometry number owners mid (alike contents) d)
-    (sym same)
-    (c.in_ok-force_log.ensures.after told number owners (alike contents) before.safe)) refl in
+    (subst (λ (geometry : Geometry). IsSafe geometry number owners mid committed d) (sym same)
+    (c.in_ok-force_log.ensures.after told number owners committed before.safe)) refl in
     record {
-      safe = subst (λ (geometry : Geometry). IsSafe geometry number owners new (alike contents) d)
+      safe = subst (λ (geometry : Geometry). IsSafe geometry number owners new committed d)
           (sym next) safe.0;
+      ascends = undone.ascends;
       all = subst (λ (geometry : Geometry). HasAll geometry contents d) (sym (next ∙ same))
           (all-stays number owners ended contents b before
           (c.in_ok-back_out_all.ensures.stands told).forced d

@@ -13,7 +13,7 @@ use Rattle.vr_mount.proofs.Parts.{parts_told}
 use Rattle.vr_part.specs.Any.{shape_any}
 use Rattle.vr_part.specs.Attached.{IsAnyShown}
 use Rattle.vr_part.specs.declared.any.AnyPart.{AnyPart}
-use Rattle.vr_relative.specs.Walked.{IsTakenIn}
+use Rattle.vr_chained.specs.Walked.{IsTakenIn}
 use Rattle.vr_space.specs.Part.{Shape}
 use Rattle.vr_recover.specs.Found.{AllStand, AreAdded, AreKnown}
 use Rattle.vr_recover.specs.Opening.{IsEntryShown}

@@ -1,6 +1,7 @@
 use Rattle.std.proofs.Common.{map, sym, subst}
 use Rattle.vr_types.specs.Image.{Image}
 use Rattle.vr_types.proofs.CallerLemmas.{guards-then}
+use Rattle.vr_recover.specs.Recovered.{IsRecovered, standing_all}
 use Rattle.vr_volume.specs.Volume.{Recovers}
 use Rattle.vr_undo.specs.Records.{images_in}
 use Rattle.vr_part.specs.Any.{shape_any}
@@ -67,9 +68,11 @@ returns-clause-opened g c told number header =
     (images_in c.in_ok-found.found.undo.value) a (g.B.Blocks.seen c.restore.new.blocks)
     c.requires.shape (c.requires.forced told)
     (c.in_ok-found.ensures.found told number header (c.requires.spelled told))
-    (λ contents is. did.undone told number contents
-    (subst (λ (i : Image). Recovers c.args.geometry.now number i contents)
-    (sym (c.find.ensures.keeps.content told)) is)) (did.stands told) (did.ready told)
+    (λ contents is whole ascends. did.undone told number contents
+    (subst (λ (i : Image). Recovers c.args.geometry.now number i (standing_all contents))
+    (sym (c.find.ensures.keeps.content told)) is)
+    (subst (λ (i : Image). IsRecovered c.args.geometry.now number contents i)
+    (sym (c.find.ensures.keeps.content told)) whole) ascends) (did.stands told) (did.ready told)
 
 pub returns-clause-any_moment : goal.returns-clause-any_moment
 returns-clause-any_moment g c told number contents is =

@@ -46,6 +46,7 @@ undo-requires-clause-ready g c told =
       of_then = c.clear.ensures.shape;
       forced = c.requires.forced told;
       forced_then = c.in_ok-clear.ensures.forced told (c.requires.forced told);
+      left = g.met.B.Blocks.cur_may c.args.blocks.now told;
       long = log-long geometry a c.requires.allowed c.requires.shape
           (g.met.B.Blocks.cur_may c.args.blocks.now told)
           (λ n block below may. g.met.B.Blocks.sized c.args.blocks.now n block told below may);
@@ -82,6 +83,7 @@ returns-clause-any_moment g c told number contents is =
       of_then = c.clear.ensures.shape;
       forced = c.requires.forced told;
       forced_then = c.in_ok-clear.ensures.forced told (c.requires.forced told);
+      left = g.met.B.Blocks.cur_may c.args.blocks.now told;
       long = log-long geometry a c.requires.allowed c.requires.shape
           (g.met.B.Blocks.cur_may c.args.blocks.now told)
           (λ n block below may. g.met.B.Blocks.sized c.args.blocks.now n block told below may);
@@ -97,7 +99,7 @@ returns-clause-any_moment g c told number contents is =
     } in
     then-moments geometry content entries parts c.requires.planned areas a b cleared number contents
     c.args.begun.now.log (g.B.Blocks.seen c.undo.new.blocks) c.requires.log is
-    (c.undo.ensures.any_moment told number (owner_of geometry areas) contents)
+    (c.undo.ensures.any_moment told number (owner_of geometry areas))
 
 pub returns-clause-undone : goal.returns-clause-undone
 returns-clause-undone g c told =
@@ -114,6 +116,7 @@ returns-clause-undone g c told =
       of_then = c.clear.ensures.shape;
       forced = c.requires.forced told;
       forced_then = c.in_ok-clear.ensures.forced told (c.requires.forced told);
+      left = g.met.B.Blocks.cur_may c.args.blocks.now told;
       long = log-long geometry a c.requires.allowed c.requires.shape
           (g.met.B.Blocks.cur_may c.args.blocks.now told)
           (λ n block below may. g.met.B.Blocks.sized c.args.blocks.now n block told below may);
@@ -131,9 +134,10 @@ returns-clause-undone g c told =
     subst (λ (l : LogNow). l.generation + 1 < 2 ^ 64) (sym c.requires.log)
     (omega (arith, c.requires.young.young)) in
     on_ok_weaker c.undo.result
-    (λ undone number contents is. undone number (owner_of geometry areas) contents
+    (λ undone number contents is whole ascends. undone number (owner_of geometry areas) contents
     (then-settled geometry content entries parts c.requires.planned areas a b cleared number
-    contents c.args.begun.now.log c.requires.log is)) (c.undo.ensures.undone told low)
+    contents is c.args.begun.now.log c.requires.log whole ascends))
+    (c.undo.ensures.undone told low)
 
 pub returns-clause-ready : goal.returns-clause-ready
 returns-clause-ready g c told =
@@ -150,6 +154,7 @@ returns-clause-ready g c told =
       of_then = c.clear.ensures.shape;
       forced = c.requires.forced told;
       forced_then = c.in_ok-clear.ensures.forced told (c.requires.forced told);
+      left = g.met.B.Blocks.cur_may c.args.blocks.now told;
       long = log-long geometry a c.requires.allowed c.requires.shape
           (g.met.B.Blocks.cur_may c.args.blocks.now told)
           (λ n block below may. g.met.B.Blocks.sized c.args.blocks.now n block told below may);

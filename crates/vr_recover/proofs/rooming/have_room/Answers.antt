@@ -1,14 +1,13 @@
-use Rattle.std.proofs.Common.{◌≡◌, ap, IsTrue, refl, subst, sym, ◌∙◌, get_or}
+use Rattle.std.proofs.Common.{IsTrue, refl, subst, sym, ◌∙◌, get_or}
 use Rattle.std.proofs.lemmas.Bool.{true≢false}
 use Rattle.std.proofs.lemmas.List.Elements.{All-nil}
 use Rattle.vr_types.specs.Image.{Image}
 use Rattle.vr_types.proofs.CallerLemmas.{keeps-none, keeps-then}
 use Rattle.vr_mount.proofs.Telling.{all_mapped, mapped_all}
 use Rattle.vr_part.specs.Any.{known_any, shape_any}
-use Rattle.vr_part.specs.Attached.{attached_known}
+use Rattle.vr_part.specs.Attached.{IsAttachedWith}
 use Rattle.vr_part.specs.declared.any.AnyPart.{AnyPart}
-use Rattle.vr_space.specs.Known.{Known}
-use Rattle.vr_space.specs.Part.{IsOn, Knows, Shape, Stands}
+use Rattle.vr_space.specs.Part.{IsOn, Shape, Stands}
 use Rattle.vr_space.proofs.CallerLemmas.{on-still}
 use Rattle.vr_undo.specs.Records.{images_in}
 use Rattle.vr_recover.specs.Found.{AreItsPlaces, HasRoomOf}
@@ -63,12 +62,12 @@ has_room-requires-clause-knows g c told =
     let cur = (g.B.Blocks.seen c.args.blocks.now).cur in
     let x = get_or c.loop-part.parts c.loop-part.part-index c.part-item.result in
     let known = still-item
-    (λ (part : AnyPart). known_any part ≡ attached_known (shape_any part) cur) c.loop-part.parts
+    (λ (part : AnyPart). IsAttachedWith (shape_any part) (known_any part) cur) c.loop-part.parts
     c.args.parts.now c.loop-part.invariant.same c.loop-part.part-index c.part-item.result
     c.loop-part-test.true (c.requires.known told) in
-    subst (λ (k : Known). Knows (shape_any x) k b)
-    (sym (known ∙ ap (attached_known (shape_any x)) (sym (c.loop-part.invariant.keeps.content told))))
-    (attached-knows (shape_any x) b)
+    attached-knows (shape_any x) (known_any x) b
+    (subst (λ (image : Image). IsAttachedWith (shape_any x) (known_any x) image)
+    (sym (c.loop-part.invariant.keeps.content told)) known)
 
 pub loop-part-preserved : goal.loop-part-preserved
 loop-part-preserved g c =

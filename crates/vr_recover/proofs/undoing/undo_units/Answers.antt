@@ -2,6 +2,7 @@ use Rattle.std.proofs.Common.{get_or}
 use Rattle.vr_types.proofs.CallerLemmas.{guards-then, guards-weaken}
 use Rattle.vr_part.specs.Any.{known_any, shape_any}
 use Rattle.vr_space.specs.Part.{part_no}
+use Rattle.vr_recover.specs.Recovered.{standing_all}
 use Rattle.vr_volume.specs.Safe.{IsSafeImage}
 use Rattle.vr_volume.specs.Volume.{Recovers}
 use Rattle.vr_volume.proofs.Calls.{stays-part}
@@ -19,9 +20,10 @@ returns-in_err-put_back_all-clause-any_moment g c told number owners contents se
     let b = g.B.Blocks.seen c.put_back_all.new.blocks in
     let first = c.put_back_all.ensures.safe told log.geometry number owners contents settled.safe
     settled.opened in
-    let recovers = guards-weaken a b (IsSafeImage log.geometry number owners log (alike contents))
-    (λ image. Recovers log.geometry number image contents) first.0
-    (λ image. safe-recovers log.geometry number owners log contents image) in
+    let recovers = guards-weaken a b
+    (IsSafeImage log.geometry number owners log (alike (standing_all contents)))
+    (λ image. Recovers log.geometry number image (standing_all contents)) first.0
+    (λ image. safe-recovers log.geometry number owners log (standing_all contents) image) in
     recovers
 
 pub returns-in_err-end_all-clause-any_moment : goal.returns-in_err-end_all-clause-any_moment
@@ -31,16 +33,18 @@ returns-in_err-end_all-clause-any_moment g c told number owners contents settled
     let b = g.B.Blocks.seen c.put_back_all.new.blocks in
     let first = c.put_back_all.ensures.safe told log.geometry number owners contents settled.safe
     settled.opened in
-    let recovers = guards-weaken a b (IsSafeImage log.geometry number owners log (alike contents))
-    (λ image. Recovers log.geometry number image contents) first.0
-    (λ image. safe-recovers log.geometry number owners log contents image) in
+    let recovers = guards-weaken a b
+    (IsSafeImage log.geometry number owners log (alike (standing_all contents)))
+    (λ image. Recovers log.geometry number image (standing_all contents)) first.0
+    (λ image. safe-recovers log.geometry number owners log (standing_all contents) image) in
     let undone : IsUndone number owners log contents b = record {
       safe = first.1;
+      ascends = settled.ascends;
       all = c.in_ok-put_back_all.ensures.all told log.geometry number owners contents settled.safe
-          settled.opened settled.firm settled.covered;
+          settled.opened settled.parts settled.covered;
     } in
     guards-then a b (g.B.Blocks.seen c.end_all.new.blocks)
-    (λ image. Recovers log.geometry number image contents) recovers
+    (λ image. Recovers log.geometry number image (standing_all contents)) recovers
     (c.end_all.ensures.any_moment told number owners contents undone)
 
 pub returns-clause-any_moment : goal.returns-clause-any_moment
@@ -50,16 +54,18 @@ returns-clause-any_moment g c told number owners contents settled =
     let b = g.B.Blocks.seen c.put_back_all.new.blocks in
     let first = c.put_back_all.ensures.safe told log.geometry number owners contents settled.safe
     settled.opened in
-    let recovers = guards-weaken a b (IsSafeImage log.geometry number owners log (alike contents))
-    (λ image. Recovers log.geometry number image contents) first.0
-    (λ image. safe-recovers log.geometry number owners log contents image) in
+    let recovers = guards-weaken a b
+    (IsSafeImage log.geometry number owners log (alike (standing_all contents)))
+    (λ image. Recovers log.geometry number image (standing_all contents)) first.0
+    (λ image. safe-recovers log.geometry number owners log (standing_all contents) image) in
     let undone : IsUndone number owners log contents b = record {
       safe = first.1;
+      ascends = settled.ascends;
       all = c.in_ok-put_back_all.ensures.all told log.geometry number owners contents settled.safe
-          settled.opened settled.firm settled.covered;
+          settled.opened settled.parts settled.covered;
     } in
     guards-then a b (g.B.Blocks.seen c.end_all.new.blocks)
-    (λ image. Recovers log.geometry number image contents) recovers
+    (λ image. Recovers log.geometry number image (standing_all contents)) recovers
     (c.end_all.ensures.any_moment told number owners contents undone)
 
 pub returns-clause-undone : goal.returns-clause-undone
@@ -70,8 +76,9 @@ returns-clause-undone g c told below number owners contents settled =
     settled.opened in
     let undone : IsUndone number owners log contents b = record {
       safe = first.1;
+      ascends = settled.ascends;
       all = c.in_ok-put_back_all.ensures.all told log.geometry number owners contents settled.safe
-          settled.opened settled.firm settled.covered;
+          settled.opened settled.parts settled.covered;
     } in
     c.in_ok-end_all.ensures.undone told below number owners contents undone
 

@@ -2,10 +2,10 @@ use Rattle.std.proofs.Common.{◌∙◌, IsTrue, List, [], ◌∷◌, ap, refl, 
 use Rattle.std.specs.Prelude.{All}
 use Rattle.std.specs.List.{filter_map}
 use Rattle.std.proofs.lemmas.List.{take_all}
-use Rattle.std.proofs.lemmas.List.Elements.{All-nil}
+use Rattle.std.proofs.lemmas.List.Elements.{All-nil, All-weaker}
 use Rattle.vr_types.specs.Regions.{Touches}
 use Rattle.vr_types.specs.declared.unit.PartNo.{PartNo}
-use Rattle.vr_types.proofs.CallerLemmas.{guards-start, guards-then}
+use Rattle.vr_types.proofs.CallerLemmas.{guards-start, guards-then, touches-then}
 use Rattle.vr_space.specs.Owners.{Owners}
 use Rattle.vr_space.specs.Part.{InPart, Shape, part_no}
 use Rattle.vr_history.specs.State.{BeforeImage}
@@ -16,9 +16,8 @@ use Rattle.vr_volume.specs.PutBack.{image_in, images_of}
 use Rattle.vr_volume.specs.Safe.{IsSafeImage}
 use Rattle.vr_volume.proofs.Recovering.{each_image_is_safe}
 use Rattle.vr_mount.specs.Touched.{Anything}
-use Rattle.vr_types.proofs.CallerLemmas.{touches-then}
 use Rattle.vr_mount.proofs.CallerLemmas.{touches-none}
-use Rattle.vr_recover.specs.Undone.{ArePutBack, FitsPart, HasKeptFor, IsItemIn, IsReady}
+use Rattle.vr_recover.specs.Undone.{ArePutBack, FitsPart, HasKeptFor, IsLeftIn, IsReady}
 use Rattle.vr_recover.proofs.KeptLengths.{all-kept}
 use Rattle.vr_recover.proofs.PuttingBack.{all-free, at-record, back-more, none-back}
 use Rattle.vr_recover.proofs.undone.put_back.Goals as goal
@@ -42,7 +41,7 @@ loop-rec-init g c =
             (each_image_is_safe geometry member owners c.args.log.now committed a safe),
         safe,
       );
-      back = λ told content item. none-back (g.P.Part.shape c.args.part.now) content [] a
+      back = λ told content left. none-back (g.P.Part.shape c.args.part.now) content [] a
           (All-nil _);
     }
 
@@ -59,7 +58,7 @@ put_record-requires-clause-kept g c =
     let shape = g.P.Part.shape c.loop-rec.part in
     let kept = g.K.Kept.kept c.args.kept.now c.args.number in
     at-record (HasKeptFor shape kept) c.args.records.now c.args.log.now.records c.requires.records
-    (all-kept shape kept c.args.number.0 (images_of c.args.log.now.records)
+    (all-kept shape kept c.args.number.0 (images_of c.args.log.now.records) c.requires.alone
     (ap (λ (s : Shape). (part_no s).0) c.loop-rec.invariant.shape
     ∙ ap (λ (no : PartNo). no.0) c.requires.number)
     (c.requires.kept c.args.number))
@@ -125,15 +124,19 @@ loop-rec-preserved g c =
             guards-then a b d (IsSafeImage geometry member owners log committed) before.0 call.0,
             call.1,
           );
-      back = λ told content item. back-more shape content f c.args.records.now
-          c.loop-rec.rec-index c.rec-item.result a b d c.loop-rec-test.true c.rec-item.is
-          (c.loop-rec.invariant.back told content item)
+      back = λ told content left.
+          let before = c.loop-rec.invariant.back told content left in
+          let now = All-weaker (IsLeftIn shape content a.cur) (IsLeftIn shape content b.cur)
+          before.left (images_of log.records) left in
+          back-more shape content f c.args.records.now c.loop-rec.rec-index c.rec-item.result a b d
+          c.loop-rec-test.true c.rec-item.is before
           (subst (λ (s : Shape). ArePutBack s content (filter_map f (c.rec-item.result ∷ [])) b d)
           same
           (c.in_ok-put_record.ensures.back told content
-          (at-record (IsItemIn (g.P.Part.shape c.loop-rec.part) content) c.args.records.now
+          (at-record (IsLeftIn (g.P.Part.shape c.loop-rec.part) content b.cur) c.args.records.now
           log.records c.requires.records
-          (subst (λ (s : Shape). All (IsItemIn s content) (images_of log.records)) (sym same) item)
+          (subst (λ (s : Shape). All (IsLeftIn s content b.cur) (images_of log.records)) (sym same)
+          now)
           c.loop-rec.rec-index c.loop-rec-test.true c.rec-item.result c.rec-item.is)));
     }
 
@@ -148,11 +151,11 @@ put_record-requires-clause-ready g c told =
     )
 
 pub returns-clause-back : goal.returns-clause-back
-returns-clause-back g c told content item =
+returns-clause-back g c told content left =
     let shape = g.P.Part.shape c.args.part.now in
     let a = g.B.Blocks.seen c.args.blocks.now in
     let b = g.B.Blocks.seen c.loop-rec.blocks in
     let f = image_in (live_in c.args.log.now.records) in
     subst (λ (records : List LogRecord). ArePutBack shape content (filter_map f records) a b)
     (take_all c.loop-rec.rec-index c.args.records.now c.loop-rec-test.false ∙ c.requires.records)
-    (c.loop-rec.invariant.back told content item)
+    (c.loop-rec.invariant.back told content left)

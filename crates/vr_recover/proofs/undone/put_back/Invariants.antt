@@ -13,7 +13,7 @@ use Rattle.vr_volume.specs.Laying.{IsLaidSo}
 use Rattle.vr_volume.specs.PutBack.{image_in, images_of}
 use Rattle.vr_volume.specs.Safe.{IsSafe, IsSafeImage}
 use Rattle.vr_mount.specs.Touched.{Anything}
-use Rattle.vr_recover.specs.Undone.{ArePutBack, HasAllRecords, IsItemIn, IsReady}
+use Rattle.vr_recover.specs.Undone.{ArePutBack, HasAllRecords, IsLeftIn, IsReady}
 use Rattle.vr_recover.proofs.undone.put_back.Given as goal
 
 abbrev pub invariant-loop-rec : goal.invariant-loop-rec
@@ -43,7 +43,8 @@ invariant-loop-rec g l = record {
       (IsSafeImage geometry member owners l.log committed)
       × IsSafe geometry member owners l.log committed (g.B.Blocks.seen l.blocks);
   back : IsTrue g.B.Blocks.tells → (content : Content)
-      → All (IsItemIn (g.P.Part.shape l.fn.part) content) (images_of l.log.records)
+      → All (IsLeftIn (g.P.Part.shape l.fn.part) content (g.B.Blocks.seen l.fn.blocks).cur)
+      (images_of l.log.records)
       → ArePutBack (g.P.Part.shape l.fn.part) content
       (filter_map (image_in (live_in l.log.records)) (take l.rec-index l.records))
       (g.B.Blocks.seen l.fn.blocks) (g.B.Blocks.seen l.blocks);

@@ -1,8 +1,10 @@
-use Rattle.std.proofs.Common.{true, ◌==◌, ◌≡◌, ◌∙◌, ℕ, List, Option, ap, refl, subst, sym}
+use Rattle.std.proofs.Common.{true, ◌==◌, ◌≡◌, ◌∙◌, ℕ, List, Option, ap, subst, sym}
+use Rattle.std.specs.Option.{option_and_then, option_map}
 use Rattle.std.proofs.lemmas.Bool.Decides.{Decides-eqb}
 use Rattle.vr_types.specs.declared.unit.PartNo.{PartNo}
 use Rattle.vr_types.proofs.CallerLemmas.{guards-start}
-use Rattle.vr_space.specs.Part.{InPart, SetsOne, part_no}
+use Rattle.vr_types.specs.Content.{Standing, record_of}
+use Rattle.vr_space.specs.Part.{CanSet, InPart, SetsOne, part_no}
 use Rattle.vr_history.specs.State.{BeforeImage}
 use Rattle.vr_log.specs.Live.{live_in}
 use Rattle.vr_volume.specs.Laying.{IsFreeIn, IsLaidSo}
@@ -10,8 +12,8 @@ use Rattle.vr_volume.specs.Safe.{IsSafeImage}
 use Rattle.vr_volume.proofs.Images.{image_of}
 use Rattle.vr_volume.proofs.Recovering.{each_image_is_safe}
 use Rattle.vr_mount.proofs.CallerLemmas.{touches-none}
-use Rattle.vr_recover.specs.Undone.{ArePutBack, IsItemIn}
-use Rattle.vr_recover.proofs.PuttingBack.{live-has, live-list, one-back}
+use Rattle.vr_recover.specs.Undone.{ArePutBack, HasKeptFor, IsKeptAt, IsLeftIn}
+use Rattle.vr_recover.proofs.PuttingBack.{can-go-back, live-has, live-list, one-back, record-is}
 use Rattle.vr_recover.proofs.undone.put_record.Goals as goal
 
 same-number : (one other : ℕ) → true ≡ (one == other) → one ≡ other
@@ -52,7 +54,7 @@ returns-in_err-set_forced-clause-safe g c told geometry member owners committed 
     (mine ∙ sym (ap (λ (no : PartNo). no.0) c.requires.number)) here)
 
 pub returns-in_ok-set_forced-clause-back : goal.returns-in_ok-set_forced-clause-back
-returns-in_ok-set_forced-clause-back g c told content item =
+returns-in_ok-set_forced-clause-back g c told content left =
     let live = live_in c.args.log.now.records in
     let shape = g.P.Part.shape c.args.part.now in
     let a = g.B.Blocks.seen c.args.blocks.now in
@@ -68,9 +70,9 @@ returns-in_ok-set_forced-clause-back g c told content item =
     (one-back shape content image c.in-Before.old a b
     (subst (λ (found : Option (List ℕ)). SetsOne shape c.in-Before.place found a.cur b.cur)
     c.bytes_of.ensures.given (c.in_ok-set_forced.ensures.set told))
-    refl mine
+    (record-is c.in-Before.old) mine
     (live-has live c.in-Before.unit c.in-Before.owner c.in-Before.place c.in-Before.old
-    (sym c.if-is_live.ensures) c.args.rec.now c.in-Before.is (IsItemIn shape content) item)
+    (sym c.if-is_live.ensures) c.args.rec.now c.in-Before.is (IsLeftIn shape content a.cur) left)
     (c.in_ok-set_forced.ensures.firm told))
 
 pub returns-else-eq-clause-safe : goal.returns-else-eq-clause-safe
@@ -108,3 +110,24 @@ returns-in_default-clause-touches g c told owners ready =
 pub set_forced-requires-clause-rests : goal.set_forced-requires-clause-rests
 set_forced-requires-clause-rests g c told =
     ((c.requires.ready told).0, (c.requires.ready told).1.rests)
+
+pub set_forced-requires-clause-can : goal.set_forced-requires-clause-can
+set_forced-requires-clause-can g c told =
+    let shape = g.P.Part.shape c.args.part.now in
+    let kept = g.K.Kept.kept c.args.kept.now in
+    let mine : c.in-Before.owner.0 ≡ (part_no shape).0 =
+    same-number c.in-Before.owner.0 c.args.number.0 c.if-eq.ensures
+    ∙ sym (ap (λ (no : PartNo). no.0) c.requires.number) in
+    let room : IsKeptAt (kept c.args.number) c.in-Before.place
+    (option_and_then record_of (option_map Standing c.in-Before.old)) =
+    live-has (live_in c.args.log.now.records) c.in-Before.unit c.in-Before.owner c.in-Before.place
+    c.in-Before.old (sym c.if-is_live.ensures) c.args.rec.now c.in-Before.is
+    (HasKeptFor shape (kept c.args.number)) c.requires.kept mine in
+    subst (λ (old : Option (List ℕ)). CanSet shape (g.P.Part.known c.args.part.now)
+    (g.B.Blocks.seen c.args.blocks.now).cur (kept (part_no shape)) c.in-Before.place old)
+    (sym c.bytes_of.ensures.given)
+    (can-go-back shape (g.P.Part.known c.args.part.now) (g.B.Blocks.seen c.args.blocks.now).cur
+    (kept (part_no shape)) c.in-Before.place c.in-Before.old c.requires.split
+    (subst (λ (no : PartNo). IsKeptAt (kept no) c.in-Before.place c.in-Before.old)
+    (sym c.requires.number)
+    (subst (IsKeptAt (kept c.args.number) c.in-Before.place) (record-is c.in-Before.old) room)))

@@ -1,4 +1,4 @@
-use Rattle.std.proofs.Common.{◌≡◌, ◌≢◌, ◌∙◌, ◌<◌, ℕ, List, Some, ap, arith}
+use Rattle.std.proofs.Common.{◌≡◌, ◌≢◌, ◌∙◌, ◌+◌, ◌<◌, ℕ, List, Some, ap, arith}
 use Rattle.std.proofs.Common.{IsTrue, get_or, length, map, refl, subst, sym, take}
 use Rattle.std.specs.Prelude.{All, slice_get}
 use Rattle.std.specs.Option.{option_map}
@@ -16,17 +16,18 @@ use Rattle.vr_space.specs.Part.{InPart, IsOn, IsSound, Shape, part_no}
 use Rattle.vr_space.proofs.CallerLemmas.{StaysPart, on-still, rest-sound}
 use Rattle.vr_volume.specs.Laid.{shape_by}
 use Rattle.vr_volume.specs.PutBack.{images_of}
+use Rattle.vr_recover.specs.Recovered.{standing_all}
 use Rattle.vr_volume.specs.Safe.{IsSafeImage}
+use Rattle.vr_volume.proofs.Apart.{laid-number}
 use Rattle.vr_volume.proofs.Recovering.{each_image_is_safe}
 use Rattle.vr_volume.proofs.Rested.{stands-part, stays-apart}
 use Rattle.vr_mount.specs.Touched.{Anything}
 use Rattle.vr_recover.specs.Opening.{HasNoSplit}
-use Rattle.vr_recover.specs.Undone.{FitsPart, HasContent, IsAllFirm, IsReady}
-use Rattle.vr_recover.specs.Undone.{alike}
-use Rattle.vr_recover.proofs.PartsBack.{all-at, all-before, all-others, all-parts, all-safe, all-set}
-use Rattle.vr_recover.proofs.PartsBack.{are-items, content-stays, firm-stays, laid-opened}
-use Rattle.vr_recover.proofs.PartsBack.{read-off, ready-stays}
-use Rattle.vr_recover.proofs.PuttingBack.{part-back}
+use Rattle.vr_recover.specs.Undone.{FitsPart, HasContent, HasPart, IsReady, IsSettledPart, alike}
+use Rattle.vr_recover.proofs.PartsBack.{all-at, all-before, all-parts, all-set, at-taken}
+use Rattle.vr_recover.proofs.PartsBack.{content-stays, laid-opened, read-off, ready-stays}
+use Rattle.vr_recover.proofs.PartsBack.{settled-stays, taken-at}
+use Rattle.vr_recover.proofs.PuttingBack.{are-left, part-back}
 use Rattle.vr_recover.proofs.undone_parts.put_back_all.Goals as goal
 
 pub loop-part-init : goal.loop-part-init
@@ -41,15 +42,17 @@ loop-part-init g c =
       faults = refl;
       ready = λ told owners ready. ready;
       safe = λ told geometry member owners contents safe opened. (
-        guards-start a (IsSafeImage geometry member owners c.args.log.now (alike contents))
+        guards-start a
+            (IsSafeImage geometry member owners c.args.log.now (alike (standing_all contents)))
             (λ image there. g.met.B.Blocks.images_may c.args.blocks.now image told there)
-            (each_image_is_safe geometry member owners c.args.log.now (alike contents) a safe),
+            (each_image_is_safe geometry member owners c.args.log.now
+            (alike (standing_all contents)) a safe),
         safe,
       );
       stands = λ told forced stands. stands;
-      all = λ told geometry member owners contents safe opened firm. (
-        firm,
+      all = λ told geometry owners contents opened settled. (
         All-nil (λ (shape : Shape). HasContent shape (contents (part_no shape).0) a),
+        λ part shape laid none. settled part shape laid,
       );
     }
 
@@ -127,10 +130,11 @@ returns-in_err-put_back-clause-safe g c told geometry member owners contents saf
     within in
     let numbered : number ≡ part_no shape = c.number-number.ensures in
     let before = c.loop-part.invariant.safe told geometry member owners contents safe opened in
-    let call = c.put_back.ensures.safe told geometry member owners (alike contents) before.1
+    let committed = alike (standing_all contents) in
+    let call = c.put_back.ensures.safe told geometry member owners committed before.1
     (laid-opened geometry log contents kept shapes index shape number opened is c.requires.kept
     numbered) opened.records in (
-      guards-then a b d (IsSafeImage geometry member owners log (alike contents)) before.0 call.0,
+      guards-then a b d (IsSafeImage geometry member owners log committed) before.0 call.0,
       call.1,
     )
 
@@ -220,45 +224,42 @@ loop-part-preserved g c =
       safe = λ told geometry member owners contents safe opened.
           let before =
           c.loop-part.invariant.safe told geometry member owners contents safe opened in
-          let call = c.put_back.ensures.safe told geometry member owners (alike contents) before.1
+          let committed = alike (standing_all contents) in
+          let call = c.put_back.ensures.safe told geometry member owners committed before.1
           (laid-opened geometry log contents kept shapes index shape number opened is
           c.requires.kept numbered) opened.records in (
-            guards-then a b d (IsSafeImage geometry member owners log (alike contents)) before.0
-                call.0,
+            guards-then a b d (IsSafeImage geometry member owners log committed) before.0 call.0,
             call.1,
           );
       stands = λ told forced stands. stands-part log shape (first told) Anything b d forced
           (c.loop-part.invariant.stands told forced stands) (c.requires.ready told).1
           (touches told (first told) (c.requires.ready told).2);
-      all = λ told geometry member owners contents safe opened firm.
-          let before =
-          c.loop-part.invariant.all told geometry member owners contents safe opened firm in
-          let was = c.loop-part.invariant.safe told geometry member owners contents safe opened in
-          let call = c.put_back.ensures.safe told geometry member owners (alike contents) was.1
-          (laid-opened geometry log contents kept shapes index shape number opened is
-          c.requires.kept numbered) opened.records in
+      all = λ told geometry owners contents opened settled.
+          let before = c.loop-part.invariant.all told geometry owners contents opened settled in
           let content = contents (part_no shape).0 in
           let images = images_of log.records in
           let left = g.met.B.Blocks.cur_may c.loop-part.blocks told in
-          let put = c.in_ok-put_back.ensures.back told content
-          (are-items geometry log.records contents shape
-          (all-safe geometry member owners log contents a safe
-          (g.met.B.Blocks.cur_may c.args.blocks.now told) opened.records).committed) in
-          let mine : IsAllFirm shape b =
-          all-at (λ (s : Shape). IsAllFirm s b) shapes index shape is before.0 in
-          let has : HasContent shape content d = part-back shape owners content images b d put mine
-          ((all-safe geometry member owners log contents d call.1
-          (g.met.B.Blocks.cur_may c.put_back.new.blocks told) opened.records).parts
-          (part_no shape).0 shape
+          let mine : IsSettledPart shape owners (part_no shape).0 images content b =
+          before.1 (part_no shape).0 shape
           (all-at (λ (s : Shape). shape_by geometry (contents 0) (part_no s).0 ≡ Some s) shapes
-          index shape is opened.laid)) in (
-            all-others (λ (s : Shape). IsAllFirm s b) (λ (s : Shape). IsAllFirm s d) shapes index
-                shape is (λ place. put.firm place (mine place))
-                (λ other there at off was-firm. firm-stays there (first told) b d
-                (stays told (first told) (c.requires.ready told).2 other there at off)
-                (all-at (λ (s : Shape). IsSound s (first told) b) shapes other there at
-                (sounds told)) left was-firm)
-                before.0,
+          index shape is opened.laid)
+          (λ has. let there = taken-at index shapes has.0 has.1 has.2 in
+          c.requires.apart index has.0 shape has.1 is there.1
+          (λ same. omega (arith, same, there.0)) has.3) in
+          let first-ready = here told (first told) (c.requires.ready told).2 in
+          let ready-by : IsReady shape owners
+          (known_any (get_or parts index c.part-item.result)) (kept number) b = record {
+            rests = mine.rests;
+            room = first-ready.room;
+            knows = first-ready.knows;
+            no_split = first-ready.no_split;
+          } in
+          let call : Touches (InPart shape owners) Anything b d =
+          c.put_back.ensures.touches told owners ready-by in
+          let put = c.in_ok-put_back.ensures.back told content
+          (are-left shape owners (part_no shape).0 content images b refl c.requires.alone mine) in
+          let has : HasContent shape content d =
+          part-back shape owners (part_no shape).0 content images b d refl put mine in (
             subst (All (λ (s : Shape). HasContent s (contents (part_no s).0) d))
                 (sym (take_more shapes index shape (slice_get_within shapes index shape is)))
                 (All-push (λ (s : Shape). HasContent s (contents (part_no s).0) d)
@@ -270,23 +271,40 @@ loop-part-preserved g c =
                 (all-at (λ (s : Shape). IsSound s (first told) b) shapes other there at
                 (sounds told))
                 (contents (part_no there).0) had)
-                before.1)
+                before.0)
                 (subst (λ (s : Shape). HasContent s (contents (part_no s).0) d)
                 (sym (get_or_from_slice_get shapes index shape shape is)) has)),
+            λ part there laid none.
+                let was = before.1 part there laid
+                (λ has. let taken = taken-at index shapes has.0 has.1 has.2 in
+                none (
+                  has.0,
+                  has.1,
+                  at-taken (index + 1) shapes has.0 has.1 (omega (arith, taken.0)) taken.1,
+                  has.3,
+                )) in
+                let off : (part_no there).0 ≢ (part_no shape).0 = λ same.
+                none (
+                  index,
+                  shape,
+                  at-taken (index + 1) shapes index shape (omega arith) is,
+                  sym (laid-number geometry (contents 0) part there laid) ∙ same,
+                ) in
+                settled-stays there owners b d
+                (stays-apart shape there owners Anything b d off call)
+                (rest-sound there owners b was.rests) part images (contents part) left was,
           );
     }
 
 pub returns-clause-all : goal.returns-clause-all
-returns-clause-all g c told geometry member owners contents safe opened firm covered =
-    let log = c.args.log.now in
+returns-clause-all g c told geometry member owners contents safe opened settled covered =
     let shapes = map shape_any c.args.parts.now in
     let b = g.B.Blocks.seen c.loop-part.blocks in
-    let done = c.loop-part.invariant.all told geometry member owners contents safe opened firm in
-    let is-safe = c.loop-part.invariant.safe told geometry member owners contents safe opened in
-    all-parts geometry owners log contents shapes b
-    (all-safe geometry member owners log contents b is-safe.1
-    (g.met.B.Blocks.cur_may c.loop-part.blocks told) opened.records)
-    opened covered
-    (subst (All (λ (s : Shape). HasContent s (contents (part_no s).0) b))
-    (take_all c.loop-part.part-index shapes
-    (omega (arith, c.loop-part-test.false, length-map c.args.parts.now shape_any))) done.1)
+    let done = c.loop-part.invariant.all told geometry owners contents opened settled in
+    let whole : take c.loop-part.part-index shapes ≡ shapes =
+    take_all c.loop-part.part-index shapes
+    (omega (arith, c.loop-part-test.false, length-map c.args.parts.now shape_any)) in
+    all-parts geometry owners c.args.log.now contents shapes b opened covered
+    (subst (All (λ (s : Shape). HasContent s (contents (part_no s).0) b)) whole done.0)
+    (λ part shape laid none. done.1 part shape laid
+    (λ has. none (subst (λ (ss : List Shape). HasPart ss part) whole has)))

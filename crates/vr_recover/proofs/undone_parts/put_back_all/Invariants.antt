@@ -1,4 +1,4 @@
-use Rattle.std.proofs.Common.{◌≡◌, ℕ, IsTrue, map, take}
+use Rattle.std.proofs.Common.{◌≡◌, ℕ, IsTrue, Some, map, take}
 use Rattle.std.specs.Prelude.{All}
 use Rattle.vr_types.specs.Content.{Content}
 use Rattle.vr_types.specs.Moments.{Guards}
@@ -8,10 +8,14 @@ use Rattle.vr_space.specs.Owners.{Owners}
 use Rattle.vr_space.specs.Part.{Shape, part_no}
 use Rattle.vr_log.specs.LogNow.{IsForced}
 use Rattle.vr_log.specs.Standing.{LogStands}
+use Rattle.vr_volume.specs.Laid.{shape_by}
+use Rattle.vr_volume.specs.PutBack.{images_of}
+use Rattle.vr_recover.specs.Recovered.{standing_all}
 use Rattle.vr_volume.specs.Safe.{IsSafe, IsSafeImage}
 use Rattle.vr_recover.specs.Found.{areas_kept}
 use Rattle.vr_recover.specs.Opening.{HasNoSplit}
-use Rattle.vr_recover.specs.Undone.{AreOpened, HasContent, IsAllFirm, IsReady, alike}
+use Rattle.vr_recover.specs.Undone.{AreOpened, AreSettled, HasContent, HasPart, IsReady}
+use Rattle.vr_recover.specs.Undone.{IsSettledPart, alike}
 use Rattle.vr_recover.proofs.undone_parts.put_back_all.Given as goal
 
 abbrev pub invariant-loop-part : goal.invariant-loop-part
@@ -30,22 +34,24 @@ invariant-loop-part g l = record {
       (g.K.Kept.kept l.kept (part_no (shape_any part))) (g.B.Blocks.seen l.blocks)) l.parts;
   safe : IsTrue g.B.Blocks.tells → (geometry : Geometry) (member : ℕ)
       (owners : Owners) (contents : ℕ → Content)
-      → IsSafe geometry member owners l.log (alike contents) (g.B.Blocks.seen l.fn.blocks)
+      → IsSafe geometry member owners l.log (alike (standing_all contents))
+      (g.B.Blocks.seen l.fn.blocks)
       → AreOpened geometry l.log contents (map shape_any l.fn.parts)
       → Guards (g.B.Blocks.seen l.fn.blocks) (g.B.Blocks.seen l.blocks)
-      (IsSafeImage geometry member owners l.log (alike contents))
-      × IsSafe geometry member owners l.log (alike contents) (g.B.Blocks.seen l.blocks);
+      (IsSafeImage geometry member owners l.log (alike (standing_all contents)))
+      × IsSafe geometry member owners l.log (alike (standing_all contents))
+      (g.B.Blocks.seen l.blocks);
   stands : IsTrue g.B.Blocks.tells → IsForced l.log
       → LogStands l.log (g.B.Blocks.seen l.fn.blocks)
       → LogStands l.log (g.B.Blocks.seen l.blocks);
-  all : IsTrue g.B.Blocks.tells → (geometry : Geometry) (member : ℕ)
-      (owners : Owners) (contents : ℕ → Content)
-      → IsSafe geometry member owners l.log (alike contents) (g.B.Blocks.seen l.fn.blocks)
-      → AreOpened geometry l.log contents (map shape_any l.fn.parts)
-      → All (λ (shape : Shape). IsAllFirm shape (g.B.Blocks.seen l.fn.blocks))
-      (map shape_any l.fn.parts)
-      → All (λ (shape : Shape). IsAllFirm shape (g.B.Blocks.seen l.blocks))
-      (map shape_any l.fn.parts)
-      × All (λ (shape : Shape). HasContent shape (contents (part_no shape).0)
-      (g.B.Blocks.seen l.blocks)) (take l.part-index (map shape_any l.fn.parts));
+  all : IsTrue g.B.Blocks.tells → (geometry : Geometry) (owners : Owners)
+      (contents : ℕ → Content) → AreOpened geometry l.log contents (map shape_any l.fn.parts)
+      → AreSettled geometry owners (images_of l.log.records) contents
+      (g.B.Blocks.seen l.fn.blocks)
+      → All (λ (shape : Shape). HasContent shape (contents (part_no shape).0)
+      (g.B.Blocks.seen l.blocks)) (take l.part-index (map shape_any l.fn.parts))
+      × ((part : ℕ) (shape : Shape) → shape_by geometry (contents 0) part ≡ Some shape
+      → (HasPart (take l.part-index (map shape_any l.fn.parts)) part → ⊥)
+      → IsSettledPart shape owners part (images_of l.log.records) (contents part)
+      (g.B.Blocks.seen l.blocks));
 }

@@ -98,8 +98,8 @@ returns g c =
           (λ (room : Room). IsRoomAt store a.cur number place length room)
           (λ (room : Room). IsRoomAt new b.cur number place length room)
           (room-still store new number before after a.cur b.cur at.found there
-          c.room.ensures.shape c.room.ensures.split refl refl (c.room.ensures.keeps.content told)
-          place length)
+          c.room.ensures.shape c.room.ensures.split c.room.ensures.tail refl refl
+          (c.room.ensures.keeps.content told) place length)
           (answer told);
       met = IfOk-weaker c.room.result
           (λ room. places_met after.known ≡ met_next (places_met before.known) place)

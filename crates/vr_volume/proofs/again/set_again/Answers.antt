@@ -57,7 +57,8 @@ returns-clause-next g c told number owners old new change images rest part of ma
       volume-next-change log.geometry number owners log images old a rest new change d of stands
           safe made,
       part-put log.geometry number owners log images old a rest new change d of stands safe shape
-          known (g.P.Part.known c.set_free.new.part) place found made.contents part given-for
+          known (g.P.Part.known c.set_free.new.part) place found made.contents part some
+          (c.set_free.ensures.elsewhere told) given-for
           c.set_free.ensures.count c.set_free.ensures.size (c.in_ok-set_free.ensures.rests told
           owners part.rests) (subst (λ (lengths : Lengths). HasKeptRoom shape lengths d) room
           (c.set_free.ensures.room told))
@@ -88,7 +89,8 @@ returns-clause-back g c told number owners old new change images rest part of ma
       volume-put-back log.geometry number owners log images old a rest new change d of stands safe
           made,
       part-put log.geometry number owners log images old a rest new change d of stands safe shape
-          known (g.P.Part.known c.set_free.new.part) place found made.contents part given-for
+          known (g.P.Part.known c.set_free.new.part) place found made.contents part some
+          (c.set_free.ensures.elsewhere told) given-for
           c.set_free.ensures.count c.set_free.ensures.size (c.in_ok-set_free.ensures.rests told
           owners part.rests) (subst (λ (lengths : Lengths). HasKeptRoom shape lengths d) room
           (c.set_free.ensures.room told))
@@ -131,7 +133,8 @@ returns-clause-again g c told number owners old new change images rest part of m
       volume-kept-again log.geometry number owners log images old a rest new change made d of
           stands safe,
       part-put log.geometry number owners log images old a rest new change d of stands safe shape
-          known (g.P.Part.known c.set_free.new.part) place found made.contents part given-for
+          known (g.P.Part.known c.set_free.new.part) place found made.contents part some
+          (c.set_free.ensures.elsewhere told) given-for
           c.set_free.ensures.count c.set_free.ensures.size (c.in_ok-set_free.ensures.rests told
           owners part.rests) (subst (λ (lengths : Lengths). HasKeptRoom shape lengths d) room
           (c.set_free.ensures.room told))

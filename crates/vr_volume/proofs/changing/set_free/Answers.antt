@@ -1,5 +1,6 @@
 use Rattle.vr_volume.proofs.Calls.{free-safe, part-after, part-guards, quiet-safe}
 use Rattle.vr_volume.proofs.changing.set_free.Goals as goal
+use Rattle.std.proofs.Common.{⊎_elim}
 use Rattle.vr_space.specs.Part.{Just, given, item_of, left_by, part_no}
 
 pub returns-clause-safe : goal.returns-clause-safe
@@ -23,3 +24,10 @@ returns-clause-safe g c told geometry number owners log committed safe laid free
       part-after geometry number owners log committed part shape kept A a b safe laid added
           adds rooms left (c.set.ensures.room told),
     )
+
+-- off the place, by whichever owners the part rests
+pub returns-clause-elsewhere : goal.returns-clause-elsewhere
+returns-clause-elsewhere g c told place found apart held =
+    let own = c.requires.rests told in
+    ⊎_elim (λ was. was) (λ just. absurd (apart just.0))
+    ((c.set.ensures.adds told own.0 own.1).rest place found held)

@@ -36,15 +36,15 @@ returns-clause-rests g c told geometry number owners old new rest current firm n
     c.restart_idle.ensures.live)
 
 pub returns-clause-others : goal.returns-clause-others
-returns-clause-others g c told geometry owners old new shape known is past made part =
+returns-clause-others g c told geometry number owners old new shape known is rest firm made part =
     let B = g.B.Blocks in
     let log = c.args.log.now in
     let a = B.seen c.args.blocks.now in
     let b = B.seen c.log_end.new.blocks in
     subst (λ (images : List BeforeImage). IsPartAtRest geometry owners images new shape known b)
     (sym c.forget.ensures.images)
-    (part-after geometry owners log (HasLog (with_record log (End c.args.unit c.args.kind)))
-    (images_in c.args.undo.now) old new c.args.unit shape known a b is past
+    (part-after geometry number owners log (HasLog (with_record log (End c.args.unit c.args.kind)))
+    (images_in c.args.undo.now) old new c.args.unit shape known a b is rest firm
     (g.met.B.Blocks.cur_may c.args.blocks.now told) (c.log_end.ensures.touches told) made part)
 
 pub returns-clause-log : goal.returns-clause-log

@@ -17,12 +17,14 @@ use Rattle.vr_space.specs.Part.{HasKeptRoom, HasRoom, SetsOne}
 use Rattle.vr_space.specs.Room.{Lengths}
 use Rattle.vr_volume.specs.Committed.{committed_by}
 use Rattle.vr_volume.specs.Laying.{IsLaidBy, IsLogged}
-use Rattle.vr_volume.proofs.Rested.{first-of, laid-by-more, part-first-change, rec-is, stands-part}
+use Rattle.vr_volume.proofs.Rested.{first-of, given-item, laid-by-more, part-first-change}
+use Rattle.vr_volume.proofs.Rested.{rec-is, stands-part}
 use Rattle.vr_space.proofs.CallerLemmas.{due-at-then, due-stays}
 use Rattle.std.proofs.Common.{◌≡◌, ap}
 use Rattle.vr_types.specs.declared.unit.PartNo.{PartNo}
 use Rattle.vr_attach.specs.Owning.{IsPastLog}
-use Rattle.vr_volume.proofs.Rested.{other-first-change, stays-apart, stays-then}
+use Rattle.vr_volume.specs.Rests.{HoldsNoMore}
+use Rattle.vr_volume.proofs.Rested.{other-first-change, stays-apart, stays-holds, stays-then}
 use Rattle.vr_volume.proofs.Rested.{volume-first-change}
 use Rattle.vr_volume.proofs.write_ahead.change.Goals as goal
 
@@ -267,7 +269,13 @@ returns-clause-at_rest g c told number owners old new change images after rest p
           of made logged kept stands safe,
       part-first-change log.geometry number owners log more images after old new change a d rest of
           made
-          logged kept shape known (g.P.Part.known c.set_free.new.part) found part given-for.part
+          logged kept shape known (g.P.Part.known c.set_free.new.part) found part
+          (subst (λ (q : List ℕ). HoldsNoMore shape q a d) given-for.place_is
+          (λ other item apart held. stays-holds shape owners a b
+          (stays-part log.geometry shape owners (HasLog (with_record log c.args.rec.now)) a b
+          rest.safe.past (c.log_forced.ensures.touches told)) (rest-sound shape owners a part.rests)
+          other item (c.set_free.ensures.elsewhere told other item apart held)))
+          given-for.part
           (c.set_free.ensures.count ∙ c.in_ok-log_forced.ensures.count)
           (c.set_free.ensures.size ∙ c.in_ok-log_forced.ensures.size)
           (returns-clause-rests g c told owners rest.safe.past part.rests)
@@ -276,7 +284,7 @@ returns-clause-at_rest g c told number owners old new change images after rest p
           (c.in_ok-set_free.ensures.knows told)
           (subst (λ (q : List ℕ). SetsOne shape q found a.cur d.cur) given-for.place_is
           (returns-clause-set g c told))
-          given-for.item,
+          (given-item old change shape place found given-for),
     )
 
 pub returns-clause-due : goal.returns-clause-due

@@ -1,6 +1,5 @@
 use Rattle.std.proofs.Common.{◌≡◌, ◌∙◌, [], List, ℕ, None, Option, Some, ap, inl, refl, subst, sym}
-use Rattle.std.specs.Option.{option_copied, option_map}
-use Rattle.vr_types.specs.Content.{Standing}
+use Rattle.std.specs.Option.{option_copied}
 use Rattle.vr_types.specs.Moments.{Guards}
 use Rattle.vr_types.specs.declared.lock_name.LockName.{LockName}
 use Rattle.vr_types.specs.declared.reply.Refusal.TheVariants.{Memory as NoMemory, WriteFault}
@@ -21,7 +20,7 @@ use Rattle.vr_volume.specs.Crashes.{RecoversTo}
 use Rattle.vr_event.specs.Acting.{IsActed}
 use Rattle.vr_store.specs.Change.{IsMadeOf}
 use Rattle.vr_event.specs.Putting.{IsChanging, IsReadyFor, need_at}
-use Rattle.vr_store.specs.Store.{StoreNow, part_among}
+use Rattle.vr_store.specs.Store.{StoreNow, left_among, part_among}
 use Rattle.vr_event.specs.Volume.{IsHeld, IsWhole, VolumeNow}
 use Rattle.vr_event.specs.declared.act.Act.TheVariants as acts
 use Rattle.vr_store.specs.declared.no.LookNo.TheVariants.{Fault}
@@ -68,7 +67,7 @@ put_at_place-requires-clause-ready g c told =
     (ap (λ (v : VolumeNow g.row.B.Denot). part_among v.store.parts part.0) (sym c.self.view_is)
     ∙ none) in
     let to = to-make-laid seen opening before goes whole was unit request part place old reply names
-    (sym c.requires.base) is-ready laid in
+    (sym c.requires.base) is-ready (g.met.B.Blocks.cur_may before.blocks told) laid in
     record { number = before.number; state = state; to = to }
 
 pub returns-in-Ok-clause-moments : goal.returns-in-Ok-clause-moments
@@ -102,7 +101,7 @@ returns-in-Ok-clause-moments g c told opening held ready =
     (ap (λ (v : VolumeNow g.row.B.Denot). part_among v.store.parts part.0) (sym c.self.view_is)
     ∙ none) in
     let to = to-make-laid seen opening before goes whole was unit request part place old reply names
-    (sym c.requires.base) is-ready laid in
+    (sym c.requires.base) is-ready (g.met.B.Blocks.cur_may before.blocks told) laid in
     let b = seen c.put_at_place.new.blocks in
     subst (λ (v : VolumeNow g.row.B.Denot). Guards (seen v.blocks) b
     (RecoversTo v.store.log.geometry v.number (state_now opening v.file) [])) c.self.view_is
@@ -139,7 +138,7 @@ returns-in-Err-Memory-clause-moments g c told opening held ready =
     (ap (λ (v : VolumeNow g.row.B.Denot). part_among v.store.parts part.0) (sym c.self.view_is)
     ∙ none) in
     let to = to-make-laid seen opening before goes whole was unit request part place old reply names
-    (sym c.requires.base) is-ready laid in
+    (sym c.requires.base) is-ready (g.met.B.Blocks.cur_may before.blocks told) laid in
     let b = seen c.put_at_place.new.blocks in
     subst (λ (v : VolumeNow g.row.B.Denot). Guards (seen v.blocks) b
     (RecoversTo v.store.log.geometry v.number (state_now opening v.file) [])) c.self.view_is
@@ -176,7 +175,7 @@ returns-clause-moments g c told opening held ready =
     (ap (λ (v : VolumeNow g.row.B.Denot). part_among v.store.parts part.0) (sym c.self.view_is)
     ∙ none) in
     let to = to-make-laid seen opening before goes whole was unit request part place old reply names
-    (sym c.requires.base) is-ready laid in
+    (sym c.requires.base) is-ready (g.met.B.Blocks.cur_may before.blocks told) laid in
     let b = seen c.put_at_place.new.blocks in
     subst (λ (v : VolumeNow g.row.B.Denot). Guards (seen v.blocks) b
     (RecoversTo v.store.log.geometry v.number (state_now opening v.file) [])) c.self.view_is
@@ -213,7 +212,7 @@ returns-in-Ok-clause-held g c told opening held ready asked =
     (ap (λ (v : VolumeNow g.row.B.Denot). part_among v.store.parts part.0) (sym c.self.view_is)
     ∙ none) in
     let to = to-make-laid seen opening before goes whole was unit request part place old reply names
-    (sym c.requires.base) is-ready laid in
+    (sym c.requires.base) is-ready (g.met.B.Blocks.cur_may before.blocks told) laid in
     let mine : IsChanging opening before.file unit request =
     subst (λ (f : FileNow). IsChanging opening f unit request) (sym of-file) asked in
     let mid : FileNow = c.put_at_place.new.file in
@@ -229,7 +228,7 @@ returns-in-Ok-clause-held g c told opening held ready asked =
     (may-reply seen opening before goes whole was unit request part place old reply names base
     is-ready mine.unrefused) in
     held-put seen opening before goes whole was unit request part place old reply names base is-ready
-    c.change.new.self mid c.put_at_place.new.store c.put_at_place.new.blocks c.args.after c.args.line
+    mine.unrefused laid c.change.new.self mid c.put_at_place.new.store c.put_at_place.new.blocks c.args.after c.args.line
     (ap (λ (f : FileNow). f.entries) c.put_at_place.ensures.file)
     (ap (λ (f : FileNow). f.geometry) c.put_at_place.ensures.file)
     (ap (λ (f : FileNow). f.catalog) c.put_at_place.ensures.file)
@@ -246,7 +245,8 @@ returns-in-Ok-clause-held g c told opening held ready asked =
     ∙ ap (λ (l : List LockName). with_locks unit Exclusive l before.file.locks) is-ready.names_are))
     is-ready.at.not_catalog)
     (λ next made. c.in-Ok.ensures.made told before.number state next to
-    (subst (λ (item : Option (List ℕ)). IsMadeOf unit part place (option_map Standing item)
+    (subst (λ (item : Option (List ℕ)). IsMadeOf unit part place
+    (left_among before.store.parts part.0 state place item)
     (need_at before.store unit part place old) state next) (sym given-is) made))
 
 pub returns-in-Err-Memory-clause-held : goal.returns-in-Err-Memory-clause-held
@@ -280,7 +280,7 @@ returns-in-Err-Memory-clause-held g c told opening held ready asked =
     (ap (λ (v : VolumeNow g.row.B.Denot). part_among v.store.parts part.0) (sym c.self.view_is)
     ∙ none) in
     let to = to-make-laid seen opening before goes whole was unit request part place old reply names
-    (sym c.requires.base) is-ready laid in
+    (sym c.requires.base) is-ready (g.met.B.Blocks.cur_may before.blocks told) laid in
     let mine : IsChanging opening before.file unit request =
     subst (λ (f : FileNow). IsChanging opening f unit request) (sym of-file) asked in
     let left = c.in-Err-Memory.ensures.unchanged c.in-Err-Memory.field-0-is in
@@ -336,7 +336,7 @@ returns-clause-held g c told opening held ready asked =
     (ap (λ (v : VolumeNow g.row.B.Denot). part_among v.store.parts part.0) (sym c.self.view_is)
     ∙ none) in
     let to = to-make-laid seen opening before goes whole was unit request part place old reply names
-    (sym c.requires.base) is-ready laid in
+    (sym c.requires.base) is-ready (g.met.B.Blocks.cur_may before.blocks told) laid in
     let mine : IsChanging opening before.file unit request =
     subst (λ (f : FileNow). IsChanging opening f unit request) (sym of-file) asked in
     let mid : FileNow = c.put_at_place.new.file in

@@ -7,11 +7,10 @@ use Rattle.vr_record_file.specs.Now.{FileNow, state_now}
 use Rattle.vr_volume.specs.Crashes.{RecoversTo}
 use Rattle.vr_event.specs.EndedFile.{IsEnding}
 use Rattle.vr_store.specs.Store.{StoreNow}
-use Rattle.vr_event.specs.Volume.{AreServedClusters, IsHeld, VolumeNow}
+use Rattle.vr_event.specs.Volume.{IsHeld, VolumeNow}
 use Rattle.vr_event.proofs.Asking.{write-asked}
-use Rattle.vr_store.proofs.CallerLemmas.{last-state}
+use Rattle.vr_store.proofs.CallerLemmas.{last-kept-in, last-state}
 use Rattle.vr_event.proofs.Recovers.{recovers-safe}
-use Rattle.vr_event.proofs.Served.{served_now}
 use Rattle.vr_event.proofs.Stepped.{held-at, held-undone, known-with, undone-in}
 use Rattle.vr_event.proofs.volume.Volume.put_back.Goals as goal
 
@@ -46,9 +45,9 @@ returns-in-Ok-clause-held g c told opening held ending =
     c.enter_undone.ensures.leaves (ap (λ (s : StoreNow). s.space) c.put_last.ensures.rest) going was
     (c.enter_undone.ensures.state opening was.file kept)
     (c.in-Ok.ensures.back told before.number state (puts_back unit state) stored mine.current
-    (undone-in state unit image (served_now opening before.file was.file
-    (subst (λ (v : VolumeNow g.row.B.Denot). AreServedClusters v.file.catalog) (sym c.self.view_is)
-    c.requires.whole.served)) last)))
+    (undone-in before.store.log.geometry state unit image c.in-Ok.before.old refl
+    (last-kept-in before.store (seen before.blocks) before.number state stored unit image
+    c.in-Ok.ensures.at) last)))
 
 pub returns-in-Ok-clause-moments : goal.returns-in-Ok-clause-moments
 returns-in-Ok-clause-moments g c told opening held ending =

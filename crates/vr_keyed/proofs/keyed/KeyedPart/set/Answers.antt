@@ -1,4 +1,5 @@
 use Rattle.std.proofs.Common.{◌≡◌, ◌<◌, List, [], ℕ, arith, All, Option, rules, sym, ap, subst}
+use Rattle.std.proofs.Common.{None}
 use Rattle.std.specs.Prelude.{IfErr}
 use Rattle.std.specs.Option.{option_map}
 use Rattle.std.proofs.lemmas.Result.{IfErr-weaker}
@@ -337,6 +338,7 @@ returns-in_err-put-clause-unread g c =
       met = mets c.set.new.slots;
       areas = [];
       used = 0;
+      tail = None;
     } in
     let unread : IfErr c.set.result (λ fault. fault ≡ Read → Keeps B.tells a b
     × (Rattle.std.specs.Prelude.IsTrue B.tells

@@ -9,11 +9,11 @@ returns-in-Keyed-clause-due g c = rw c.in-Keyed.is c.set.ensures.due
 pub returns-in-Keyed-clause-rooms : goal.returns-in-Keyed-clause-rooms
 returns-in-Keyed-clause-rooms g c = rw c.in-Keyed.is c.set.ensures.rooms
 
-pub returns-in-Relative-clause-adds : goal.returns-in-Relative-clause-adds
-returns-in-Relative-clause-adds g c = rw c.in-Relative.is c.set-in-Relative.ensures.adds
+pub returns-in-Chained-clause-adds : goal.returns-in-Chained-clause-adds
+returns-in-Chained-clause-adds g c = rw c.in-Chained.is c.set-in-Chained.ensures.adds
 
-pub returns-in-Relative-clause-due : goal.returns-in-Relative-clause-due
-returns-in-Relative-clause-due g c = rw c.in-Relative.is c.set-in-Relative.ensures.due
+pub returns-in-Chained-clause-due : goal.returns-in-Chained-clause-due
+returns-in-Chained-clause-due g c = rw c.in-Chained.is c.set-in-Chained.ensures.due
 
-pub returns-in-Relative-clause-room : goal.returns-in-Relative-clause-room
-returns-in-Relative-clause-room g c = rw c.in-Relative.is c.set-in-Relative.ensures.room
+pub returns-in-Chained-clause-room : goal.returns-in-Chained-clause-room
+returns-in-Chained-clause-room g c = rw c.in-Chained.is c.set-in-Chained.ensures.room

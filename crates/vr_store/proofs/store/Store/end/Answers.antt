@@ -4,7 +4,6 @@ use Rattle.std.proofs.lemmas.List.Elements.{All-filter}
 use Rattle.vr_types.specs.Moments.{Guards}
 use Rattle.vr_log.specs.LogNow.{HasLog, with_record}
 use Rattle.vr_log.specs.declared.record.LogRecord.TheVariants.{End}
-use Rattle.vr_attach.proofs.CallerLemmas.{owner-past-log}
 use Rattle.vr_history.specs.Effects.{is_other}
 use Rattle.vr_history.specs.State.{BeforeImage, Logged}
 use Rattle.vr_undo.specs.Records.{befores_of, images_in, logged_of}
@@ -86,8 +85,8 @@ returns-clause-ended g c told volume old new stored current keeps made below =
     done.images done.befores done.logged c.forget.ensures.others made
     (done.rests told store.log.geometry volume (owners_of store) old new stored.volume current
     (firm store a set volume old stored unit none) keeps made generation)
-    (λ shape known rested. done.others told store.log.geometry (owners_of store) old new shape
-    known refl (owner-past-log store.log.geometry store.space) made rested))
+    (λ shape known rested. done.others told store.log.geometry volume (owners_of store) old new
+    shape known refl stored.volume (firm store a set volume old stored unit none) made rested))
     c.requires.set c.requires.none_left below stored
 
 pub returns-clause-set : goal.returns-clause-set

@@ -2,6 +2,7 @@ use Rattle.std.proofs.Common.{◌≡◌, ◌≢◌, ◌<◌, ℕ, Option, None, 
 use Rattle.std.proofs.Common.{refl, sym, ap, subst, inl, ◌∙◌, map, set}
 use Rattle.std.specs.Prelude.{All, IfSome}
 use Rattle.std.specs.Result.{IsErrAnd}
+use Rattle.vr_types.specs.Content.{Item}
 use Rattle.vr_types.specs.Moments.{Guards}
 use Rattle.vr_space.specs.Known.{HasMet}
 use Rattle.vr_space.specs.Part.{CanSet, IsGiven, IsPlaceOf, Shape, given}
@@ -13,14 +14,15 @@ use Rattle.vr_undo.specs.Records.{images_in}
 use Rattle.vr_volume.specs.Committed.{committed_by}
 use Rattle.vr_volume.specs.PutBack.{lengths_kept}
 use Rattle.vr_volume.specs.Safe.{IsSafeImage}
-use Rattle.vr_store.specs.Change.{IsReady, IsReadyBy, IsSettable, log_with, need_with}
+use Rattle.vr_store.specs.Change.{IsMadeOf, IsReady, IsReadyBy, IsSettable, log_with, need_with}
 use Rattle.vr_store.specs.Parts.{OnlyMet}
 use Rattle.vr_store.specs.Store.{ChangedBy, IsSet, PartNow, StoreNow, changed_by, part_among}
-use Rattle.vr_store.specs.Store.{owners_of, part_now, shape_among}
+use Rattle.vr_store.specs.Store.{left_among, owners_of, part_now, shape_among}
 use Rattle.vr_store.proofs.Fits.{ends-before, idle-made}
 use Rattle.vr_store.proofs.PartsAt.{laid-at, laid-found, none-laid, only-met, part-split}
 use Rattle.vr_store.proofs.PartsAt.{same-met}
-use Rattle.vr_store.proofs.ReadyParts.{change, kept, made-state, rested, room-to, to-any, to-set}
+use Rattle.vr_store.proofs.ReadyParts.{change, kept, left-item, made-state, rested, room-to, to-any}
+use Rattle.vr_store.proofs.ReadyParts.{to-set}
 use Rattle.vr_store.proofs.Recorded.{at-shape, number-at, set-at}
 use Rattle.vr_store.proofs.StoredAfter.{set-logged, stored-made}
 use Rattle.vr_store.proofs.Worked.{set-worked}
@@ -225,8 +227,12 @@ returns-clause-made g c told volume was old after need ready made needs =
     (sym c.self.view_is) ready in
     let need-is = needs ∙ ap (λ (s : StoreNow). need_with prepared.logged s.log prepared.rec)
     (sym c.self.view_is) in
+    let its = subst (λ (new : Option Item). IsMadeOf unit c.args.number place new need old after)
+    (ap (λ (s : StoreNow). left_among s.parts number old place item) (sym c.self.view_is)
+    ∙ left-item volume v unit c.args.number place prepared was old a by before found is-set at-place
+    item) made in
     stored-made volume v unit c.args.number place prepared was old a by
-    before found is-set at-place item need after made need-is
+    before found is-set at-place item need after its need-is
     (g.met.B.Blocks.cur_may c.args.blocks.now told) b c.set_at.new.log changed parts now at refl
     ensured.part
     (ensured.made told volume (owners_of v) old after
@@ -235,7 +241,7 @@ returns-clause-made g c told volume was old after need ready made needs =
     (kept volume v unit c.args.number place prepared was old a by
     before found is-set at-place item)
     (to-set volume v unit c.args.number place prepared was old a by
-    before found is-set at-place item need after made need-is))
+    before found is-set at-place item need after its need-is))
     c.set_at.ensures.had c.set_at.ensures.others
 
 pub returns-clause-set : goal.returns-clause-set

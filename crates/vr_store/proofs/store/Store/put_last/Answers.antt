@@ -7,7 +7,7 @@ use Rattle.vr_undo.specs.Records.{befores_of, image_of}
 use Rattle.vr_volume.specs.Committed.{committed_by}
 use Rattle.vr_volume.specs.PutBack.{lengths_kept}
 use Rattle.vr_volume.specs.Safe.{IsSafeImage}
-use Rattle.vr_store.specs.LastImage.{HasNoStage, OnLast, last_of_unit}
+use Rattle.vr_store.specs.LastImage.{HasNoStage, IsBackIn, OnLast, last_of_unit}
 use Rattle.vr_store.specs.Store.{IsFitImage, IsSet, IsStored, Stands, StoreNow, changed_by, part_now}
 use Rattle.vr_store.specs.Store.{PartNow, owners_of, part_among, shape_among}
 use Rattle.vr_store.proofs.LastImages.{back-in, back-made, back-of, back-state, can-back, last-has}
@@ -179,7 +179,8 @@ returns-clause-back g c told volume old new stored current back =
     (taken-from v a volume old was unit before last c.take_one.new.self c.take_one.ensures.images
     c.take_one.ensures.befores)
     (back-of v a volume old was unit before last current)
-    (back-in v a volume old was unit before last new back)
+    (back-in v a volume old was unit before last new
+    (subst (λ (s : StoreNow). IsBackIn s.log.geometry unit old new) (sym c.self.view_is) back))
 
 pub returns-clause-moments : goal.returns-clause-moments
 returns-clause-moments g c told volume old stored current =

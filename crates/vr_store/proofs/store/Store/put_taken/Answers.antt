@@ -9,12 +9,12 @@ use Rattle.vr_undo.specs.Records.{images_in}
 use Rattle.vr_volume.specs.Committed.{committed_by}
 use Rattle.vr_volume.specs.PutBack.{lengths_kept}
 use Rattle.vr_volume.specs.Safe.{IsSafeImage}
-use Rattle.vr_volume.specs.Steps.{IsChangeOf}
+use Rattle.vr_volume.specs.Steps.{IsChangeOf, IsPutBack}
 use Rattle.vr_store.specs.Change.{IsSettable}
 use Rattle.vr_store.specs.PutBack.{IsTaken, IsTakenFrom, back_at}
 use Rattle.vr_store.specs.Parts.{OnlyMet}
 use Rattle.vr_store.specs.Store.{ChangedBy, IsSet, PartNow, StoreNow, changed_by, part_among}
-use Rattle.vr_store.specs.Store.{owners_of, part_now, shape_among}
+use Rattle.vr_store.specs.Store.{left_among, owners_of, part_now, shape_among}
 use Rattle.vr_store.proofs.PutBack.{stored-taken, taken-part, to-back}
 use Rattle.vr_store.proofs.PartsAt.{laid-at, laid-found, none-laid, only-met, part-split}
 use Rattle.vr_store.proofs.PartsAt.{same-met}
@@ -266,11 +266,16 @@ returns-clause-back g c told =
     (λ back volume was old new from of put.
     let by = subst (λ (s : StoreNow). IsTakenFrom volume s unit old a) (sym c.self.view_is) from in
     let its = subst (λ (s : StoreNow). IsChangeOf s.log.geometry old
-    (back_at unit c.args.number place was item)) (sym c.self.view_is) of in
-    stored-taken volume v unit c.args.number place old a is-set before found by was item new its put
-    b changed parts now at same
-    (back volume (owners_of v) old new (back_at unit c.args.number place was item)
-    (to-back volume v unit c.args.number place old a is-set before found by was item new its put))
+    (back_at unit c.args.number place was (left_among s.parts number old place item)))
+    (sym c.self.view_is) of in
+    let puts = subst (λ (s : StoreNow). IsPutBack
+    (back_at unit c.args.number place was (left_among s.parts number old place item)) old new)
+    (sym c.self.view_is) put in
+    stored-taken volume v unit c.args.number place old a is-set before found by was item new its
+    puts b changed parts now at same
+    (back volume (owners_of v) old new
+    (back_at unit c.args.number place was (left_among v.parts number old place item))
+    (to-back volume v unit c.args.number place old a is-set before found by was item new its puts))
     c.set_back.ensures.had c.set_back.ensures.others)
     (c.set_back.ensures.back told)
 
@@ -300,12 +305,16 @@ returns-clause-moments g c told volume was old new from of put =
     let is-set = subst (λ (s : StoreNow). IsSet s a) (sym c.self.view_is) c.requires.set in
     let by = subst (λ (s : StoreNow). IsTakenFrom volume s unit old a) (sym c.self.view_is) from in
     let its = subst (λ (s : StoreNow). IsChangeOf s.log.geometry old
-    (back_at unit c.args.number place was item)) (sym c.self.view_is) of in
+    (back_at unit c.args.number place was (left_among s.parts number old place item)))
+    (sym c.self.view_is) of in
+    let puts = subst (λ (s : StoreNow). IsPutBack
+    (back_at unit c.args.number place was (left_among s.parts number old place item)) old new)
+    (sym c.self.view_is) put in
     subst (λ (s : StoreNow). Guards a (g.B.Blocks.seen c.set_back.new.blocks)
     (IsSafeImage s.log.geometry volume (owners_of s) s.log (committed_by old))) c.self.view_is
     (c.set_back.ensures.moments told volume (owners_of v) old new
-    (back_at unit c.args.number place was item) (to-back volume v unit c.args.number place old a
-    is-set before found by was item new its put))
+    (back_at unit c.args.number place was (left_among v.parts number old place item))
+    (to-back volume v unit c.args.number place old a is-set before found by was item new its puts))
 
 pub returns-clause-set : goal.returns-clause-set
 returns-clause-set g c =

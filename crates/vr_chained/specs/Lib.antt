@@ -1,0 +1,9 @@
+pub mod Chain
+pub mod Met
+pub mod Tail
+pub mod Owned
+pub mod Filled
+pub mod Searched
+pub mod Setting
+pub mod Extended
+pub mod Walked

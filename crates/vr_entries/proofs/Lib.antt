@@ -1,0 +1,5 @@
+pub mod CallerLemmas
+pub mod Making
+pub mod Passing
+pub mod Setting
+pub mod Walking

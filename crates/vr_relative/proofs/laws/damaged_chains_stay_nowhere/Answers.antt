@@ -1,6 +1,0 @@
-use Rattle.std.proofs.Common.{ℕ, IsTrue}
-use Rattle.vr_relative.proofs.Damaged.{damaged-nowhere}
-use Rattle.vr_relative.proofs.laws.damaged_chains_stay_nowhere.Goals as goal
-
-pub returns : goal.returns
-returns c = λ part taken. damaged-nowhere part (λ (area : ℕ). IsTrue (taken area))

@@ -1,5 +1,0 @@
-use Rattle.vr_relative.proofs.rules.slots_rule.Goals as goal
-
-pub returns-in-None : goal.returns-in-None
-returns-in-None c = c.rule_of_other.ensures c.args.layout.now c.requires.size
-    (c.interval_of.ensures.none c.in-None.is)

@@ -1,0 +1,4 @@
+pub mod ReadingSlots
+pub mod SlotSet
+pub mod WritingSlots
+pub mod CallerLemmas
