@@ -17,7 +17,7 @@ struct Judged {
     plain: Answers,
 }
 
-/// Judges the lists of the first so many samples of rosters and of intervals, and writes how many
+/// Judges the lists of the first samples, as many as the question says, and writes how many
 /// there are, how many stand for a content, and how many have two answers, after the first of
 /// these.
 pub fn judge(

@@ -80,7 +80,7 @@ impl Listed {
         }
     }
 
-    /// Takes the list of that number: of so many samples for each roster and each interval.
+    /// Takes the list of that number: of this many samples for each roster and each interval.
     pub fn take(&mut self, number: u32, rosters: u8, intervals: u8) {
         let mut rest = number;
         for (at, which) in self.which.iter_mut().enumerate() {

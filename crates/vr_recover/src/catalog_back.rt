@@ -12,20 +12,17 @@ ghost use Rattle.vr_recover.specs.Images.{HasName, IsNamed, name_in as name_of, 
 
 use std::alloc::Global;
 use vr_log::{LogRecord, UndoLog};
-use vr_types::{Bytes, OutOfMemory, Place};
-
-/// The bytes of a name, which is the place of a record of the catalog.
-const NAME_LENGTH: usize = 44;
+use vr_types::{Bytes, NAME_LIMIT, OutOfMemory, Place};
 
 /// The name of a record of the catalog: its first bytes.
 fn name_in(entry: &Bytes) -> &[u8]
     ensures { result.now ≡ name_of entry.now }
 {
     let bytes = entry.as_slice();
-    if bytes.len() <= NAME_LENGTH {
+    if bytes.len() <= NAME_LIMIT {
         return bytes;
     }
-    &bytes[..NAME_LENGTH]
+    &bytes[..NAME_LIMIT]
 }
 
 /// How many records from the first on have a name before this place.

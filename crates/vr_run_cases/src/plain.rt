@@ -12,7 +12,7 @@ pub enum Places {
     Keys(usize),
     /// In slots, under their numbers in four bytes.
     Slots,
-    /// At their addresses in four bytes, in intervals of so many bytes.
+    /// At their addresses in four bytes, in intervals of this many bytes.
     Addresses(u32),
 }
 

@@ -100,15 +100,15 @@ abbrev pub number_text : List ℕ → List ℕ
 number_text place = if length place == 4 then decimal (four_at 0 place) else literal_of place
 
 -- a key as a literal, an address or a slot as a number
-abbrev pub place_text : Kind → List ℕ → List ℕ
-place_text Keyed place = literal_of place
-place_text Entry place = number_text place
-place_text Relative place = number_text place
+abbrev pub place_named : Kind → List ℕ → List ℕ
+place_named Keyed place = literal_of place
+place_named Entry place = number_text place
+place_named Relative place = number_text place
 
 -- the place of a record, where there is one
 abbrev pub place_shown : Kind → Option (List ℕ) → List ℕ
 place_shown kind None = []
-place_shown kind (Some place) = codes " AT=" ++ place_text kind place
+place_shown kind (Some place) = codes " AT=" ++ place_named kind place
 
 -- the place and the record of a reply, or the numbers of its refusal
 abbrev pub values_of : Request → Reply → List ℕ

@@ -133,19 +133,19 @@ fn write_place(
 {
     if let Some(place) = place {
         out.extend(b" AT=")?;
-        write_place_text(alloc, out, kind, place.as_slice())?;
+        write_place_named(alloc, out, kind, place.as_slice())?;
     }
     Ok(())
 }
 
 /// Writes a key as a literal, an address or the number of a slot as a number.
-fn write_place_text(
+fn write_place_named(
     alloc: Global,
     out: &mut Bytes,
     kind: Kind,
     place: &[u8],
 ) -> Result<(), OutOfMemory>
-    ensures { OnOk result (out.new ≡ out.old ++ lines.place_text kind place.now) }
+    ensures { OnOk result (out.new ≡ out.old ++ lines.place_named kind place.now) }
 {
     match kind {
         Kind::Keyed => write_literal(place, out),
