@@ -99,23 +99,23 @@ same-made after unit line request given old new same = record {
 }
 
 stepped-made : (after : ℕ) (unit : UnitOfRecovery) (line : ℕ) (request given : Request)
-    (old new : FileNow) → HasStepped after unit request old new
+    (old new : FileNow) → HasStepped after unit line request old new
     → HasMade (Again given) after unit line request old new
 stepped-made after unit line request given old new is = ⊎_elim
     (λ same. same-made after unit line request given old new same)
     (λ step. ⊎_elim
-    (λ split. event-made (Again given) after unit line 0 request (Split split.0) old new old.locks
+    (λ split. event-made (Again given) after unit line line request (Split split.0) old new old.locks
     old.files old.files_room old.numbers split.1 (λ deck. refl)
-    (λ other differs. refl) (ap (λ (f : FileNow). f.numbers) split.1) (inr (_, refl, (refl, inl (split.0, refl)))))
+    (λ other differs. refl) (ap (λ (f : FileNow). f.numbers) split.1) (inr (_, refl, (refl, refl, inl (split.0, refl)))))
     (λ further. ⊎_elim
-    (λ claimed. event-made (Again given) after unit line 0 request (Claimed claimed.0 claimed.1) old
+    (λ claimed. event-made (Again given) after unit line line request (Claimed claimed.0 claimed.1) old
     new old.locks old.files old.files_room old.numbers claimed.2 (λ deck. refl)
     (λ other differs. refl) (ap (λ (f : FileNow). f.numbers) claimed.2)
-    (inr (_, refl, (refl, inr (inl (claimed.0, claimed.1, refl))))))
-    (λ back. event-made (Again given) after unit line 0 request (Undone back.1 back.2) old new
+    (inr (_, refl, (refl, refl, inr (inl (claimed.0, claimed.1, refl))))))
+    (λ back. event-made (Again given) after unit line line request (Undone back.1 back.2) old new
     old.locks old.files old.files_room old.numbers back.3 (λ deck. refl)
     (λ other differs. refl) (ap (λ (f : FileNow). f.numbers) back.3)
-    (inr (_, refl, (refl, inr (inr (back.0, back.1, back.2, refl))))))
+    (inr (_, refl, (refl, refl, inr (inr (back.0, back.1, back.2, refl))))))
     further)
     step) is
 

@@ -81,7 +81,7 @@ module _ {before now : Faults} {after : ℕ} {unit : UnitOfRecovery} {line : ℕ
 
   -- or a step of it was done.
   pub acted-again : before.reads ≤ now.reads → before.writes ≤ now.writes
-      → HasStepped after unit request old new
+      → HasStepped after unit line request old new
       → IsActed before now (Again request) after unit line request old new
   acted-again reads writes stepped =
       record { reads = reads; writes = writes; by = (refl, stepped) }
@@ -135,7 +135,7 @@ acted_room before now act after unit line request old new acted =
         let is : new.room ≡ old.room - 1 - 1 = ap (λ (f : FileNow). f.room) fails.0 in
         omega (arith, is)
 
-    by_step : HasStepped after unit request old new → old.room ≤ new.room + 2
+    by_step : HasStepped after unit line request old new → old.room ≤ new.room + 2
     by_step (inl same) =
         let is : new.room ≡ old.room = ap (λ (f : FileNow). f.room) same in omega (arith, is)
     by_step (inr (inl split)) = by_one (ap (λ (f : FileNow). f.room) split.1)

@@ -79,11 +79,11 @@ module _ (after : ℕ) (unit : UnitOfRecovery) (line : ℕ) (request : Request) 
       (sym (ap (λ (f : FileNow). f.entries) is) ∙ entries-are)
 
   -- and it wasn't that an interval was split,
-  pub not-split : (part : PartNo) → new ≡ with_event after unit 0 (Split part) old → ⊥
+  pub not-split : (part : PartNo) → new ≡ with_event after unit line (Split part) old → ⊥
   not-split part is =
       let same = last-same old.entries
       (entry_next old.entries after unit line (Asked request entered.reply))
-      (entry_next old.entries after unit 0 (Split part))
+      (entry_next old.entries after unit line (Split part))
       (sym entries-are ∙ ap (λ (f : FileNow). f.entries) is) in
       let what : Asked request entered.reply ≡ Split part =
       ap (λ (entry : Entry). entry.what) same in
@@ -91,11 +91,11 @@ module _ (after : ℕ) (unit : UnitOfRecovery) (line : ℕ) (request : Request) 
 
   -- nor that an area was given to a part
   pub not-claimed : (part : PartNo) (area : AreaNo)
-      → new ≡ with_event after unit 0 (Claimed part area) old → ⊥
+      → new ≡ with_event after unit line (Claimed part area) old → ⊥
   not-claimed part area is =
       let same = last-same old.entries
       (entry_next old.entries after unit line (Asked request entered.reply))
-      (entry_next old.entries after unit 0 (Claimed part area))
+      (entry_next old.entries after unit line (Claimed part area))
       (sym entries-are ∙ ap (λ (f : FileNow). f.entries) is) in
       let what : Asked request entered.reply ≡ Claimed part area =
       ap (λ (entry : Entry). entry.what) same in

@@ -244,16 +244,16 @@ module _ {B : Type 0} (seen : B → Seen) (opening : State) (part : PartNo)
       ∙ unlaid other none
 
   -- it took one
-  claimed : (to : FileNow) (after : ℕ) (unit : UnitOfRecovery) (area : AreaNo)
-      → to ≡ with_event after unit 0 (Claimed part area) volume.file
+  claimed : (to : FileNow) (after : ℕ) (unit : UnitOfRecovery) (line : ℕ) (area : AreaNo)
+      → to ≡ with_event after unit line (Claimed part area) volume.file
       → IsStaged seen opening part areas (Some area) volume → IsStateOf opening to
       → IsHeld seen opening (record volume { file = to })
-  claimed to after unit area leaves staged file =
+  claimed to after unit line area leaves staged file =
       let one : Owned = record { area = area.0; part = part.0 } in
       let state : state_now opening to ≡ claims area.0 part.0 before =
       ap (λ (f : FileNow). state_now opening f) leaves
       ∙ state_of-append volume.file.geometry opening volume.file.entries
-      (entry_next volume.file.entries after unit 0 (Claimed part area)) in
+      (entry_next volume.file.entries after unit line (Claimed part area)) in
       let owned : (state_now opening to).owned ≡ before.owned ++ one ∷ [] =
       ap (λ (s : State). s.owned) state in
       let geometry : to.geometry ≡ volume.file.geometry =
@@ -287,15 +287,15 @@ module _ {B : Type 0} (seen : B → Seen) (opening : State) (part : PartNo)
       }
 
   -- a volume of which a stage is entered is held
-  pub held-staged : (to : FileNow) (after : ℕ) (unit : UnitOfRecovery) (split : Bool)
-      (taken : Option AreaNo) → to ≡ stage_entered after unit part split taken volume.file
+  pub held-staged : (to : FileNow) (after : ℕ) (unit : UnitOfRecovery) (line : ℕ) (split : Bool)
+      (taken : Option AreaNo) → to ≡ stage_entered after unit line part split taken volume.file
       → IsStaged seen opening part areas taken volume → IsStateOf opening to
       → IsHeld seen opening (record volume { file = to })
-  held-staged to after unit split (Some area) leaves staged file =
-      claimed to after unit area leaves staged file
-  held-staged to after unit true None leaves staged file =
-      held-split seen opening volume to after unit part leaves (unclaimed staged) file
-  held-staged to after unit false None leaves staged file =
+  held-staged to after unit line split (Some area) leaves staged file =
+      claimed to after unit line area leaves staged file
+  held-staged to after unit line true None leaves staged file =
+      held-split seen opening volume to after unit line part leaves (unclaimed staged) file
+  held-staged to after unit line false None leaves staged file =
       subst (λ (f : FileNow). IsHeld seen opening (record volume { file = f })) (sym leaves)
       (unclaimed staged)
 
@@ -321,10 +321,10 @@ staged-of seen opening volume store blocks part taken whole going held laid by s
 
 -- whole too
 pub whole-staged : {B : Type 0} (seen : B → Seen) (volume : VolumeNow B) (to : FileNow) (after : ℕ)
-    (unit : UnitOfRecovery) (part : PartNo) (split : Bool) (taken : Option AreaNo)
-    → to ≡ stage_entered after unit part split taken volume.file → IsWhole seen volume
+    (unit : UnitOfRecovery) (line : ℕ) (part : PartNo) (split : Bool) (taken : Option AreaNo)
+    → to ≡ stage_entered after unit line part split taken volume.file → IsWhole seen volume
     → IsWhole seen (record volume { file = to })
-whole-staged seen volume to after unit part split taken leaves whole =
+whole-staged seen volume to after unit line part split taken leaves whole =
     subst (λ (f : FileNow). IsWhole seen (record volume { file = f })) (sym leaves)
     (of split taken)
   where
@@ -337,46 +337,46 @@ whole-staged seen volume to after unit part split taken leaves whole =
         (λ going. whole.set (sym stopped ∙ going))
 
     of : (split : Bool) (taken : Option AreaNo)
-        → IsWhole seen (record volume { file = stage_entered after unit part split taken volume.file })
+        → IsWhole seen (record volume { file = stage_entered after unit line part split taken volume.file })
     of split (Some area) =
-        with-entry (with_event after unit 0 (Claimed part area) volume.file) refl refl refl
-    of true None = with-entry (with_event after unit 0 (Split part) volume.file) refl refl refl
+        with-entry (with_event after unit line (Claimed part area) volume.file) refl refl refl
+    of true None = with-entry (with_event after unit line (Split part) volume.file) refl refl refl
     of false None = whole
 
 -- ---- its entry
 
-module _ (after : ℕ) (unit : UnitOfRecovery) (part : PartNo) (old new : FileNow) where
+module _ (after : ℕ) (unit : UnitOfRecovery) (line : ℕ) (part : PartNo) (old new : FileNow) where
   -- the request was stepped on,
   pub stepped-entered : (request : Request) (split : Bool) (taken : Option AreaNo)
-      → new ≡ stage_entered after unit part split taken old
-      → HasStepped after unit request old new
+      → new ≡ stage_entered after unit line part split taken old
+      → HasStepped after unit line request old new
   stepped-entered request split (Some area) leaves = inr (inr (inl (part, area, leaves)))
   stepped-entered request true None leaves = inr (inl (part, leaves))
   stepped-entered request false None leaves = inl leaves
 
   -- and not entered,
-  pub not-staged : (line : ℕ) (request : Request) (split : Bool) (taken : Option AreaNo)
-      → new ≡ stage_entered after unit part split taken old
+  pub not-staged : (request : Request) (split : Bool) (taken : Option AreaNo)
+      → new ≡ stage_entered after unit line part split taken old
       → IsEntered after unit line request old new → ⊥
-  not-staged line request split (Some area) leaves entered =
+  not-staged request split (Some area) leaves entered =
       not-claimed after unit line request old new entered part area leaves
-  not-staged line request true None leaves entered =
+  not-staged request true None leaves entered =
       not-split after unit line request old new entered part leaves
-  not-staged line request false None leaves entered =
+  not-staged request false None leaves entered =
       not-same after unit line request old new entered leaves
 
   -- and its state stays where it took no area
   pub state-unclaimed : (opening : State) (split : Bool) (taken : Option AreaNo) → taken ≡ None
-      → new ≡ stage_entered after unit part split taken old
+      → new ≡ stage_entered after unit line part split taken old
       → state_now opening new ≡ state_now opening old
   state-unclaimed opening split (Some area) none leaves = absurd (none-some area (sym none))
   state-unclaimed opening true None none leaves =
-      Rattle.vr_event.proofs.Wholes.state-split opening old new after unit part leaves
+      Rattle.vr_event.proofs.Wholes.state-split opening old new after unit line part leaves
   state-unclaimed opening false None none leaves =
       ap (λ (f : FileNow). state_now opening f) leaves
 
   pub geometry-staged : (split : Bool) (taken : Option AreaNo)
-      → new ≡ stage_entered after unit part split taken old → new.geometry ≡ old.geometry
+      → new ≡ stage_entered after unit line part split taken old → new.geometry ≡ old.geometry
   geometry-staged split (Some area) leaves = ap (λ (f : FileNow). f.geometry) leaves
   geometry-staged true None leaves = ap (λ (f : FileNow). f.geometry) leaves
   geometry-staged false None leaves = ap (λ (f : FileNow). f.geometry) leaves

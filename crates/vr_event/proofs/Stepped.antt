@@ -131,12 +131,13 @@ module _ (geometry : Geometry) (state : State) (unit : UnitOfRecovery) (last : B
 
 -- the state once it is entered
 pub undone-state : (opening : State) (file to : FileNow) (after : ℕ) (unit : UnitOfRecovery)
-    (part : PartNo) (place : List ℕ) → to ≡ with_event after unit 0 (Undone part place) file
+    (line : ℕ) (part : PartNo) (place : List ℕ)
+    → to ≡ with_event after unit line (Undone part place) file
     → state_now opening to ≡ puts_back unit (state_now opening file)
-undone-state opening file to after unit part place leaves =
+undone-state opening file to after unit line part place leaves =
     ap (λ (f : FileNow). state_now opening f) leaves
     ∙ state_of-append file.geometry opening file.entries
-    (entry_next file.entries after unit 0 (Undone part place))
+    (entry_next file.entries after unit line (Undone part place))
 
 -- the areas stay
 owned-back : (state : State) (unit : UnitOfRecovery) (found : Option BeforeImage)
@@ -147,16 +148,16 @@ owned-back state unit (Some last) = refl
 
 pub held-undone : {B : Type 0} (seen : B → Seen) (opening : State) (volume : VolumeNow B)
     (to : FileNow) (store : StoreNow) (blocks : B) (after : ℕ) (unit : UnitOfRecovery)
-    (part : PartNo) (place : List ℕ)
-    → to ≡ with_event after unit 0 (Undone part place) volume.file
+    (line : ℕ) (part : PartNo) (place : List ℕ)
+    → to ≡ with_event after unit line (Undone part place) volume.file
     → store.space ≡ volume.store.space → volume.file.stopped ≡ None
     → IsHeld seen opening volume → IsStateOf opening to
     → IsStored volume.number store (puts_back unit (state_now opening volume.file)) (seen blocks)
     → IsHeld seen opening (record volume { blocks = blocks; store = store; file = to })
-held-undone seen opening volume to store blocks after unit part place leaves space going held file
+held-undone seen opening volume to store blocks after unit line part place leaves space going held file
     stored =
     let before : State = state_now opening volume.file in
-    let state = undone-state opening volume.file to after unit part place leaves in
+    let state = undone-state opening volume.file to after unit line part place leaves in
     let owned : (state_now opening to).owned ≡ before.owned =
     ap (λ (s : State). s.owned) state ∙ owned-back before unit (last_kept before unit) in
     let geometry : to.geometry ≡ volume.file.geometry =

@@ -77,12 +77,12 @@ module _ {B : Type 0} (seen : B → Seen) where
 -- ---- a split
 
 pub state-split : (opening : State) (file to : FileNow) (after : ℕ) (unit : UnitOfRecovery)
-    (part : PartNo) → to ≡ with_event after unit 0 (Split part) file
+    (line : ℕ) (part : PartNo) → to ≡ with_event after unit line (Split part) file
     → state_now opening to ≡ state_now opening file
-state-split opening file to after unit part leaves =
+state-split opening file to after unit line part leaves =
     ap (λ (f : FileNow). state_now opening f) leaves
     ∙ state_of-append file.geometry opening file.entries
-    (entry_next file.entries after unit 0 (Split part))
+    (entry_next file.entries after unit line (Split part))
 
 alike-same : (old new : State) → new ≡ old → AreAlike old new
 alike-same old new same = subst (AreAlike old) (sym same) (record {
@@ -95,14 +95,14 @@ alike-same old new same = subst (AreAlike old) (sym same) (record {
 })
 
 pub held-split : {B : Type 0} (seen : B → Seen) (opening : State) (volume : VolumeNow B)
-    (to : FileNow) (after : ℕ) (unit : UnitOfRecovery) (part : PartNo)
-    → to ≡ with_event after unit 0 (Split part) volume.file → IsHeld seen opening volume
+    (to : FileNow) (after : ℕ) (unit : UnitOfRecovery) (line : ℕ) (part : PartNo)
+    → to ≡ with_event after unit line (Split part) volume.file → IsHeld seen opening volume
     → IsStateOf opening to → IsHeld seen opening (record volume { file = to })
-held-split seen opening volume to after unit part leaves held file =
+held-split seen opening volume to after unit line part leaves held file =
     held-alike seen opening volume to (ap (λ (f : FileNow). f.geometry) leaves)
     (ap (λ (f : FileNow). f.stopped) leaves)
     (alike-same (state_now opening volume.file) (state_now opening to)
-    (state-split opening volume.file to after unit part leaves)) held file
+    (state-split opening volume.file to after unit line part leaves)) held file
 
 -- ---- a fault of a write
 

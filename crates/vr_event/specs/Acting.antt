@@ -22,12 +22,12 @@ use Rattle.vr_event.specs.declared.act.Act.TheVariants.{Again, Done}
 
 -- A step was done, and the request wasn't entered: nothing was, or that an interval was split, or
 -- that an area was given to a part, or that a before-image was put back for a BACKOUT.
-abbrev pub HasStepped : ℕ → UnitOfRecovery → Request → FileNow → FileNow → Type 0
-HasStepped after unit request old new = (new ≡ old)
-    ⊎ ((part : PartNo) × (new ≡ with_event after unit 0 (Split part) old))
-    ⊎ ((part : PartNo) × (area : AreaNo) × (new ≡ with_event after unit 0 (Claimed part area) old))
+abbrev pub HasStepped : ℕ → UnitOfRecovery → ℕ → Request → FileNow → FileNow → Type 0
+HasStepped after unit line request old new = (new ≡ old)
+    ⊎ ((part : PartNo) × (new ≡ with_event after unit line (Split part) old))
+    ⊎ ((part : PartNo) × (area : AreaNo) × (new ≡ with_event after unit line (Claimed part area) old))
     ⊎ (IsTrue (is_backout request) × (part : PartNo) × (place : List ℕ)
-    × (new ≡ with_event after unit 0 (Undone part place) old))
+    × (new ≡ with_event after unit line (Undone part place) old))
 
 -- The request was entered: with a reply, beside which only locks and positions changed; as the end
 -- of its unit; or a write failed, which stops the volume, once the locks of the request were taken or
@@ -45,7 +45,7 @@ abbrev pub ByAct : Act → Faults → Faults → ℕ → UnitOfRecovery → ℕ 
 ByAct Done before now after unit line request old new =
     IsAnsweredFor before now after unit line request old new
 ByAct (Again given) before now after unit line request old new =
-    (given ≡ request) × HasStepped after unit request old new
+    (given ≡ request) × HasStepped after unit line request old new
 
 -- An event of a request: what was entered is by what it came to, and no count of faults fell.
 pub record IsActed (before now : Faults) (act : Act) (after : ℕ) (unit : UnitOfRecovery) (line : ℕ)

@@ -52,23 +52,23 @@ pub record HasAsked (unit : UnitOfRecovery) (line : ℕ) (request : Request) (ma
   pub what_is : entry.what ≡ Asked request reply
   pub follows : MayFollow unit line reply rest
 
--- an entry of a step: that an interval was split, that an area was given to a part, or that a BACKOUT
+-- an entry of a step, of the request on this line: that an interval was split, that an area was given to a part, or that a BACKOUT
 -- put a before-image back
-abbrev pub IsStepFor : UnitOfRecovery → Request → Entry → Type 0
-IsStepFor unit request entry = (entry.unit ≡ unit)
+abbrev pub IsStepFor : UnitOfRecovery → ℕ → Request → Entry → Type 0
+IsStepFor unit line request entry = (entry.unit ≡ unit) × (entry.line ≡ line)
     × (((part : PartNo) × (entry.what ≡ Split part))
     ⊎ ((part : PartNo) × (area : AreaNo) × (entry.what ≡ Claimed part area))
     ⊎ (IsTrue (is_backout request) × (part : PartNo) × (place : List ℕ)
     × (entry.what ≡ Undone part place)))
 
 -- A step was done, and the request wasn't entered.
-abbrev pub HasStep : UnitOfRecovery → Request → List Entry → Type 0
-HasStep unit request made = (made ≡ [])
-    ⊎ ((entry : Entry) × (made ≡ entry ∷ []) × IsStepFor unit request entry)
+abbrev pub HasStep : UnitOfRecovery → ℕ → Request → List Entry → Type 0
+HasStep unit line request made = (made ≡ [])
+    ⊎ ((entry : Entry) × (made ≡ entry ∷ []) × IsStepFor unit line request entry)
 
 abbrev pub MadeBy : Act → UnitOfRecovery → ℕ → Request → List Entry → Type 0
 MadeBy Done unit line request made = HasAsked unit line request made
-MadeBy (Again given) unit line request made = HasStep unit request made
+MadeBy (Again given) unit line request made = HasStep unit line request made
 
 -- until the request is entered, the numbers of units stay
 abbrev pub NumbersStay : Act → FileNow → FileNow → Type 0

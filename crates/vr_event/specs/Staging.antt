@@ -25,12 +25,13 @@ IsTakenBy part old new None = new ≡ old
 IsTakenBy part old new (Some area) =
     (least_free old ≡ Some area.0) × (new ≡ slice_set old area.0 (Some part))
 
--- the record file once the stage is entered: a stage that takes an area splits no interval in two
-abbrev pub stage_entered : ℕ → UnitOfRecovery → PartNo → Bool → Option AreaNo → FileNow → FileNow
-stage_entered after unit part split (Some area) file =
-    with_event after unit 0 (Claimed part area) file
-stage_entered after unit part true None file = with_event after unit 0 (Split part) file
-stage_entered after unit part false None file = file
+-- the record file once the stage is entered, for the request on this line: a stage that takes an area splits no interval in two
+abbrev pub stage_entered : ℕ → UnitOfRecovery → ℕ → PartNo → Bool → Option AreaNo → FileNow
+    → FileNow
+stage_entered after unit line part split (Some area) file =
+    with_event after unit line (Claimed part area) file
+stage_entered after unit line part true None file = with_event after unit line (Split part) file
+stage_entered after unit line part false None file = file
 
 -- A volume of which a stage of a part was done, before that is entered: its history gives the areas
 -- as they were, one for each that its geometry has; the catalog lays the part, which got this area, or

@@ -158,7 +158,7 @@ impl<B: Blocks, P: Part> Volume<B, P> {
         match self.store.advance_last(&mut self.blocks, unit, length) {
             Ok(split) => {
                 let taken = area_taken(least, free, self.store.free_areas());
-                self.enter_stage(unit, part, split.is_some(), taken, after);
+                self.enter_stage(unit, line, part, split.is_some(), taken, after);
                 Act::Again(request)
             }
             Err(DeviceFault::Read) => {
@@ -172,12 +172,13 @@ impl<B: Blocks, P: Part> Volume<B, P> {
         }
     }
 
-    /// Enters that the last before-image that a unit kept was put back. It takes no memory.
-    fn enter_undone(&mut self, unit: Unit, before: Before, after: u64)
+    /// Enters that the last before-image that a unit kept was put back, for the BACKOUT on this line. It
+    /// takes no memory.
+    fn enter_undone(&mut self, unit: Unit, line: u32, before: Before, after: u64)
         requires room { 0 < self.old.file.room }
         requires last { last_stamp 0 self.old.file.entries < 2 ^ 64 - 2 }
         requires after { after < 2 ^ 64 - 2 }
-        ensures leaves { self.new.file ≡ with_event after unit 0
+        ensures leaves { self.new.file ≡ with_event after unit line
             (whats.Undone before.part before.place) self.old.file }
         ensures state { (opening : State) → IsStateOf opening self.old.file
             → IsLastKept (state_now opening self.old.file) unit before.part.0 before.place
@@ -186,7 +187,7 @@ impl<B: Blocks, P: Part> Volume<B, P> {
         ensures store { self.new.store ≡ self.old.store }
         ensures volume { self.new.number ≡ self.old.number }
     {
-        self.file.undone(unit, before.part, before.place, after);
+        self.file.undone(unit, line, before.part, before.place, after);
     }
 
     /// Puts back the last before-image that a unit keeps, and enters that (`Again`). Room was asked
@@ -220,7 +221,7 @@ impl<B: Blocks, P: Part> Volume<B, P> {
     {
         match self.store.put_last(&mut self.blocks, unit) {
             Ok(before) => {
-                self.enter_undone(unit, before, after);
+                self.enter_undone(unit, line, before, after);
                 Act::Again(request)
             }
             Err(_) => {

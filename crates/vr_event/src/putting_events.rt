@@ -137,7 +137,7 @@ impl<B: Blocks, P: Part> Volume<B, P> {
         match self.store.advance(&mut self.blocks, part, place, length) {
             Ok(kind) => {
                 let taken = area_taken(least, free, self.store.free_areas());
-                self.enter_stage(unit, part, splits_interval(kind), taken, after);
+                self.enter_stage(unit, line, part, splits_interval(kind), taken, after);
                 Act::Again(request)
             }
             Err(DeviceFault::Read) => {

@@ -33,10 +33,11 @@ pub(crate) fn splits_interval(kind: StageKind) -> bool
 
 impl<B: Blocks, P: Part> Volume<B, P> {
     /// Enters what a stage of a part left: that it took an area, or that an interval was split in two
-    /// where it was. It takes no memory.
+    /// where it was, for the request on this line. It takes no memory.
     pub(crate) fn enter_stage(
         &mut self,
         unit: Unit,
+        line: u32,
         part: PartNo,
         split: bool,
         taken: Option<AreaNo>,
@@ -45,7 +46,8 @@ impl<B: Blocks, P: Part> Volume<B, P> {
         requires room { 0 < self.old.file.room }
         requires last { last_stamp 0 self.old.file.entries < 2 ^ 64 - 2 }
         requires after { after < 2 ^ 64 - 2 }
-        ensures leaves { self.new.file ≡ stage_entered after unit part split taken self.old.file }
+        ensures leaves { self.new.file ≡ stage_entered after unit line part split taken
+            self.old.file }
         ensures held { IsTrue B.tells → (opening : State)
             → (areas : List (Option part_numbers.PartNo))
             → IsStaged B.seen opening part areas taken self.old → IsHeld B.seen opening self.new }
@@ -55,8 +57,8 @@ impl<B: Blocks, P: Part> Volume<B, P> {
         ensures volume { self.new.number ≡ self.old.number }
     {
         match taken {
-            Some(area) => self.file.claim(unit, part, area, after),
-            None if split => self.file.split(unit, part, after),
+            Some(area) => self.file.claim(unit, line, part, area, after),
+            None if split => self.file.split(unit, line, part, after),
             None => {}
         }
     }

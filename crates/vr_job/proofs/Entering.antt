@@ -52,12 +52,12 @@ made-own (Again given) asking line request made is = ⊎_elim
     (All-nil (IsOf asking.deck)))) is
 
 -- the entry of a step answers no request
-pub step-none : (volume : ℕ) (asking : UnitOfRecovery) (request : Request) (entry : Entry)
-    → IsStepFor asking request entry → request_in volume entry.line entry.what ≡ []
-step-none volume asking request entry is = ⊎_elim
+pub step-none : (volume : ℕ) (asking : UnitOfRecovery) (line : ℕ) (request : Request)
+    (entry : Entry) → IsStepFor asking line request entry → request_in volume entry.line entry.what ≡ []
+step-none volume asking line request entry is = ⊎_elim
     (λ split. ap (request_in volume entry.line) split.1)
     (λ later. ⊎_elim (λ claim. ap (request_in volume entry.line) claim.2)
-    (λ back. ap (request_in volume entry.line) back.3) later) is.1
+    (λ back. ap (request_in volume entry.line) back.3) later) is.1.1
 
 module _ (number deck : ℕ) where
   abbrev part-of : List Entry → List Bound
@@ -101,7 +101,7 @@ made-answers Done number asking line request made is =
 made-answers (Again given) number asking line request made is = ⊎_elim
     (λ none. ap (part-of number asking.deck) none)
     (λ one. ap (part-of number asking.deck) one.1
-    ∙ none-asked number asking.deck one.0 (step-none number asking request one.0 one.2)) is
+    ∙ none-asked number asking.deck one.0 (step-none number asking line request one.0 one.2)) is
 
 -- ---- whether a deck's unit has begun to undo
 
@@ -135,7 +135,7 @@ made-goes (Again given) asking line request made own is may = ⊎_elim
     (sym (ap (λ (m : List Entry). undoes (own ++ m)) one.1
     ∙ undoes-append false own (one.0 ∷ [])
     ∙ ap (asked.undoing_after (undoes own)) claim.2)) may)
-    (λ back. inr back.0) later) one.2.1) is
+    (λ back. inr back.0) later) one.2.1.1) is
 
 -- ---- what is entered
 

@@ -65,17 +65,17 @@ one-entered after unit line what old mid new leaves stopped entries none = recor
       (entry_next mid.entries after unit line what) (subst AreFaultless (sym entries) before) none);
 }
 
-stepped : (after : ℕ) (unit : UnitOfRecovery) (request : Request) (old new : FileNow)
-    → HasStepped after unit request old new → NoFault old new
-stepped after unit request old new is = ⊎_elim
+stepped : (after : ℕ) (unit : UnitOfRecovery) (line : ℕ) (request : Request) (old new : FileNow)
+    → HasStepped after unit line request old new → NoFault old new
+stepped after unit line request old new is = ⊎_elim
     (λ same. same-file old new same)
     (λ step. ⊎_elim
-    (λ split. one-entered after unit 0 (Split split.0) old old new split.1 refl refl
+    (λ split. one-entered after unit line (Split split.0) old old new split.1 refl refl
     (split-none split.0))
     (λ later. ⊎_elim
-    (λ claim. one-entered after unit 0 (Claimed claim.0 claim.1) old old new claim.2 refl refl
+    (λ claim. one-entered after unit line (Claimed claim.0 claim.1) old old new claim.2 refl refl
     (claimed-none claim.0 claim.1))
-    (λ back. one-entered after unit 0 (Undone back.1 back.2) old old new back.3 refl refl
+    (λ back. one-entered after unit line (Undone back.1 back.2) old old new back.3 refl refl
     (undone-none back.1 back.2))
     later)
     step) is
@@ -101,7 +101,7 @@ pub acted-faultless : (before now : Faults) (act : Act) (after : ℕ) (unit : Un
 acted-faultless before now Done after unit line request old new same is =
     answered before now after unit line request old new same is.by
 acted-faultless before now (Again given) after unit line request old new same is =
-    stepped after unit request old new is.by.1
+    stepped after unit line request old new is.by.1
 
 -- a history without entries
 pub faultless-none : (entries : List Entry) → entries ≡ [] → AreFaultless entries

@@ -87,7 +87,7 @@ made-once (Again given) unit line request made is =
   where
     none : requests_in made ≡ []
     none = ⊎_elim (λ no. ap requests_in no)
-        (λ one. ap requests_in one.1 ∙ alone one.0 (step-none 0 unit request one.0 one.2)) is
+        (λ one. ap requests_in one.1 ∙ alone one.0 (step-none 0 unit line request one.0 one.2)) is
 
 module _ {B : Type 0} (seen : B → Seen) (faults : B → Faults) (old new : VolumeNow B) (act : Act)
     (after : ℕ) (unit : UnitOfRecovery) (line : ℕ) (request : Request)

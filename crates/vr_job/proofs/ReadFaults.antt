@@ -81,14 +81,14 @@ module _ (old new : FileNow) (made : List Entry)
       are = ap (λ (f : FileNow). f.entries) leaves
           ∙ ap (λ (es : List Entry). es ++ entry_next mid.entries after unit line what ∷ []) same
 
-  stepped-read : (after : ℕ) (unit : UnitOfRecovery) (request : Request)
-      → HasStepped after unit request old new → read_faults made ≡ 0
-  stepped-read after unit request is = ⊎_elim none-read
+  stepped-read : (after : ℕ) (unit : UnitOfRecovery) (line : ℕ) (request : Request)
+      → HasStepped after unit line request old new → read_faults made ≡ 0
+  stepped-read after unit line request is = ⊎_elim none-read
       (λ step. ⊎_elim
-      (λ split. one-read after unit 0 (Split split.0) old split.1 refl)
+      (λ split. one-read after unit line (Split split.0) old split.1 refl)
       (λ later. ⊎_elim
-      (λ claim. one-read after unit 0 (Claimed claim.0 claim.1) old claim.2 refl)
-      (λ back. one-read after unit 0 (Undone back.1 back.2) old back.3 refl) later) step) is
+      (λ claim. one-read after unit line (Claimed claim.0 claim.1) old claim.2 refl)
+      (λ back. one-read after unit line (Undone back.1 back.2) old back.3 refl) later) step) is
 
   -- a write failed
   failed-read : (after : ℕ) (unit : UnitOfRecovery) (line : ℕ) (request : Request) (mid : FileNow)
@@ -135,4 +135,4 @@ module _ (old new : FileNow) (made : List Entry)
   acted-reads before now Done after unit line request is =
       answered-read before now after unit line request is.reads is.by
   acted-reads before now (Again given) after unit line request is =
-      omega (arith, is.reads, stepped-read after unit request is.by.1)
+      omega (arith, is.reads, stepped-read after unit line request is.by.1)

@@ -189,12 +189,12 @@ commit-first (Again given) unit line request made is done = absurd (⊎_elim
     undone-done : (part : PartNo) (place : List ℕ) → IsDoneCommit (Undone part place) → ⊥
     undone-done part place done = cc
 
-    step-done : (entry : Entry) → IsStepFor unit request entry → IsDoneCommit entry.what → ⊥
+    step-done : (entry : Entry) → IsStepFor unit line request entry → IsDoneCommit entry.what → ⊥
     step-done entry step done = ⊎_elim
         (λ split. split-done split.0 (subst IsDoneCommit split.1 done))
         (λ later. ⊎_elim
         (λ claim. claimed-done claim.0 claim.1 (subst IsDoneCommit claim.2 done))
-        (λ back. undone-done back.1 back.2 (subst IsDoneCommit back.3 done)) later) step.1
+        (λ back. undone-done back.1 back.2 (subst IsDoneCommit back.3 done)) later) step.1.1
 
 second-faulted : (entry fault : Entry) → AreFaultless (entry ∷ fault ∷ []) → IsFaulted fault.what
     → ⊥

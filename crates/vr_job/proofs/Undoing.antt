@@ -65,9 +65,9 @@ shows-same old new entries numbers shows unit undoing =
 
 -- ---- where a step is entered
 
-module _ (asking : UnitOfRecovery) (request : Request) (old new : FileNow) (entry : Entry)
-    (entries : new.entries ≡ old.entries ++ entry ∷ []) (numbers : new.numbers ≡ old.numbers)
-    (step : IsStepFor asking request entry) (current : asking ≡ unit_of asking.deck old)
+module _ (asking : UnitOfRecovery) (line : ℕ) (request : Request) (old new : FileNow)
+    (entry : Entry) (entries : new.entries ≡ old.entries ++ entry ∷ []) (numbers : new.numbers ≡ old.numbers)
+    (step : IsStepFor asking line request entry) (current : asking ≡ unit_of asking.deck old)
     (shows : ShowUndoing old) where
   abbrev Shown : UnitOfRecovery → Type 0
   Shown unit = (unit ≡ unit_of unit.deck new)
@@ -83,7 +83,7 @@ module _ (asking : UnitOfRecovery) (request : Request) (old new : FileNow) (entr
   keeps : asked.undoing_after true entry.what ≡ true
   keeps = ⊎_elim (λ split. ap (asked.undoing_after true) split.1)
       (λ later. ⊎_elim (λ claim. ap (asked.undoing_after true) claim.2)
-      (λ back. ap (asked.undoing_after true) back.3) later) step.1
+      (λ back. ap (asked.undoing_after true) back.3) later) step.1.1
 
   -- a unit that had begun before
   before-shown : (unit : UnitOfRecovery) → is_undoing unit old.entries ≡ true → Shown unit
@@ -126,7 +126,7 @@ module _ (asking : UnitOfRecovery) (request : Request) (old new : FileNow) (entr
       (or_cases was (same_unit unit asking) (sym (whole
       ∙ ap (undoing_after unit was entry) back.3
       ∙ ap (λ (u : UnitOfRecovery). was || same_unit unit u) step.0) ∙ undoing)))
-      later) step.1
+      later) step.1.1
     where
       was : Bool
       was = is_undoing unit old.entries
@@ -204,7 +204,7 @@ event-shows (Again given) after asking line request old new is current shows = �
     (λ none. shows-same old new
     (is.entries ∙ ap (λ (m : List Entry). old.entries ++ m) none ∙ append-nil old.entries)
     (λ deck. ap (λ (them : List DeckNumber). number_of them deck) is.numbers) shows)
-    (λ one. step-shows asking request old new one.0
+    (λ one. step-shows asking line request old new one.0
     (is.entries ∙ ap (λ (m : List Entry). old.entries ++ m) one.1) is.numbers one.2 current shows
     (subst (All (IsOf asking.deck)) one.1
     (made-own (Again given) asking line request is.made is.by)))

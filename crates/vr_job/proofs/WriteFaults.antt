@@ -43,14 +43,14 @@ module _ (old new : FileNow) (made : List Entry) (entries : new.entries ≡ old.
         ∙ ap (λ (es : List Entry). es ++ entry_next mid.entries after unit line what ∷ []) same)),
   )
 
-  not-stepped : (after : ℕ) (unit : UnitOfRecovery) (request : Request)
-      → HasStepped after unit request old new → ⊥
-  not-stepped after unit request is = ⊎_elim not-none
+  not-stepped : (after : ℕ) (unit : UnitOfRecovery) (line : ℕ) (request : Request)
+      → HasStepped after unit line request old new → ⊥
+  not-stepped after unit line request is = ⊎_elim not-none
       (λ step. ⊎_elim
-      (λ split. not-one after unit 0 (Split split.0) old split.1 refl)
+      (λ split. not-one after unit line (Split split.0) old split.1 refl)
       (λ later. ⊎_elim
-      (λ claim. not-one after unit 0 (Claimed claim.0 claim.1) old claim.2 refl)
-      (λ back. not-one after unit 0 (Undone back.1 back.2) old back.3 refl) later) step) is
+      (λ claim. not-one after unit line (Claimed claim.0 claim.1) old claim.2 refl)
+      (λ back. not-one after unit line (Undone back.1 back.2) old back.3 refl) later) step) is
 
   answered-rose : (before now : Faults) (after : ℕ) (unit : UnitOfRecovery) (line : ℕ)
       (request : Request) → IsAnsweredFor before now after unit line request old new
@@ -71,4 +71,4 @@ module _ (old new : FileNow) (made : List Entry) (entries : new.entries ≡ old.
   acted-rose before now Done after unit line request is =
       answered-rose before now after unit line request is.by
   acted-rose before now (Again given) after unit line request is =
-      absurd (not-stepped after unit request is.by.1)
+      absurd (not-stepped after unit line request is.by.1)

@@ -230,12 +230,12 @@ module _ (file : FileNow) (state : State) (unit : UnitOfRecovery) (kept : Before
       }
 
 pub undone_state : (opening : State) (file : FileNow) (after : ℕ) (unit : UnitOfRecovery)
-    (part : PartNo) (place : List ℕ) → IsStateOf opening file
+    (line : ℕ) (part : PartNo) (place : List ℕ) → IsStateOf opening file
     → IsLastKept (state_now opening file) unit part.0 place
-    → IsStateOf opening (with_event after unit 0 (Undone part place) file)
-undone_state opening file after unit part place is last =
+    → IsStateOf opening (with_event after unit line (Undone part place) file)
+undone_state opening file after unit line part place is last =
     let state : State = state_now opening file in
-    entered opening file file after 0 unit (Undone part place) is last tt refl
+    entered opening file file after line unit (Undone part place) is last tt refl
     (subst (λ (o : Option BeforeImage). IsOf file (option_map_or
     (λ this. takes_out unit (changes (change_back state this) state)) o state)) (sym last.1)
     (put_is file state unit last.0 is.now
@@ -244,20 +244,20 @@ undone_state opening file after unit part place is last =
 
 -- a split moves nothing
 pub split_state : (opening : State) (file : FileNow) (after : ℕ) (unit : UnitOfRecovery)
-    (part : PartNo) → IsStateOf opening file
-    → IsStateOf opening (with_event after unit 0 (Split part) file)
-split_state opening file after unit part is =
-    entered opening file file after 0 unit (Split part) is tt tt refl is.now
+    (line : ℕ) (part : PartNo) → IsStateOf opening file
+    → IsStateOf opening (with_event after unit line (Split part) file)
+split_state opening file after unit line part is =
+    entered opening file file after line unit (Split part) is tt tt refl is.now
 
 -- an area is given to a part of the catalog
 pub claimed_state : (opening : State) (file : FileNow) (after : ℕ) (unit : UnitOfRecovery)
-    (part : PartNo) (area : AreaNo) → IsStateOf opening file
+    (line : ℕ) (part : PartNo) (area : AreaNo) → IsStateOf opening file
     → IsLeastFree file.geometry (state_now opening file) area.0
     → has_part (parts_laid file.catalog) part.0 ≡ true
-    → IsStateOf opening (with_event after unit 0 (Claimed part area) file)
-claimed_state opening file after unit part area is free laid =
+    → IsStateOf opening (with_event after unit line (Claimed part area) file)
+claimed_state opening file after unit line part area is free laid =
     let now = is.now in
-    entered opening file file after 0 unit (Claimed part area) is free tt refl (record {
+    entered opening file file after line unit (Claimed part area) is free tt refl (record {
       catalog = now.catalog;
       locks = now.locks;
       positions = now.positions;

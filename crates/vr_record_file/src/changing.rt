@@ -79,43 +79,44 @@ impl RecordFile {
         self.enter_asked(unit, line, request, reply, after);
     }
 
-    /// Enters that the last before-image that a unit keeps was put back. It takes no memory.
-    pub fn undone(&mut self, unit: Unit, part: PartNo, place: Place, after: u64)
+    /// Enters that the last before-image that a unit keeps was put back, for the request on this line. It
+    /// takes no memory.
+    pub fn undone(&mut self, unit: Unit, line: u32, part: PartNo, place: Place, after: u64)
         requires room { 0 < self.old.room }
         requires last { last_stamp 0 self.old.entries < 2 ^ 64 - 2 }
         requires after { after < 2 ^ 64 - 2 }
-        ensures leaves { self.new ≡ with_event after unit 0 (whats.Undone part place) self.old }
+        ensures leaves { self.new ≡ with_event after unit line (whats.Undone part place) self.old }
         ensures state { (opening : State) → IsStateOf opening self.old
             → IsLastKept (state_now opening self.old) unit part.0 place
             → IsStateOf opening self.new }
     {
-        self.enter(unit, 0, What::Undone { part, place }, after);
+        self.enter(unit, line, What::Undone { part, place }, after);
     }
 
-    /// Enters that an interval was split. It takes no memory.
-    pub fn split(&mut self, unit: Unit, part: PartNo, after: u64)
+    /// Enters that an interval was split, for the request on this line. It takes no memory.
+    pub fn split(&mut self, unit: Unit, line: u32, part: PartNo, after: u64)
         requires room { 0 < self.old.room }
         requires last { last_stamp 0 self.old.entries < 2 ^ 64 - 2 }
         requires after { after < 2 ^ 64 - 2 }
-        ensures leaves { self.new ≡ with_event after unit 0 (whats.Split part) self.old }
+        ensures leaves { self.new ≡ with_event after unit line (whats.Split part) self.old }
         ensures state { (opening : State) → IsStateOf opening self.old
             → IsStateOf opening self.new }
     {
-        self.enter(unit, 0, What::Split { part }, after);
+        self.enter(unit, line, What::Split { part }, after);
     }
 
-    /// Enters that an area was given to a part of the catalog: the least that no part has. It takes
-    /// no memory.
-    pub fn claim(&mut self, unit: Unit, part: PartNo, area: AreaNo, after: u64)
+    /// Enters that an area was given to a part of the catalog, for the request on this line: the least
+    /// that no part has. It takes no memory.
+    pub fn claim(&mut self, unit: Unit, line: u32, part: PartNo, area: AreaNo, after: u64)
         requires room { 0 < self.old.room }
         requires last { last_stamp 0 self.old.entries < 2 ^ 64 - 2 }
         requires after { after < 2 ^ 64 - 2 }
-        ensures leaves { self.new ≡ with_event after unit 0 (whats.Claimed part area) self.old }
+        ensures leaves { self.new ≡ with_event after unit line (whats.Claimed part area) self.old }
         ensures state { (opening : State) → IsStateOf opening self.old
             → IsLeastFree self.old.geometry (state_now opening self.old) area.0
             → has_part (parts_laid self.old.catalog) part.0 ≡ true
             → IsStateOf opening self.new }
     {
-        self.enter(unit, 0, What::Claimed { part, area }, after);
+        self.enter(unit, line, What::Claimed { part, area }, after);
     }
 }

@@ -127,11 +127,11 @@ returns-in-Ok-clause-again g c told keyed opening =
     (c.area_taken-taken.ensures c.args.part before.store.space c.advance.new.self.space
     c.least_free-least.ensures c.free_areas-free.ensures c.free_areas.ensures (inl space)) space in (
       subst (λ (f : FileNow). c.enter_stage.new.self.file.geometry ≡ f.geometry) of-file
-          (geometry-staged c.args.after c.args.unit c.args.part before.file
+          (geometry-staged c.args.after c.args.unit c.args.line c.args.part before.file
           c.enter_stage.new.self.file _ _ c.enter_stage.ensures.leaves),
       subst (λ (f : FileNow). state_now opening c.enter_stage.new.self.file
           ≡ state_now opening f) of-file
-          (state-unclaimed c.args.after c.args.unit c.args.part before.file
+          (state-unclaimed c.args.after c.args.unit c.args.line c.args.part before.file
           c.enter_stage.new.self.file opening _ _ taken c.enter_stage.ensures.leaves),
     )
 
@@ -146,14 +146,14 @@ returns-in-Ok-clause-acted g c =
     (acts.Again c.args.request) c.args.after c.args.unit c.args.line c.args.request
     c.self.inside.file c.enter_stage.new.self.file) (sym c.enter_stage.ensures.blocks)
     (acted-again cause.reads cause.writes
-    (stepped-entered c.args.after c.args.unit c.args.part c.self.inside.file
+    (stepped-entered c.args.after c.args.unit c.args.line c.args.part c.self.inside.file
     c.enter_stage.new.self.file c.args.request _ _ c.enter_stage.ensures.leaves)))
 
 pub returns-in-Ok-clause-lacks : goal.returns-in-Ok-clause-lacks
 returns-in-Ok-clause-lacks g c entered need free is =
     let of-file = ap (λ (v : VolumeNow g.row.B.Denot). v.file) c.self.view_is in
-    not-staged c.args.after c.args.unit c.args.part c.self.inside.file c.enter_stage.new.self.file
-    c.args.line c.args.request _ _ c.enter_stage.ensures.leaves
+    not-staged c.args.after c.args.unit c.args.line c.args.part c.self.inside.file
+    c.enter_stage.new.self.file c.args.request _ _ c.enter_stage.ensures.leaves
     (subst (λ (f : FileNow). IsEntered c.args.after c.args.unit c.args.line c.args.request f
     c.enter_stage.new.self.file) (sym of-file) entered)
 

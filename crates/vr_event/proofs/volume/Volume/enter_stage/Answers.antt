@@ -18,8 +18,8 @@ returns-in-Some-clause-held g c told opening areas staged =
     subst (λ (taken : Option AreaNo). IsStaged seen opening c.args.part areas taken before)
     c.in-Some.is (subst (IsStaged seen opening c.args.part areas c.args.taken) (sym c.self.view_is)
     staged) in
-    held-staged seen opening c.args.part areas before c.claim.new.self c.args.after c.args.unit true
-    (Some c.in-Some.area) c.claim.ensures.leaves mine
+    held-staged seen opening c.args.part areas before c.claim.new.self c.args.after c.args.unit
+    c.args.line true (Some c.in-Some.area) c.claim.ensures.leaves mine
     (c.claim.ensures.state opening mine.file
     (staged-least seen opening c.args.part areas before c.in-Some.area mine)
     (staged-laid seen opening c.args.part areas before (Some c.in-Some.area) mine))
@@ -37,5 +37,5 @@ returns-in-None-clause-held g c told opening areas staged =
     subst (λ (taken : Option AreaNo). IsStaged seen opening c.args.part areas taken before)
     c.in-None.is (subst (IsStaged seen opening c.args.part areas c.args.taken) (sym c.self.view_is)
     staged) in
-    held-staged seen opening c.args.part areas before c.split.new.self c.args.after c.args.unit true
-    None c.split.ensures.leaves mine (c.split.ensures.state opening mine.file)
+    held-staged seen opening c.args.part areas before c.split.new.self c.args.after c.args.unit
+    c.args.line true None c.split.ensures.leaves mine (c.split.ensures.state opening mine.file)

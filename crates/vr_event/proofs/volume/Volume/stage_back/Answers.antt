@@ -78,7 +78,7 @@ returns-in-Ok-clause-acted g c =
     (acts.Again c.args.request) c.args.after c.args.unit c.args.line c.args.request
     c.self.inside.file c.enter_stage.new.self.file) (sym c.enter_stage.ensures.blocks)
     (acted-again cause.reads cause.writes
-    (stepped-entered c.args.after c.args.unit c.in-Some.part c.self.inside.file
+    (stepped-entered c.args.after c.args.unit c.args.line c.in-Some.part c.self.inside.file
     c.enter_stage.new.self.file c.args.request _ _ c.enter_stage.ensures.leaves)))
 
 pub returns-in-Err-Read-clause-held : goal.returns-in-Err-Read-clause-held
