@@ -1,7 +1,7 @@
 -- What is committed of a volume in a state of its record file, by the log that an image has: the
--- records of the state with the before-images put back that its units keep, but for a unit whose
--- commit the log has already. What was withdrawn is left out. And what the log of such a volume
--- has. The rules are this project's own.
+-- contents of the state, with what was withdrawn, and with the before-images put back that its units
+-- keep, but for a unit whose commit the log has already. And what the log of such a volume has. The
+-- rules are this project's own.
 use Rattle.std.specs.Prelude.{◌≡◌, ◌≢◌, ◌<◌, ℕ, Bool, true, false, not, List, [], Option, Some}
 use Rattle.std.specs.Prelude.{None, ◌&&◌, filter, map, All}
 use Rattle.std.specs.List.{list_any}
@@ -22,8 +22,7 @@ use Rattle.vr_history.specs.Committed.{is_counted}
 use Rattle.vr_history.specs.State.{BeforeImage, Logged, State, is_live}
 use Rattle.vr_volume.specs.CatalogRules.{IsCatalog}
 use Rattle.vr_volume.specs.Laid.{shape_by}
-use Rattle.vr_volume.specs.PutBack.{AreAlone, images_of, oldest, put_back, standing}
-use Rattle.vr_volume.specs.PutBack.{standing_of}
+use Rattle.vr_volume.specs.PutBack.{AreAlone, images_of, oldest, put_back, standing_of}
 
 abbrev pub is_committing : EndKind → Bool
 is_committing Committed = true
@@ -41,10 +40,10 @@ has_commit records unit = list_any (commits_unit unit) records
 abbrev pub kept_by : List LogRecord → List BeforeImage → List BeforeImage
 kept_by records befores = filter (λ image. not (has_commit records image.unit)) befores
 
--- what is committed, by a log of these records: records alone
+-- what is committed, by a log of these records
 abbrev pub committed_by : State → List LogRecord → ℕ → Content
 committed_by state records part =
-    put_back part (kept_by records state.befores) (standing (state.contents part))
+    put_back part (kept_by records state.befores) (state.contents part)
 
 -- A before-image is of a place of a part that is laid, and not of the catalog.
 pub record IsKeptIn (geometry : Geometry) (state : State) (image : BeforeImage) : Type 0 where

@@ -1,7 +1,7 @@
--- What makes the blocks of a volume recover to the committed contents, which have records alone:
--- off the places that the log has free, each block that a crash may leave has the committed record,
--- or none, and each before-image of a unit without an end is the committed item of its place. The
--- rules are this project's own.
+-- What makes the blocks of a volume recover to the records of the committed contents: off the places
+-- that the log has free, each block that a crash may leave has the committed item, withdrawn or not,
+-- or none, and each before-image of a unit without an end is the committed record of its place. So
+-- an item that was withdrawn stays at its place. The rules are this project's own.
 use Rattle.std.specs.Prelude.{◌≡◌, ℕ, List, [], All, Option, Some, None}
 use Rattle.vr_types.specs.Content.{Content as ContentOf, Item, Ascends, item_at}
 use Rattle.vr_types.specs.Geometry.{IsAllowed}
@@ -24,16 +24,17 @@ use Rattle.vr_volume.specs.Laid.{shape_by}
 use Rattle.vr_volume.specs.PutBack.{AreAlone, images_of, oldest, lengths_kept, standing_of}
 use Rattle.vr_volume.specs.Volume.{CanPutBack, IsInside}
 
--- off the places of before-images, the record that is found is the item of the content
+-- off the places of before-images, what is found is the item of the content, withdrawn or not
 abbrev pub IsItemOf : ℕ → List BeforeImage → ContentOf → List ℕ → Option Item → Type 0
 IsItemOf part images content place found =
-    oldest images part place ≡ None → standing_of found ≡ item_at content place
+    oldest images part place ≡ None → found ≡ item_at content place
 
 -- ---- the contents
 
 -- These contents are committed, by a log of these records: part 0 is a catalog by which each other
--- part is on blocks that there are, a part that isn't laid has no record, and each before-image may
--- be put back, and is the only one and the item of its place.
+-- part is on blocks that there are, a part that isn't laid has nothing, and each before-image may be
+-- put back, and is the only one and the record of its place. Catalogs are read by their records
+-- alone, so part 0 needs no rule of its own.
 pub record AreCommitted (geometry : Geometry) (records : List LogRecord)
     (contents : ℕ → ContentOf) : Type 0 where
   pub each : (part : ℕ) → Ascends (contents part)
@@ -45,11 +46,11 @@ pub record AreCommitted (geometry : Geometry) (records : List LogRecord)
   pub alone : AreAlone (images_of records)
   pub olds : (part : ℕ) (place : List ℕ) (image : BeforeImage)
       → oldest (images_of records) part place ≡ Some image
-      → image.old ≡ item_at (contents part) place
+      → image.old ≡ standing_of (item_at (contents part) place)
 
 -- ---- one image
 
--- What an image has of a part, in blocks of its own: off the places of before-images the records of
+-- What an image has of a part, in blocks of its own: off the places of before-images the items of
 -- the content alone, and room for what is put back.
 pub record IsPartIn (shape : Shape) (owners : Owners) (part : ℕ) (images : List BeforeImage)
     (content : ContentOf) (image : Image) : Type 0 where
@@ -66,7 +67,8 @@ pub record IsImageSafe (geometry : Geometry) (number : ℕ) (owners : Owners) (l
   pub parts : (part : ℕ) (shape : Shape) → shape_by geometry (contents 0) part ≡ Some shape
       → IsPartIn shape owners part (images_of log.records) (contents part) image
 
--- The image has one of the logs that there may be, and recovers to what is committed by it.
+-- The image has one of the logs that there may be, and recovers to the records of what is committed
+-- by it.
 abbrev pub IsSafeImage : Geometry → ℕ → Owners → LogNow → (List LogRecord → ℕ → ContentOf)
     → Image → Type 0
 IsSafeImage geometry number owners log committed image = (content : LogContent)
@@ -90,8 +92,8 @@ pub record IsSafeBy (geometry : Geometry) (owners : Owners) (records : List LogR
   pub parts : (part : ℕ) (shape : Shape) → shape_by geometry (contents 0) part ≡ Some shape
       → IsPartSafe shape owners part (images_of records) (contents part) now
 
--- The volume is safe: each image that a crash may leave recovers to what is committed by its log,
--- each part in the blocks that these owners give it, which are past the log.
+-- The volume is safe: each image that a crash may leave recovers to the records of what is committed
+-- by its log, each part in the blocks that these owners give it, which are past the log.
 pub record IsSafe (geometry : Geometry) (number : ℕ) (owners : Owners) (log : LogNow)
     (committed : List LogRecord → ℕ → ContentOf) (now : Seen) : Type 0 where
   pub allowed : IsAllowed geometry

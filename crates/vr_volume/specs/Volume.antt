@@ -1,9 +1,9 @@
 -- What the blocks of a whole volume stand for: its log, and a content of each part. And what they
 -- recover to: the records of the contents, with the before-images of units that haven't ended put
 -- back. The rules are this project's own.
-use Rattle.std.specs.Prelude.{◌≡◌, ℕ, [], All, IfSome, Option, Some, None}
+use Rattle.std.specs.Prelude.{◌≡◌, ℕ, List, [], All, IfSome, Option, Some, None}
 use Rattle.std.specs.Option.{option_and_then}
-use Rattle.vr_types.specs.Content.{Content as ContentOf, record_of}
+use Rattle.vr_types.specs.Content.{Content as ContentOf, item_at, record_of}
 use Rattle.vr_types.specs.Image.{Image, block_at}
 use Rattle.vr_types.specs.declared.geometry.Geometry.{Geometry}
 use Rattle.vr_space.specs.Owners.{Owners}
@@ -16,7 +16,7 @@ use Rattle.vr_log.specs.Spells.{Spells}
 use Rattle.vr_volume.specs.CatalogRules.{IsCatalog}
 use Rattle.vr_volume.specs.Header.{header_block}
 use Rattle.vr_volume.specs.Laid.{shape_by}
-use Rattle.vr_volume.specs.PutBack.{AreAlone, images_of, put_back, lengths_kept, standing}
+use Rattle.vr_volume.specs.PutBack.{AreAlone, images_of, lengths_kept, oldest, put_back, standing}
 pub use Rattle.vr_attach.specs.Laid.{IsInside}
 
 -- the records of part 0 once the before-images are put back: they say which parts there are
@@ -65,3 +65,12 @@ pub record Recovers (geometry : Geometry) (number : ℕ) (image : Image)
       → HasRoom shape (lengths_kept (images_of log.records) part) image
   pub back : (part : ℕ) → recovered part
       ≡ put_back part (images_of log.records) (standing (contents part))
+
+-- They recover to the records of these contents, by this log; and off the places of its
+-- before-images they have the items of the contents, withdrawn or not.
+pub record RecoversItems (geometry : Geometry) (number : ℕ) (log : LogContent)
+    (committed : ℕ → ContentOf) (image : Image) : Type 0 where
+  pub recovers : Recovers geometry number image (λ part. standing (committed part))
+  pub log_is : recovers.log ≡ log
+  pub items : (part : ℕ) (place : List ℕ) → oldest (images_of log.records) part place ≡ None
+      → item_at (recovers.contents part) place ≡ item_at (committed part) place
