@@ -53,6 +53,7 @@ module _ (number : ℕ) (store : StoreNow) (unit : UnitOfRecovery) (part : PartN
       (images_in ready.kept.old) state a ready.kept.stored.volume
   by_logged false = before-recovers store.log.geometry number (owners_of store) store.log
       (images_in ready.kept.old) state a ready.kept.stored.volume unit part place was
+      ready.current ready.stands
 
   pub made-recovers : (b : Seen) → Guards a b (IsSafeImage store.log.geometry number
       (owners_of store) (log_with prepared.logged store.log prepared.rec) (committed_by state))
