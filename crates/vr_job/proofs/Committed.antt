@@ -482,7 +482,7 @@ module _ (geometry : Geometry) (contents : ℕ → Content) (owned : List Owned)
       → HasCommitted geometry number catalog opening entries counted image
   has-committed number catalog is keep counted image recovers = record {
     recovered = committed_with counted end;
-    recovers = recovers;
+    recovers = recovers.recovers;
     records = λ part has place. records-committed keep counted part
         (subst (λ (c : List CatEntry). has_part (parts_in c) part ≡ true) is has) place;
   }
