@@ -1,10 +1,10 @@
 -- What the end of a unit leaves of a volume whose before-images are all put back.
 use Rattle.std.proofs.Common.{◌≡◌, ◌⊎◌, ⊎_elim, ◌≤◌, ◌<◌, inl, inr, cond, ℕ, Bool, true, false, List, []}
-use Rattle.std.proofs.Common.{◌∷◌, ◌++◌}
+use Rattle.std.proofs.Common.{◌∷◌, ◌++◌, ◌+◌, None, Some, take}
 use Rattle.std.proofs.Common.{refl, sym, ap, subst, ◌∙◌, arith, length, ◌&&◌, ◌||◌, not}
 use Rattle.std.specs.Prelude.{All, filter}
-use Rattle.std.proofs.lemmas.Bool.{true≢false}
-use Rattle.std.proofs.lemmas.List.{take_all}
+use Rattle.std.proofs.lemmas.Bool.{cases_lt, true≢false}
+use Rattle.std.proofs.lemmas.List.{length-append, take-append-le, take_all}
 use Rattle.std.proofs.lemmas.List.Elements.{All-filter, All-head, All-tail}
 use Rattle.vr_types.specs.Content.{Content}
 use Rattle.vr_types.specs.Image.{Block, Image}
@@ -21,48 +21,120 @@ use Rattle.vr_history.proofs.Same.{unit_same}
 use Rattle.vr_history.specs.Effects.{is_other}
 use Rattle.vr_history.specs.State.{BeforeImage}
 use Rattle.vr_log.specs.Live.{is_in, live_after, live_from, live_in, without}
-use Rattle.vr_log.specs.LogNow.{LogNow, first_of}
+use Rattle.vr_log.specs.Content.{Content as LogContent}
+use Rattle.vr_log.specs.LogNow.{IsAppended, IsPrefixOf, LogNow, first_of, with_record}
 use Rattle.vr_log.specs.Standing.{InLog}
 use Rattle.vr_log.specs.declared.record.EndKind.{EndKind}
 use Rattle.vr_log.specs.declared.record.LogRecord.{LogRecord}
 use Rattle.vr_log.specs.declared.record.LogRecord.TheVariants.{Before, End}
 use Rattle.vr_volume.specs.Ended.{IsEndOf, ended}
 use Rattle.vr_volume.specs.Laid.{shape_by}
-use Rattle.vr_volume.specs.PutBack.{AreAlone, images_of, oldest, standing, standing_of}
-use Rattle.vr_recover.specs.Recovered.{standing_all}
+use Rattle.vr_volume.specs.PutBack.{AreAlone, images_of, is_image_of, oldest}
+use Rattle.vr_recover.specs.Recovered.{KeepsAll}
 use Rattle.vr_volume.specs.Safe.{AreCommitted, IsSafeBy, IsSafeImage}
-use Rattle.vr_volume.specs.Volume.{CanPutBack, Recovers}
-use Rattle.vr_undo.proofs.CallerLemmas.{stands-item}
-use Rattle.vr_volume.proofs.CallerLemmas.{shape-stands}
+use Rattle.vr_volume.specs.Volume.{CanPutBack}
 use Rattle.vr_volume.proofs.Endings.{in-without as in-fewer}
 use Rattle.vr_volume.proofs.Images.{live-append}
 use Rattle.vr_volume.proofs.Living.{in-without, left-images, live-once}
-use Rattle.vr_volume.proofs.Meeting.{alone-filter, filter-alone}
+use Rattle.vr_volume.proofs.Meeting.{alone-filter, filter-alone, find-none}
 use Rattle.vr_volume.proofs.Recovering.{each_image_is_safe, image_recovers}
-use Rattle.vr_recover.specs.Undone.{HasAll, IsBeforeOf, IsOut, IsUndone, alike}
+use Rattle.vr_recover.specs.Undone.{HasAll, HasAllRecords, HasFewer, IsBeforeOf, IsOut, IsUndone}
+use Rattle.vr_recover.specs.Undone.{alike}
 
--- a safe image recovers to the contents, where they are committed whatever the log has
-pub safe-recovers : (geometry : Geometry) (number : ℕ) (owners : Owners) (log : LogNow)
-    (contents : ℕ → Content) (image : Image)
+-- A safe image keeps the contents, where they are committed whatever the log has, and no log has
+-- more before-images than these.
+pub safe-keeps : (geometry : Geometry) (number : ℕ) (owners : Owners) (log : LogNow)
+    (images : List BeforeImage) (contents : ℕ → Content) → HasFewer images log → (image : Image)
     → IsSafeImage geometry number owners log (alike contents) image
-    → Recovers geometry number image contents
-safe-recovers geometry number owners log contents image safe =
-    image_recovers geometry number owners image safe.0 contents safe.2
+    → KeepsAll geometry number images contents image
+safe-keeps geometry number owners log images contents fewer image safe = record {
+  log = safe.0;
+  items = image_recovers geometry number owners image safe.0 contents safe.2;
+  fewer = fewer safe.0 safe.1;
+}
+
+-- each log that there may be has all records
+pub fewer-all : (log : LogNow) → HasAllRecords log → HasFewer (images_of log.records) log
+fewer-all log all content is part place none =
+    ap (λ (records : List LogRecord). oldest (images_of records) part place) (all content is) ∙ none
+
+-- an end takes before-images away
+pub fewer-ended : (images : List BeforeImage) (log new : LogNow) (unit : UnitOfRecovery)
+    (kind : EndKind) → log.forced ≤ length log.records → IsAppended log (End unit kind) new
+    → HasFewer images log → HasFewer images new
+fewer-ended images log new unit kind most appended fewer content is part place none = ⊎_elim
+    (λ (prefix : IsPrefixOf new content). ⊎_elim
+      (λ (within : prefix.count < length log.records + 1).
+      ap (λ (c : LogContent). oldest (images_of c.records) part place) prefix.is
+      ∙ ap (λ (records : List LogRecord). oldest (images_of records) part place)
+      (ap (take prefix.count) appended.records
+      ∙ take-append-le prefix.count log.records (End unit kind ∷ []) (omega (arith, within)))
+      ∙ fewer (first_of log prefix.count) (inl (record {
+        count = prefix.count;
+        forced = omega (arith, prefix.forced, appended.forced);
+        all = omega (arith, within);
+        is = refl;
+      })) part place none)
+      (λ (past : length log.records + 1 ≤ prefix.count).
+      ap (λ (c : LogContent). oldest (images_of c.records) part place) prefix.is
+      ∙ ap (λ (records : List LogRecord). oldest (images_of records) part place)
+      (take_all prefix.count new.records (omega (arith, past, long)) ∙ appended.records)
+      ∙ without-ended)
+      (cases_lt prefix.count (length log.records + 1)))
+    (λ (behind : new.behind ≡ Some content). ⊎_elim
+      (λ same. fewer content (inr (sym same ∙ behind)) part place none)
+      (λ gone. absurd (none-some (sym gone ∙ behind)))
+      appended.behind)
+    is
+  where
+    none-some : None ≡ Some content → ⊥
+    none-some same = cc
+
+    long : length new.records ≡ length log.records + 1
+    long = ap (λ (records : List LogRecord). length records) appended.records
+        ∙ length-append log.records (End unit kind ∷ [])
+
+    -- with the end the before-images of the unit aren't there any more
+    without-ended : oldest (images_of (log.records ++ End unit kind ∷ [])) part place ≡ None
+    without-ended =
+        ap (λ (those : List BeforeImage). oldest those part place)
+        (left-images log.records unit kind)
+        ∙ find-none (is_image_of part place) (λ (image : BeforeImage). is_other unit image.unit)
+        (images_of log.records)
+        (ap (λ (records : List LogRecord). oldest (images_of records) part place)
+        (sym (take_all (length log.records) log.records (omega arith)))
+        ∙ fewer (first_of log (length log.records)) (inl (record {
+          count = length log.records;
+          forced = most;
+          all = omega arith;
+          is = refl;
+        })) part place none)
+
+pub fewer-more : (images : List BeforeImage) (log : LogNow) (unit : UnitOfRecovery)
+    (kind : EndKind) → log.forced ≤ length log.records → log.broken ≡ false → HasFewer images log
+    → HasFewer images (with_record log (End unit kind))
+fewer-more images log unit kind most sound =
+    fewer-ended images log (with_record log (End unit kind)) unit kind most (record {
+      geometry = refl;
+      generation = refl;
+      records = refl;
+      forced = refl;
+      behind = inl refl;
+      sound = sound;
+    })
 
 module _ (number : ℕ) (owners : Owners) (log : LogNow) (contents : ℕ → Content) (a : Seen)
     (undone : IsUndone number owners log contents a) where
-  pub left-recovers : (image : Image) → Left a image
-      → Recovers log.geometry number image (standing_all contents)
-  left-recovers image left = safe-recovers log.geometry number owners log (standing_all contents)
-      image
-      (each_image_is_safe log.geometry number owners log (alike (standing_all contents)) a
-      undone.safe image left)
+  pub left-keeps : (images : List BeforeImage) → HasFewer images log → (image : Image)
+      → Left a image → KeepsAll log.geometry number images contents image
+  left-keeps images fewer image left =
+      safe-keeps log.geometry number owners log images contents fewer image
+      (each_image_is_safe log.geometry number owners log (alike contents) a undone.safe image left)
 
   module _ (most : log.forced ≤ length log.records) where
     -- by all records that there are
-    by-all : IsSafeBy log.geometry owners log.records (standing_all contents) a
-    by-all = subst (λ (records : List LogRecord). IsSafeBy log.geometry owners records
-        (standing_all contents) a)
+    by-all : IsSafeBy log.geometry owners log.records contents a
+    by-all = subst (λ (records : List LogRecord). IsSafeBy log.geometry owners records contents a)
         (take_all (length log.records) log.records (omega arith))
         (undone.safe.by_log (first_of log (length log.records)) (inl (record {
           count = length log.records;
@@ -77,7 +149,7 @@ module _ (number : ℕ) (owners : Owners) (log : LogNow) (contents : ℕ → Con
         → b.may n block → a.may n block) → HasAll log.geometry contents b
     all-stays b fewer part shape laid place found may = undone.all part shape laid place found
         (holds-less shape owners a b.may
-        (by-all.parts part shape (shape-stands log.geometry (contents 0) part ∙ laid)).sound
+        (by-all.parts part shape laid).sound
         (λ n block is may. fewer n block is.0 (λ there.
         omega (arith, there.1, undone.safe.past n (part_no shape).0 is.1)) may)
         place found may)
@@ -86,16 +158,16 @@ module _ (number : ℕ) (owners : Owners) (log : LogNow) (contents : ℕ → Con
       abbrev keeps : BeforeImage → Bool
       keeps image = is_other unit image.unit
 
-      abbrev was : AreCommitted log.geometry log.records (standing_all contents)
+      abbrev was : AreCommitted log.geometry log.records contents
       was = by-all.committed
 
       abbrev Back : BeforeImage → Type 0
-      Back = CanPutBack (shape_by log.geometry (standing (contents 0)))
+      Back = CanPutBack (shape_by log.geometry (contents 0))
 
       images-left : images_of (ended log unit kind) ≡ filter keeps (images_of log.records)
       images-left = left-images log.records unit kind
 
-      committed-end : AreCommitted log.geometry (ended log unit kind) (standing_all contents)
+      committed-end : AreCommitted log.geometry (ended log unit kind) contents
       committed-end = record {
         each = was.each;
         catalog = was.catalog;
@@ -110,15 +182,12 @@ module _ (number : ℕ) (owners : Owners) (log : LogNow) (contents : ℕ → Con
       }
 
       -- What has to hold before the end is written.
-      pub end-undone : IsEndOf log.geometry log (alike (standing_all contents)) unit kind a
+      pub end-undone : IsEndOf log.geometry log (alike contents) unit kind a
       end-undone = record {
         forced = most;
         contents = committed-end;
         laid = λ part shape is. is;
-        items = λ part shape laid place found may none.
-            ap standing_of (undone.all part shape
-            (sym (shape-stands log.geometry (contents 0) part) ∙ laid) place found may)
-            ∙ sym (stands-item (contents part) place (undone.ascends part));
+        items = λ part shape laid place found may none. undone.all part shape laid place found may;
       }
 
 -- ---- who is live

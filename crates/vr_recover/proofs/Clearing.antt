@@ -1,6 +1,6 @@
 -- A volume that was found recovers to the same while what an earlier log left is cleared, and may
 -- then be undone.
-use Rattle.std.proofs.Common.{◌≡◌, ℕ, ◌<◌, ◌≤◌, List, Option, Some, length}
+use Rattle.std.proofs.Common.{◌≡◌, ℕ, ◌<◌, ◌≤◌, List, [], Option, None, Some, length}
 use Rattle.std.proofs.Common.{refl, sym, ap, subst, ◌∙◌, arith, map, get_or}
 use Rattle.std.specs.Prelude.{All}
 use Rattle.vr_types.specs.Blocks.{AllForced}
@@ -12,7 +12,7 @@ use Rattle.vr_types.specs.Regions.{IsImageOn, Outside, Touches}
 use Rattle.vr_types.specs.Seen.{Left, Seen}
 use Rattle.vr_types.specs.declared.geometry.Geometry.{Geometry}
 use Rattle.vr_types.specs.declared.unit.PartNo.{PartNo}
-use Rattle.vr_types.proofs.CallerLemmas.{during-weaken, guards-then, guards-weaken}
+use Rattle.vr_types.proofs.CallerLemmas.{during-weaken, guards-then}
 use Rattle.vr_catalog.specs.declared.entry.CatEntry.{CatEntry}
 use Rattle.vr_catalog.specs.Definition.{catalog_definition}
 use Rattle.vr_attach.specs.Laid.{keyed_part, shape_in}
@@ -34,7 +34,7 @@ use Rattle.vr_space.specs.Part.{item_of, part_no}
 use Rattle.vr_space.proofs.CallerLemmas.{StaysPart, content_item, knows-stays, rest-sound}
 use Rattle.vr_volume.specs.Laid.{shape_by}
 use Rattle.vr_volume.specs.PutBack.{images_of, lengths_kept, oldest}
-use Rattle.vr_recover.specs.Recovered.{AreBackOf, IsRecovered, item_back, standing_all}
+use Rattle.vr_recover.specs.Recovered.{AreBackOf, IsWhole, KeepsAll, item_back, standing_all}
 use Rattle.vr_volume.specs.Volume.{Recovers, shapes_by}
 use Rattle.vr_volume.proofs.CallerLemmas.{shape-stands}
 use Rattle.vr_volume.proofs.Calls.{stays-part}
@@ -49,11 +49,11 @@ use Rattle.vr_recover.proofs.Agreeing.{log-same, shapes-same}
 use Rattle.vr_recover.proofs.Keeping.{all-more}
 use Rattle.vr_recover.proofs.Numbering.{inside-of, on-of}
 use Rattle.vr_recover.proofs.Settled.{attached-knows, forced-rests, part-opened, settled-undone}
-use Rattle.vr_recover.proofs.Recovery.{AreOffLog, found-own, found-recovers, moved-recovers}
+use Rattle.vr_recover.proofs.Recovery.{AreOffLog, found-own, found-recovers, moved-keeps}
+use Rattle.vr_recover.proofs.Recovery.{moved-recovers}
 use Rattle.vr_recover.proofs.Recovery.{recovered, stand-of}
 use Rattle.vr_recover.proofs.Shapes.{each-laid, shapes-differ}
-use Rattle.vr_recover.proofs.Wholes.{recovers-same, whole, whole-ascend, whole-records}
-use Rattle.vr_recover.proofs.Wholes.{whole-recovered, whole-recovers}
+use Rattle.vr_recover.proofs.Wholes.{recovers-items}
 
 -- ---- what a part knows
 
@@ -68,6 +68,26 @@ attached-stays (NumberedShape part) owners known a b stays sound left attached =
   (knows-stays a b (NumberedShape part) owners known stays sound left
       (attached-knows (NumberedShape part) known a attached)).blocks,
 )
+
+-- ---- what was found keeps what it has
+
+module _ (geometry : Geometry) (content : LogContent) (image : Image)
+    (long : 8 ≤ length (block_at image 1)) (spelled : Spells geometry image content) (number : ℕ)
+    (contents : ℕ → Content) (is : IsWhole geometry number contents image) where
+  abbrev pub kept-here : KeepsAll geometry number (images_of content.records) contents image
+  kept-here = record {
+    log = is.recovers.log;
+    items = recovers-items geometry number image contents is.recovers
+        (λ part shape laid place. is.whole.items part shape laid place
+        ∙ ap (λ (l : LogContent). item_back shape (oldest (images_of l.records) part place)
+        (item_of shape image place)) (one_log geometry image is.whole.log is.recovers.log long
+        is.whole.spelled is.recovers.stands.log_is))
+        is.others;
+    fewer = λ part place none.
+        ap (λ (l : LogContent). oldest (images_of l.records) part place)
+        (one_log geometry image is.recovers.log content long is.recovers.stands.log_is spelled)
+        ∙ none;
+  }
 
 -- ---- while it is cleared
 
@@ -137,13 +157,20 @@ module _ (geometry : Geometry) (content : LogContent) (a b : Seen) (allowed : Is
     log-here : is.log ≡ content
     log-here = one_log geometry a.cur is.log content long is.stands.log_is spelled
 
-    moved : (image : Image) → AreOffLog geometry a.cur image → Spells geometry image content
-        → Recovers geometry number image recovered
-    moved image same spells = moved-recovers geometry number a.cur image recovered is allowed same
-        (subst (λ (l : LogContent). Spells geometry image l) (sym log-here) spells)
-
     pub cleared-recovers : Spells geometry b.cur content → Recovers geometry number b.cur recovered
-    cleared-recovers spells = moved b.cur off-now spells
+    cleared-recovers spells = moved-recovers geometry number a.cur b.cur recovered is allowed
+        off-now (subst (λ (l : LogContent). Spells geometry b.cur l) (sym log-here) spells)
+
+  module _ (number : ℕ) (contents : ℕ → Content) (is : IsWhole geometry number contents a.cur) where
+    abbrev Keeps : Image → Type 0
+    Keeps = KeepsAll geometry number (images_of content.records) contents
+
+    moved : (image : Image) → AreOffLog geometry a.cur image → Spells geometry image content
+        → Keeps image
+    moved image same spells = moved-keeps geometry number a.cur image (images_of content.records)
+        contents (kept-here geometry content a.cur long spelled number contents is) allowed same
+        (subst (λ (l : LogContent). Spells geometry image l)
+        (sym (log-here number (standing_all contents) is.recovers)) spells)
 
     left-out : (image : Image) → Left b image
         → IsImageOn (Outside (InLog geometry)) a.count a.may image
@@ -153,9 +180,9 @@ module _ (geometry : Geometry) (content : LogContent) (a b : Seen) (allowed : Is
     }
 
     -- in every image of every moment
-    pub cleared-guards : Guards a b (λ image. Recovers geometry number image recovered)
+    pub cleared-guards : Guards a b Keeps
     cleared-guards = record {
-      during = during-weaken a b _ (λ image. Recovers geometry number image recovered) call.moments
+      during = during-weaken a b _ Keeps call.moments
           (λ image has. moved image (off-log image has.0) has.1);
       rest = λ image left. moved image (off-log image (left-out image left))
           (call.rest image (record { each = λ n below is-log. left.each n below }));
@@ -273,17 +300,20 @@ module _ (geometry : Geometry) (content : LogContent) (entries : List CatEntry)
     log-is = logs now of forced long spelled are number (standing_all contents) is owners own
 
     pub settled-now : AreBackOf geometry content.records contents now.cur
-        → ((part : ℕ) → Ascends (contents part)) → LogStands (made geometry content) now
+        → ((part : ℕ) → Ascends (contents part))
+        → ((part : ℕ) → shape_by geometry (contents 0) part ≡ None → contents part ≡ [])
+        → LogStands (made geometry content) now
         → IsSettled number owners (made geometry content) contents (map shape_any parts) now
-    settled-now back ascends stands = subst (λ (l : LogContent). IsSettled number owners
+    settled-now back ascends others stands = subst (λ (l : LogContent). IsSettled number owners
         (made geometry l) contents (map shape_any parts) now) log-is
-        (settled-undone geometry number now contents is of forced owners own.past
+        (settled-undone geometry number now contents is of forced
+        (subst (λ (l : LogContent). AreBackOf geometry l.records contents now.cur) (sym log-is)
+        back)
+        ascends others owners own.past
         (stays-by now of forced long spelled are number (standing_all contents) is owners own)
         allowed
         (subst (λ (l : LogContent). LogStands (made geometry l) now) (sym log-is) stands)
-        (subst (λ (l : LogContent). AreBackOf geometry l.records contents now.cur) (sym log-is)
-        back)
-        ascends (map shape_any parts)
+        (map shape_any parts)
         (laid-by now of forced long spelled are number (standing_all contents) is owners own)
         (covered-by now of forced long spelled are number (standing_all contents) is owners own))
 
@@ -346,8 +376,8 @@ module _ (geometry : Geometry) (content : LogContent) (entries : List CatEntry)
       cleared.spelled_then
 
   then-guards : (number : ℕ) (contents : ℕ → Content)
-      → Recovers geometry number a.cur contents
-      → Guards a b (λ image. Recovers geometry number image contents)
+      → IsWhole geometry number contents a.cur
+      → Guards a b (KeepsAll geometry number (images_of content.records) contents)
   then-guards number contents is = cleared-guards geometry content a b cleared.allowed cleared.of
       cleared.forced cleared.long cleared.found.spelled cleared.call number contents is
 
@@ -355,25 +385,23 @@ module _ (geometry : Geometry) (content : LogContent) (entries : List CatEntry)
   then-entries = entries-still geometry content a b cleared.allowed cleared.of cleared.forced
       cleared.long cleared.found.spelled cleared.call entries cleared.found.entries_are
 
-  module _ (number : ℕ) (contents : ℕ → Content)
-      (is : Recovers geometry number a.cur (standing_all contents)) where
+  module _ (number : ℕ) (contents : ℕ → Content) (is : IsWhole geometry number contents a.cur) where
     -- a part that the contents lay is one of those
     laid-in : (part : ℕ) (shape : Shape) → shape_by geometry (contents 0) part ≡ Some shape
         → shape_in geometry entries part ≡ Some shape
     laid-in part shape laid =
-        sym (shapes-same geometry number a.cur (standing_all contents) is content cleared.long
-        cleared.found.spelled entries cleared.found.entries_are part)
-        ∙ sym (ap (λ (c : Content). shape_by geometry c part) (is.back 0))
+        sym (shapes-same geometry number a.cur (standing_all contents) is.recovers content
+        cleared.long cleared.found.spelled entries cleared.found.entries_are part)
+        ∙ sym (ap (λ (c : Content). shape_by geometry c part) (is.recovers.back 0))
         ∙ shape-stands geometry (contents 0) part ∙ laid
 
-    back-then : IsRecovered geometry number contents a.cur
-        → AreBackOf geometry content.records contents b.cur
-    back-then whole part shape laid place =
-        let log : whole.log ≡ content =
-        one_log geometry a.cur whole.log content cleared.long whole.spelled cleared.found.spelled
-        in
+    back-then : AreBackOf geometry content.records contents b.cur
+    back-then part shape laid place =
+        let log : is.whole.log ≡ content =
+        one_log geometry a.cur is.whole.log content cleared.long is.whole.spelled
+        cleared.found.spelled in
         let there = laid-in part shape laid in
-        whole.items part shape laid place
+        is.whole.items part shape laid place
         ∙ ap (λ (l : LogContent). item_back shape (oldest (images_of l.records) part place)
         (item_of shape a.cur place)) log
         ∙ ap (item_back shape (oldest (images_of content.records) part place))
@@ -383,14 +411,24 @@ module _ (geometry : Geometry) (content : LogContent) (entries : List CatEntry)
         a.cur cleared.found) part shape there (stood part shape there) place))
 
     pub then-settled : (log : LogNow) → log ≡ made geometry content
-        → IsRecovered geometry number contents a.cur → ((part : ℕ) → Ascends (contents part))
         → IsSettled number owners log contents (map shape_any parts) b
-    then-settled log same whole ascends = subst
+    then-settled log same = subst
         (λ (l : LogNow). IsSettled number owners l contents (map shape_any parts) b) (sym same)
         (settled-now geometry content entries parts planned cleared.allowed b cleared.of_then
         cleared.forced_then cleared.long_then cleared.spelled_then then-entries number contents
-        (then-recovers number (standing_all contents) is) owners then-own (back-then whole) ascends
-        cleared.stands)
+        (then-recovers number (standing_all contents) is.recovers) owners then-own back-then
+        is.ascends is.others cleared.stands)
+
+    pub then-moments : (log : LogNow) (d : Seen) → log ≡ made geometry content
+        → (IsSettled number owners log contents (map shape_any parts) b
+        → Guards b d (KeepsAll log.geometry number (images_of log.records) contents))
+        → Guards a d (KeepsAll geometry number (images_of content.records) contents)
+    then-moments log d same further = guards-then a b d
+        (KeepsAll geometry number (images_of content.records) contents)
+        (then-guards number contents is)
+        (subst (λ (l : LogNow). Guards b d
+        (KeepsAll l.geometry number (images_of l.records) contents)) same
+        (further (then-settled log same)))
 
   pub then-ready : (kept : List BeforeImage) → kept ≡ images_of content.records
       → All (IsPartReady owners kept b) parts
@@ -403,24 +441,3 @@ module _ (geometry : Geometry) (content : LogContent) (entries : List CatEntry)
       cleared.number contents (then-recovers cleared.number contents
       (found-recovers geometry content entries (map shape_any parts) planned cleared.number areas
       a.cur cleared.found cleared.allowed)) owners then-own then-known)
-
-  pub then-moments : (number : ℕ) (recovered : ℕ → Content) (log : LogNow) (d : Seen)
-      → log ≡ made geometry content → Recovers geometry number a.cur recovered
-      → ((contents : ℕ → Content) → IsSettled number owners log contents (map shape_any parts) b
-      → Guards b d (λ image. Recovers log.geometry number image (standing_all contents)))
-      → Guards a d (λ image. Recovers geometry number image recovered)
-  then-moments number recovered log d same is further =
-      let contents = whole geometry number a.cur recovered is in
-      guards-then a b d (λ image. Recovers geometry number image recovered)
-      (then-guards number recovered is)
-      (guards-weaken b d (λ image. Recovers geometry number image (standing_all contents))
-      (λ image. Recovers geometry number image recovered)
-      (subst
-      (λ (g : Geometry). Guards b d (λ image. Recovers g number image (standing_all contents)))
-      (ap (λ (l : LogNow). l.geometry) same)
-      (further contents (then-settled number contents
-      (whole-recovers geometry number a.cur recovered is) log same
-      (whole-recovered geometry number a.cur recovered is)
-      (whole-ascend geometry number a.cur recovered is))))
-      (λ image has. recovers-same geometry number image (standing_all contents) recovered
-      (λ part. sym (whole-records geometry number a.cur recovered is part)) has))

@@ -1,5 +1,5 @@
 -- What opening a volume comes to, step by step.
-use Rattle.std.proofs.Common.{◌≡◌, ◌⊎◌, ⊎_elim, inl, inr, ℕ, ◌+◌, ◌<◌, ◌^◌, Bool, List, []}
+use Rattle.std.proofs.Common.{◌≡◌, ◌⊎◌, ⊎_elim, inl, inr, ℕ, ◌+◌, ◌<◌, ◌≤◌, ◌^◌, Bool, List, []}
 use Rattle.std.proofs.Common.{Option, Some, None, length, refl, sym, ap, subst, ◌∙◌, arith, map}
 use Rattle.std.proofs.Common.{get_or, IsTrue, false}
 use Rattle.std.specs.Prelude.{All, Contains, slice_get}
@@ -8,7 +8,7 @@ use Rattle.std.proofs.lemmas.Option.{get_or_from_slice_get, slice_get-get_or, sl
 use Rattle.std.proofs.lemmas.Option.{slice_get_within}
 use Rattle.std.proofs.lemmas.List.Elements.{All-nil}
 use Rattle.vr_types.specs.Blocks.{AllForced, Keeps}
-use Rattle.vr_types.specs.Content.{Ascends, Content}
+use Rattle.vr_types.specs.Content.{Content}
 use Rattle.vr_types.specs.Geometry.{IsAllowed, area_count}
 use Rattle.vr_types.specs.Image.{Image, block_at}
 use Rattle.vr_types.specs.Moments.{Guards}
@@ -19,6 +19,7 @@ use Rattle.vr_types.proofs.CallerLemmas.{guards-keeps, guards-start, guards-then
 use Rattle.vr_catalog.specs.Catalog.{entries_in}
 use Rattle.vr_catalog.specs.Definition.{catalog_definition}
 use Rattle.vr_catalog.specs.declared.entry.CatEntry.{CatEntry}
+use Rattle.vr_attach.specs.CatalogRules.{IsCatalog}
 use Rattle.vr_attach.specs.Header.{header_block}
 use Rattle.vr_attach.specs.Laid.{AreApart, HasArea, catalog_shape, keyed_part, shape_in}
 use Rattle.vr_attach.specs.Owning.{owner_of}
@@ -28,6 +29,7 @@ use Rattle.vr_log.specs.Content.{Content as LogContent}
 use Rattle.vr_log.specs.LogNow.{IsForced, IsOf, LogNow}
 use Rattle.vr_log.specs.Spells.{Spells}
 use Rattle.vr_log.specs.Standing.{LogStands}
+use Rattle.vr_log.proofs.CallerLemmas.{one_log}
 use Rattle.vr_mount.specs.Header.{IsHeaderOf, version_in}
 use Rattle.vr_mount.proofs.CallerLemmas.{image-same}
 use Rattle.vr_part.specs.Any.{known_any, shape_any}
@@ -38,7 +40,7 @@ use Rattle.vr_space.specs.Part.{part_no}
 use Rattle.vr_space.proofs.CallerLemmas.{fewer-room, rest-sound}
 use Rattle.vr_undo.proofs.CallerLemmas.{stands-entries}
 use Rattle.vr_volume.specs.PutBack.{images_of, lengths_kept}
-use Rattle.vr_recover.specs.Recovered.{IsRecovered, standing_all}
+use Rattle.vr_recover.specs.Recovered.{IsRecovered, IsWhole, KeepsAll, standing_all}
 use Rattle.vr_volume.specs.Volume.{Recovers}
 use Rattle.vr_volume.proofs.CallerLemmas.{catalog-whole, keep-less}
 use Rattle.vr_recover.specs.Found.{IsFound, IsPartReady, IsPlanned, areas_kept}
@@ -60,10 +62,8 @@ use Rattle.vr_recover.proofs.Clearing.{parts-on, parts-past}
 use Rattle.vr_recover.proofs.Keeping.{all-more}
 use Rattle.vr_recover.proofs.Owning.{owners-reached}
 use Rattle.vr_recover.proofs.Recovery.{found-entries, found-recovers, recovered}
-use Rattle.vr_recover.proofs.Settled.{committed-by}
 use Rattle.vr_recover.proofs.Shapes.{are-laid}
-use Rattle.vr_recover.proofs.Wholes.{whole, whole-ascend, whole-lays, whole-none, whole-records}
-use Rattle.vr_recover.proofs.Wholes.{whole-recovered, whole-recovers}
+use Rattle.vr_recover.proofs.Wholes.{recovers-same, recovers-whole, whole, whole-records}
 
 -- ---- calls that put nothing
 
@@ -255,46 +255,80 @@ module _ (a b : Seen) (count : b.count ≡ a.count) (size : b.size ≡ a.size) (
 -- ---- moments
 
 -- where a crash leaves what is read, so it does while nothing is put
-pub forced-guards : (tells : Bool) (geometry : Geometry) (number : ℕ) (contents : ℕ → Content)
-    (a b : Seen) → IsTrue tells → ((image : Image) → a.images a.moment image → Left a image)
-    → Left a a.cur → AllForced a.count a.cur a.may → Recovers geometry number a.cur contents
-    → Keeps tells a b → Guards a b (λ image. Recovers geometry number image contents)
-forced-guards tells geometry number contents a b told within cur forced is call =
-    guards-keeps tells a a b (λ image. Recovers geometry number image contents)
-    (guards-start a (λ image. Recovers geometry number image contents) within
-    (λ image left. subst (λ (i : Image). Recovers geometry number i contents)
+pub forced-guards : (tells : Bool) (P : Image → Type 0) (a b : Seen) → IsTrue tells
+    → ((image : Image) → a.images a.moment image → Left a image) → Left a a.cur
+    → AllForced a.count a.cur a.may → P a.cur → Keeps tells a b → Guards a b P
+forced-guards tells P a b told within cur forced is call = guards-keeps tells a a b P
+    (guards-start a P within (λ image left. subst P
     (sym (image-same a.count a image refl forced cur left)) is)) call told
 
 -- one of these, and what the call before left
-pub left-guards : (tells : Bool) (geometry : Geometry) (number : ℕ) (contents : ℕ → Content)
-    (a b : Seen) → IsTrue tells → ((image : Image) → a.images a.moment image → Left a image)
-    → Keeps tells a b
-    → Guards a b (λ image. Left a image ⊎ Recovers geometry number image contents)
-left-guards tells geometry number contents a b told within call =
-    guards-keeps tells a a b (λ image. Left a image ⊎ Recovers geometry number image contents)
-    (guards-start a (λ image. Left a image ⊎ Recovers geometry number image contents) within
-    (λ image left. inl left)) call told
-
--- and the rest of it, from where a volume of the shape was read
-pub left-then : (tells : Bool) (geometry : Geometry) (number : ℕ) (a b d : Seen) → IsTrue tells
+pub left-guards : (tells : Bool) (P : Image → Type 0) (a b : Seen) → IsTrue tells
     → ((image : Image) → a.images a.moment image → Left a image) → Keeps tells a b
-    → IsAllowed geometry → block_at a.cur 0 ≡ header_block geometry number
-    → ((contents : ℕ → Content) → Recovers geometry number b.cur contents
-    → Guards b d (λ image. Recovers geometry number image contents))
-    → (other : Geometry) (contents : ℕ → Content) → IsVolume number other contents a
-    → Guards a d (λ image. Left a image ⊎ Recovers other number image contents)
-left-then tells geometry number a b d told within call allowed header further other contents is =
-    let same : other ≡ geometry =
-    volume-here number geometry a allowed header other contents is in
-    guards-then a b d (λ image. Left a image ⊎ Recovers other number image contents)
-    (left-guards tells other number contents a b told within call)
-    (guards-weaken b d (λ image. Recovers other number image contents)
-    (λ image. Left a image ⊎ Recovers other number image contents)
-    (subst (λ (g : Geometry). Guards b d (λ image. Recovers g number image contents)) (sym same)
-    (further contents
-    (subst (λ (i : Image). Recovers geometry number i contents) (sym (call.content told))
-    (subst (λ (g : Geometry). Recovers g number a.cur contents) same is.recovers))))
-    (λ image holds. inr holds))
+    → Guards a b (λ image. Left a image ⊎ P image)
+left-guards tells P a b told within call = guards-keeps tells a a b (λ image. Left a image ⊎ P image)
+    (guards-start a (λ image. Left a image ⊎ P image) within (λ image left. inl left)) call told
+
+-- contents that the blocks have, once they were read
+whole-then : (geometry : Geometry) (number : ℕ) (contents : ℕ → Content) (old new : Image)
+    → new ≡ old → IsWhole geometry number contents old → IsWhole geometry number contents new
+whole-then geometry number contents old new same =
+    subst (IsWhole geometry number contents) (sym same)
+
+-- and the rest of it, from where a volume of the shape was read, with this log
+module _ (tells : Bool) (geometry : Geometry) (number : ℕ) (content : LogContent) (a b d : Seen)
+    (told : IsTrue tells) (within : (image : Image) → a.images a.moment image → Left a image)
+    (call : Keeps tells a b) (allowed : IsAllowed geometry)
+    (header : block_at a.cur 0 ≡ header_block geometry number)
+    (spelled : Spells geometry a.cur content) (long : 8 ≤ length (block_at a.cur 1))
+    (further : (contents : ℕ → Content) → IsWhole geometry number contents b.cur
+    → Guards b d (KeepsAll geometry number (images_of content.records) contents)) where
+  -- of the same shape
+  then-same : (contents : ℕ → Content) (is : IsWhole geometry number contents a.cur)
+      → Guards a d
+      (λ image. Left a image ⊎ KeepsAll geometry number (images_of is.whole.log.records) contents image)
+  then-same contents is =
+      let Kept : Image → Type 0 = KeepsAll geometry number (images_of is.whole.log.records) contents
+      in
+      guards-then a b d (λ image. Left a image ⊎ Kept image)
+      (left-guards tells Kept a b told within call)
+      (guards-weaken b d Kept (λ image. Left a image ⊎ Kept image)
+      (subst (λ (log : LogContent). Guards b d
+      (KeepsAll geometry number (images_of log.records) contents))
+      (one_log geometry a.cur content is.whole.log long spelled is.whole.spelled)
+      (further contents
+      (whole-then geometry number contents a.cur b.cur (call.content told) is)))
+      (λ image holds. inr holds))
+
+  pub left-then : (other : Geometry) (contents : ℕ → Content) → IsAllowed other → IsOf other a
+      → (is : IsWhole other number contents a.cur)
+      → Guards a d
+      (λ image. Left a image ⊎ KeepsAll other number (images_of is.whole.log.records) contents image)
+  left-then other contents may of is =
+      subst (λ (g : Geometry). (whole : IsWhole g number contents a.cur) → Guards a d
+      (λ image. Left a image
+      ⊎ KeepsAll g number (images_of whole.whole.log.records) contents image))
+      (sym (volume-here number geometry a allowed header other (standing_all contents) (record {
+        allowed = may;
+        shape = of;
+        recovers = is.recovers;
+      })))
+      (then-same contents) is
+
+-- what keeps the contents of what recovers recovers to the same
+pub kept-guards : (geometry : Geometry) (number : ℕ) (images : List BeforeImage) (a d : Seen)
+    (recovered : ℕ → Content) (is : Recovers geometry number a.cur recovered)
+    → Guards a d (λ image. Left a image
+    ⊎ KeepsAll geometry number images (whole geometry number a.cur recovered is) image)
+    → Guards a d (λ image. Left a image ⊎ Recovers geometry number image recovered)
+kept-guards geometry number images a d recovered is call =
+    let contents = whole geometry number a.cur recovered is in
+    guards-weaken a d (λ image. Left a image ⊎ KeepsAll geometry number images contents image)
+    (λ image. Left a image ⊎ Recovers geometry number image recovered) call
+    (λ image either. ⊎_elim (λ left. inl left)
+    (λ kept. inr (recovers-same geometry number image (standing_all contents) recovered
+    (λ part. sym (whole-records geometry number a.cur recovered is part)) kept.items.recovers))
+    either)
 
 -- where all that a crash left recovered, all of it does still
 pub all-guards : (geometry : Geometry) (number : ℕ) (contents : ℕ → Content) (a d : Seen)
@@ -447,32 +481,28 @@ module _ (geometry : Geometry) (content : LogContent) (entries : List CatEntry)
   }
 
   pub opened-by : (number : ℕ) (log : LogNow) (kept : List BeforeImage) (a now : Seen)
-      → IsOf geometry a → AllForced a.count a.cur a.may
+      → IsOf geometry a
       → IsFound geometry number content entries (map shape_any before) owners a.cur
-      → ((contents : ℕ → Content) → Recovers geometry number a.cur (standing_all contents)
-      → IsRecovered geometry number contents a.cur → ((part : ℕ) → Ascends (contents part))
+      → ((contents : ℕ → Content) → IsWhole geometry number contents a.cur
       → IsUndone number (owner_of geometry owners) log contents now)
       → LogStands log now → All (IsPartReady (owner_of geometry owners) kept now) parts
       → IsOpened number geometry entries parts log owners a now
-  opened-by number log kept a now of forced found undone stands ready =
+  opened-by number log kept a now of found undone stands ready =
       let shapes = map shape_any before in
       let records = recovered geometry content entries shapes planned number owners a.cur found in
       let is = found-recovers geometry content entries shapes planned number owners a.cur found
       allowed in
       let contents = whole geometry number a.cur records is in
-      let recovers = whole-recovers geometry number a.cur records is in
-      let recovered-whole = whole-recovered geometry number a.cur records is in
-      let ascends = whole-ascend geometry number a.cur records is in
-      let committed = committed-by geometry number a (standing_all contents) recovers of forced in
+      let had = recovers-whole geometry number a.cur records is in
       let same-entries : entries ≡ entries_in (contents 0) =
       found-entries geometry content entries shapes planned number owners a.cur found
       ∙ ap entries_in (sym (whole-records geometry number a.cur records is 0))
       ∙ stands-entries (contents 0) in (
         contents,
         record {
-          volume = record { allowed = allowed; shape = of; recovers = recovers };
-          whole = recovered-whole;
-          undone = undone contents recovers recovered-whole ascends;
+          volume = record { allowed = allowed; shape = of; recovers = had.recovers };
+          whole = had.whole;
+          undone = undone contents had;
           stands = stands;
           ready = all-more (IsPartReady (owner_of geometry owners) kept now)
               (λ (part : AnyPart). IsReady (shape_any part) (owner_of geometry owners)
@@ -485,11 +515,11 @@ module _ (geometry : Geometry) (content : LogContent) (entries : List CatEntry)
               (λ (part : AnyPart). Knows (shape_any part) (known_any part) now)
               (λ part one. one.knows) parts ready);
           catalog = same-entries;
-          rules = catalog-whole geometry (contents 0) committed.catalog;
+          rules = catalog-whole geometry (contents 0) (subst (IsCatalog geometry)
+              (sym (had.recovers.back 0)) had.recovers.stands.catalog);
           apart = subst (λ (es : List CatEntry). AreApart (shape_in geometry es)) same-entries
               planned.apart;
-          ascends = ascends;
-          others = λ part none. whole-none geometry number a.cur records is part
-              (sym (whole-lays geometry number a.cur records is part) ∙ none);
+          ascends = had.ascends;
+          others = had.others;
         },
       )

@@ -27,10 +27,9 @@ use Rattle.vr_log.specs.declared.record.LogRecord.{LogRecord}
 use Rattle.vr_volume.specs.Laid.{shape_by}
 use Rattle.vr_volume.specs.Laying.{IsLaidSo}
 use Rattle.vr_volume.specs.PutBack.{images_of, is_image_of, lengths_kept, oldest}
-use Rattle.vr_recover.specs.Recovered.{item_back, standing_all}
+use Rattle.vr_recover.specs.Recovered.{item_back}
 use Rattle.vr_volume.specs.Safe.{IsSafe, IsSafeBy}
 use Rattle.vr_volume.proofs.Alone.{is-there}
-use Rattle.vr_volume.proofs.CallerLemmas.{shape-stands}
 use Rattle.vr_recover.specs.Undone.{AreOpened, HasAll, HasAllRecords, HasContent, HasPart}
 use Rattle.vr_recover.specs.Undone.{IsAllFirm, IsCovered, IsKeptOf, IsReady, IsSettledPart, alike}
 use Rattle.vr_recover.proofs.PuttingBack.{found-passes}
@@ -157,11 +156,10 @@ pub laid-opened : (geometry : Geometry) (log : LogNow) (contents : ℕ → Conte
     (kept : PartNo → Lengths) (shapes : List Shape) (at : ℕ) (shape : Shape) (number : PartNo)
     → AreOpened geometry log contents shapes → slice_get shapes at ≡ Some shape
     → IsKeptOf kept log → number ≡ part_no shape
-    → IsLaidSo geometry log (alike (standing_all contents)) number.0 shape (kept number)
+    → IsLaidSo geometry log (alike contents) number.0 shape (kept number)
 laid-opened geometry log contents kept shapes at shape number opened is kept-is same content has =
     record {
-      laid = shape-stands geometry (contents 0) number.0
-          ∙ ap (λ (no : PartNo). shape_by geometry (contents 0) no.0) same
+      laid = ap (λ (no : PartNo). shape_by geometry (contents 0) no.0) same
           ∙ all-at (λ (s : Shape). shape_by geometry (contents 0) (part_no s).0 ≡ Some s) shapes at
           shape is opened.laid;
       kept_is = kept-is number

@@ -22,6 +22,7 @@ use Rattle.vr_volume.specs.Volume.{CanPutBack, Recovers, shapes_by}
 use Rattle.vr_mount.proofs.CallerLemmas.{AreSame, OwnParts, areas-own, rooms-same, stands-same}
 use Rattle.vr_mount.proofs.CallerLemmas.{stays-same}
 use Rattle.vr_recover.specs.Found.{HasRoomOf, IsFound, IsPlanned, catalog_by}
+use Rattle.vr_recover.specs.Recovered.{KeepsAll, standing_all}
 use Rattle.vr_recover.specs.Undone.{FitsPart, HasPart}
 use Rattle.vr_recover.proofs.Numbering.{inside-of}
 use Rattle.vr_recover.proofs.Shapes.{laid-number, laid-there, shape-laid}
@@ -172,8 +173,8 @@ module _ (geometry : Geometry) (number : ℕ) (old new : Image) (recovered : ℕ
   part-same shape n below own =
       same n (λ logged. omega (arith, is.stands.past n (part_no shape).0 own, logged.1)) below
 
-  -- it recovers to the same
-  pub moved-recovers : Recovers geometry number new recovered
+  -- it recovers to the same, by the same log and what the blocks had
+  abbrev pub moved-recovers : Recovers geometry number new recovered
   moved-recovers = record {
     log = is.log;
     contents = is.contents;
@@ -200,3 +201,20 @@ module _ (geometry : Geometry) (number : ℕ) (old new : Image) (recovered : ℕ
         (is.stands.laid part shape laid) (is.room part shape laid);
     back = is.back;
   }
+
+-- and keeps what it kept
+pub moved-keeps : (geometry : Geometry) (number : ℕ) (old new : Image) (images : List BeforeImage)
+    (contents : ℕ → Content) (is : KeepsAll geometry number images contents old)
+    → IsAllowed geometry → AreOffLog geometry old new → Spells geometry new is.log
+    → KeepsAll geometry number images contents new
+moved-keeps geometry number old new images contents is allowed same spelled = record {
+  log = is.log;
+  items = record {
+    recovers = moved-recovers geometry number old new (standing_all contents) is.items.recovers
+        allowed same
+        (subst (λ (log : LogContent). Spells geometry new log) (sym is.items.log_is) spelled);
+    log_is = is.items.log_is;
+    items = is.items.items;
+  };
+  fewer = is.fewer;
+}

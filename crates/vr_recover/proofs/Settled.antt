@@ -44,14 +44,17 @@ use Rattle.vr_log.specs.declared.record.LogRecord.{LogRecord}
 use Rattle.vr_log.proofs.CallerLemmas.{stands_has}
 use Rattle.vr_volume.specs.CatalogRules.{IsCatalog}
 use Rattle.vr_volume.specs.Laid.{shape_by}
-use Rattle.vr_volume.specs.PutBack.{images_of, length_in, length_of, lengths_kept, oldest, put_back}
-use Rattle.vr_volume.specs.PutBack.{standing, standing_of}
-use Rattle.vr_recover.specs.Recovered.{AreBackOf, standing_all}
-use Rattle.vr_volume.specs.Safe.{AreCommitted, IsItemOf, IsPartSafe, IsSafe, IsSafeBy}
+use Rattle.vr_volume.specs.PutBack.{images_of, length_in, length_of, lengths_kept, oldest}
+use Rattle.vr_volume.specs.PutBack.{standing_of}
+use Rattle.vr_recover.specs.Recovered.{AreBackOf, item_back, standing_all}
+use Rattle.vr_volume.specs.Safe.{AreCommitted, IsPartSafe, IsSafe, IsSafeBy}
 use Rattle.vr_volume.specs.Volume.{CanPutBack, Recovers, shapes_by}
-use Rattle.vr_volume.proofs.CallerLemmas.{back-record, records-ascend, shape-stands}
+use Rattle.vr_undo.proofs.CallerLemmas.{stands-item}
+use Rattle.vr_volume.proofs.CallerLemmas.{back-record, catalog-whole, shape-stands}
+use Rattle.vr_volume.proofs.Committing.{backs-by}
 use Rattle.vr_recover.specs.Undone.{FitsPart, IsCovered, IsOpenedPart, IsSettled, IsSettledPart}
-use Rattle.vr_recover.proofs.Wholes.{contents-ascend, none-back}
+use Rattle.vr_recover.specs.Undone.{alike}
+use Rattle.vr_recover.proofs.Wholes.{contents-ascend}
 use Rattle.vr_part.specs.Attached.{IsAttachedWith}
 
 -- ---- a part
@@ -272,39 +275,25 @@ module _ (geometry : Geometry) (number : ℕ) (now : Seen) (recovered : ℕ → 
       ≡ shapes_by geometry is.log is.contents part
   laid-same part = ap (λ (c : Content). shape_by geometry c part) (is.back 0)
 
-  ascend : (part : ℕ) → Ascends (is.contents part)
-  ascend = contents-ascend geometry number now.cur recovered is
-
   item-back : (part : ℕ) (place : List ℕ) → item_at (recovered part) place
       ≡ kept_or (oldest images part place) (standing_of (item_at (is.contents part) place))
   item-back part place = ap (λ (c : Content). item_at c place) (is.back part)
-      ∙ back-record part images (is.contents part) place (ascend part)
+      ∙ back-record part images (is.contents part) place
+      (contents-ascend geometry number now.cur recovered is part)
 
-  pub committed-by : AreCommitted geometry is.log.records recovered
-  committed-by = record {
-    each = λ part. subst Ascends (sym (is.back part))
-        (records-ascend part images (is.contents part) (ascend part));
-    catalog = subst (IsCatalog geometry) (sym (is.back 0)) is.stands.catalog;
-    inside = λ part shape laid. is.inside part shape (sym (laid-same part) ∙ laid);
-    images = subst (λ (c : Content). All (CanPutBack (shape_by geometry c)) images)
-        (sym (is.back 0)) is.images;
-    alone = is.alone;
-    others = λ part none. let laid = sym (laid-same part) ∙ none in
-        is.back part
-        ∙ ap (λ (c : Content). put_back part images (standing c)) (is.stands.others part laid)
-        ∙ none-back (shapes_by geometry is.log is.contents) part laid images is.images;
-    olds = λ part place image there. sym (item-back part place
-        ∙ ap (λ (o : Option BeforeImage). kept_or o
-        (standing_of (item_at (is.contents part) place))) there);
-  }
-
-  item-of : (part : ℕ) (place : List ℕ) (found : Option Item)
-      → found ≡ item_at (is.contents part) place
-      → IsItemOf part images (recovered part) place found
-  item-of part place found same none =
-      ap standing_of same ∙ sym (item-back part place
-      ∙ ap (λ (o : Option BeforeImage). kept_or o (standing_of (item_at (is.contents part) place)))
-      none)
+  -- each log that an image may have has the same records
+  same-records : (content : LogContent) → IsLogOf (made geometry is.log) content
+      → content.records ≡ is.log.records
+  same-records content log = ⊎_elim
+      (λ (prefix : IsPrefixOf (made geometry is.log) content).
+      ap (λ (c : LogContent). c.records) prefix.is
+      ∙ take_all prefix.count is.log.records prefix.forced)
+      (λ (behind : (made geometry is.log).behind ≡ Some content).
+      ap (λ (c : LogContent). c.records) (sym (log-is is.log content behind)))
+      log
+    where
+      log-is : (x y : LogContent) → Some x ≡ Some y → x ≡ y
+      log-is x y same = cc
 
   -- ---- each part in blocks of its own
 
@@ -312,95 +301,131 @@ module _ (geometry : Geometry) (number : ℕ) (now : Seen) (recovered : ℕ → 
       (within : (part : ℕ) (shape : Shape)
       → shapes_by geometry is.log is.contents part ≡ Some shape
       → StaysIn shape owners now.cur) where
-    part-by : (part : ℕ) (shape : Shape) → IsOn shape now
+    rests-by : (part : ℕ) (shape : Shape) → IsOn shape now
+        → shapes_by geometry is.log is.contents part ≡ Some shape → IsAtRest shape owners now
+    rests-by part shape on laid = forced-rests shape owners now on forced (is.contents part)
+        (is.stands.laid part shape laid) (within part shape laid)
+
+    room-by : (part : ℕ) (shape : Shape) → IsOn shape now
         → shapes_by geometry is.log is.contents part ≡ Some shape
-        → IsPartSafe shape owners part images (recovered part) now
-    part-by part shape on laid =
-        let there = is.stands.laid part shape laid in
-        let stays = within part shape laid in
-        let sound = rest-sound shape owners now
-        (forced-rests shape owners now on forced (is.contents part) there stays) in
-        record {
-          sound = sound;
-          items = λ place found may. item-of part place found
-              (item-here shape owners now forced sound place found may
-              ∙ sym (content_item shape now.cur (is.contents part) there place));
-          room = forced-room shape owners now on forced (is.contents part) there stays
-              (lengths_kept images part)
-              (with-all (IsPlaceOf shape) [] (filter_map (length_in part) images)
-              (All-nil (λ (entry : List ℕ × ℕ). IsPlaceOf shape entry.0))
-              (kept-places (shapes_by geometry is.log is.contents) part shape laid images
-              is.images))
-              (is.room part shape laid);
-        }
+        → HasKeptRoom shape (lengths_kept images part) now
+    room-by part shape on laid = forced-room shape owners now on forced (is.contents part)
+        (is.stands.laid part shape laid) (within part shape laid) (lengths_kept images part)
+        (with-all (IsPlaceOf shape) [] (filter_map (length_in part) images)
+        (All-nil (λ (entry : List ℕ × ℕ). IsPlaceOf shape entry.0))
+        (kept-places (shapes_by geometry is.log is.contents) part shape laid images is.images))
+        (is.room part shape laid)
 
-    safe-by : IsSafeBy geometry owners is.log.records recovered now
-    safe-by = record {
-      committed = committed-by;
-      parts = λ part shape laid. let found = sym (laid-same part) ∙ laid in
-          part-by part shape
-          (inside-on geometry shape now of.count of.size (is.inside part shape found)) found;
-    }
-
-    -- each log that an image may have has the same records
-    same-records : (content : LogContent) → IsLogOf (made geometry is.log) content
-        → content.records ≡ is.log.records
-    same-records content log = ⊎_elim
-        (λ (prefix : IsPrefixOf (made geometry is.log) content).
-        ap (λ (c : LogContent). c.records) prefix.is
-        ∙ take_all prefix.count is.log.records prefix.forced)
-        (λ (behind : (made geometry is.log).behind ≡ Some content).
-        ap (λ (c : LogContent). c.records) (sym (log-is is.log content behind)))
-        log
-      where
-        log-is : (x y : LogContent) → Some x ≡ Some y → x ≡ y
-        log-is x y same = cc
-
-    -- ---- its parts
+    on-by : (part : ℕ) (shape : Shape) → shapes_by geometry is.log is.contents part ≡ Some shape
+        → IsOn shape now
+    on-by part shape laid =
+        inside-on geometry shape now of.count of.size (is.inside part shape laid)
 
     -- a part as it is opened
-    opened-by : (shape : Shape) → IsOn shape now
-        → shapes_by geometry is.log is.contents (part_no shape).0 ≡ Some shape
-        → IsPartSafe shape owners (part_no shape).0 images (recovered (part_no shape).0) now
-        → IsOpenedPart geometry owners images shape now
-    opened-by shape on laid safe = record {
-      on = on;
-      past = λ n inside. past n (part_no shape).0
-          (first-owned shape owners now safe.sound n inside);
-      ready = λ known attached. record {
-        rests = forced-rests shape owners now on forced (is.contents (part_no shape).0)
-            (is.stands.laid (part_no shape).0 shape laid) (within (part_no shape).0 shape laid);
-        room = safe.room;
-        knows = attached-knows shape known now attached;
-        no_split = attached-no-split shape known now.cur attached;
-      };
-      firm = λ place found held. item-here shape owners now forced safe.sound place found held;
-      fits = All-weaker (CanPutBack (shapes_by geometry is.log is.contents)) (FitsPart shape)
-          (λ image can mine.
-          let same : can.shape ≡ shape = shape-is can.shape shape
-          (sym can.laid ∙ ap (shapes_by geometry is.log is.contents) mine ∙ laid) in
-          record {
-            place = subst (λ (s : Shape). IsPlaceOf s image.place) same can.place;
-            old = subst (λ (s : Shape). IfSome (option_and_then record_of image.old)
-                (IsRecordOf s image.place)) same can.old;
-          })
-          images is.images;
-    }
-
     pub part-opened : (shape : Shape)
         → shapes_by geometry is.log is.contents (part_no shape).0 ≡ Some shape
         → IsOpenedPart geometry owners images shape now
     part-opened shape laid =
-        let on : IsOn shape now =
-        inside-on geometry shape now of.count of.size
-        (is.inside (part_no shape).0 shape laid) in
-        opened-by shape on laid (part-by (part_no shape).0 shape on laid)
+        let on = on-by (part_no shape).0 shape laid in
+        let rests = rests-by (part_no shape).0 shape on laid in
+        let sound = rest-sound shape owners now rests in
+        record {
+          on = on;
+          past = λ n inside. past n (part_no shape).0
+              (first-owned shape owners now sound n inside);
+          ready = λ known attached. record {
+            rests = rests;
+            room = room-by (part_no shape).0 shape on laid;
+            knows = attached-knows shape known now attached;
+            no_split = attached-no-split shape known now.cur attached;
+          };
+          firm = λ place found held. item-here shape owners now forced sound place found held;
+          fits = All-weaker (CanPutBack (shapes_by geometry is.log is.contents)) (FitsPart shape)
+              (λ image can mine.
+              let same : can.shape ≡ shape = shape-is can.shape shape
+              (sym can.laid ∙ ap (shapes_by geometry is.log is.contents) mine ∙ laid) in
+              record {
+                place = subst (λ (s : Shape). IsPlaceOf s image.place) same can.place;
+                old = subst (λ (s : Shape). IfSome (option_and_then record_of image.old)
+                    (IsRecordOf s image.place)) same can.old;
+              })
+              images is.images;
+        }
 
-    -- ---- its log
+-- Where contents of which it recovers to the records have what the blocks have with the
+-- before-images put back, they are committed.
+module _ (geometry : Geometry) (number : ℕ) (now : Seen) (contents : ℕ → Content)
+    (is : Recovers geometry number now.cur (standing_all contents)) (of : IsOf geometry now)
+    (forced : AllForced now.count now.cur now.may)
+    (back : AreBackOf geometry is.log.records contents now.cur)
+    (ascends : (part : ℕ) → Ascends (contents part))
+    (others : (part : ℕ) → shape_by geometry (contents 0) part ≡ None → contents part ≡ []) where
+  abbrev put : List BeforeImage
+  put = images_of is.log.records
+
+  -- the contents lay the parts as what is recovered does
+  laid-whole : (part : ℕ) → shape_by geometry (contents 0) part
+      ≡ shapes_by geometry is.log is.contents part
+  laid-whole part = sym (shape-stands geometry (contents 0) part)
+      ∙ laid-same geometry number now (standing_all contents) is of forced part
+
+  committed-by : AreCommitted geometry is.log.records contents
+  committed-by = record {
+    each = ascends;
+    catalog = catalog-whole geometry (contents 0)
+        (subst (IsCatalog geometry) (sym (is.back 0)) is.stands.catalog);
+    inside = λ part shape laid. is.inside part shape (sym (laid-whole part) ∙ laid);
+    others = others;
+    images = backs-by (shapes_by geometry is.log is.contents) (shape_by geometry (contents 0))
+        laid-whole put is.images;
+    alone = is.alone;
+    olds = λ part place image there.
+        sym (item-back geometry number now (standing_all contents) is of forced part place
+        ∙ ap (λ (o : Option BeforeImage). kept_or o
+        (standing_of (item_at (is.contents part) place))) there)
+        ∙ stands-item (contents part) place (ascends part);
+  }
+
+  module _ (owners : Owners) (past : IsPastLog geometry owners)
+      (within : (part : ℕ) (shape : Shape)
+      → shapes_by geometry is.log is.contents part ≡ Some shape
+      → StaysIn shape owners now.cur) where
+    settled-part : (part : ℕ) (shape : Shape)
+        → shape_by geometry (contents 0) part ≡ Some shape
+        → IsSettledPart shape owners part put (contents part) now
+    settled-part part shape laid =
+        let found = sym (laid-whole part) ∙ laid in
+        let on = on-by geometry number now (standing_all contents) is of forced owners past within
+        part shape found in
+        let rests = rests-by geometry number now (standing_all contents) is of forced owners past
+        within part shape on found in
+        record {
+          rests = rests;
+          firm = item-here shape owners now forced (rest-sound shape owners now rests);
+          back = back part shape laid;
+        }
+
+    part-by : (part : ℕ) (shape : Shape) → shape_by geometry (contents 0) part ≡ Some shape
+        → IsPartSafe shape owners part put (contents part) now
+    part-by part shape laid =
+        let found = sym (laid-whole part) ∙ laid in
+        let settled = settled-part part shape laid in
+        record {
+          sound = rest-sound shape owners now settled.rests;
+          items = λ place item may none. settled.firm place item may
+              ∙ sym (back part shape laid place
+              ∙ ap (λ (o : Option BeforeImage). item_back shape o (item_of shape now.cur place))
+              none);
+          room = room-by geometry number now (standing_all contents) is of forced owners past
+              within part shape (on-by geometry number now (standing_all contents) is of forced
+              owners past within part shape found) found;
+        }
+
+    safe-by : IsSafeBy geometry owners is.log.records contents now
+    safe-by = record { committed = committed-by; parts = part-by }
 
     module _ (allowed : IsAllowed geometry) (stands : LogStands (made geometry is.log) now) where
-      pub settled-safe : IsSafe geometry number owners (made geometry is.log) (λ records. recovered)
-          now
+      pub settled-safe : IsSafe geometry number owners (made geometry is.log) (alike contents) now
       settled-safe = record {
         allowed = allowed;
         past = past;
@@ -411,59 +436,27 @@ module _ (geometry : Geometry) (number : ℕ) (now : Seen) (recovered : ℕ → 
         logs = λ image left. stands_has (made geometry is.log) now image allowed stands.fits stands
             left;
         by_log = λ content log. subst
-            (λ (rs : List LogRecord). IsSafeBy geometry owners rs recovered now)
-            (sym (same-records content log)) safe-by;
+            (λ (rs : List LogRecord). IsSafeBy geometry owners rs contents now)
+            (sym (same-records geometry number now (standing_all contents) is of forced content
+            log)) safe-by;
       }
 
--- Its units of recovery may be undone, by these parts, where contents of which it recovers to the
--- records have what the blocks have with the before-images put back.
-module _ (geometry : Geometry) (number : ℕ) (now : Seen) (contents : ℕ → Content)
-    (is : Recovers geometry number now.cur (standing_all contents)) (of : IsOf geometry now)
-    (forced : AllForced now.count now.cur now.may) (owners : Owners)
-    (past : IsPastLog geometry owners)
-    (within : (part : ℕ) (shape : Shape) → shapes_by geometry is.log is.contents part ≡ Some shape
-    → StaysIn shape owners now.cur) (allowed : IsAllowed geometry)
-    (stands : LogStands (made geometry is.log) now)
-    (back : AreBackOf geometry is.log.records contents now.cur)
-    (ascends : (part : ℕ) → Ascends (contents part)) where
-  -- the contents lay the parts as what is recovered does
-  laid-whole : (part : ℕ) → shape_by geometry (contents 0) part
-      ≡ shapes_by geometry is.log is.contents part
-  laid-whole part = sym (shape-stands geometry (contents 0) part)
-      ∙ laid-same geometry number now (standing_all contents) is of forced part
-
-  settled-part : (part : ℕ) (shape : Shape)
-      → shapes_by geometry is.log is.contents part ≡ Some shape
-      → shape_by geometry (contents 0) part ≡ Some shape
-      → IsSettledPart shape owners part (images_of is.log.records) (contents part) now
-  settled-part part shape found laid =
-      let on : IsOn shape now =
-      inside-on geometry shape now of.count of.size (is.inside part shape found) in
-      let rests = forced-rests shape owners now on forced (is.contents part)
-      (is.stands.laid part shape found) (within part shape found) in
-      record {
-        rests = rests;
-        firm = item-here shape owners now forced (rest-sound shape owners now rests);
-        back = back part shape laid;
+      -- and its units of recovery may be undone, by these parts
+      pub settled-undone : (shapes : List Shape)
+          → All (λ (shape : Shape). shapes_by geometry is.log is.contents (part_no shape).0
+          ≡ Some shape) shapes → All (IsCovered shapes) put
+          → IsSettled number owners (made geometry is.log) contents shapes now
+      settled-undone shapes laid covered = record {
+        safe = settled-safe;
+        ascends = ascends;
+        opened = record {
+          laid = All-weaker
+              (λ (shape : Shape). shapes_by geometry is.log is.contents (part_no shape).0
+              ≡ Some shape)
+              (λ (shape : Shape). shape_by geometry (contents 0) (part_no shape).0 ≡ Some shape)
+              (λ shape there. laid-whole (part_no shape).0 ∙ there) shapes laid;
+          records = same-records geometry number now (standing_all contents) is of forced;
+        };
+        parts = settled-part;
+        covered = covered;
       }
-
-  pub settled-undone : (shapes : List Shape)
-      → All (λ (shape : Shape). shapes_by geometry is.log is.contents (part_no shape).0
-      ≡ Some shape) shapes → All (IsCovered shapes) (images_of is.log.records)
-      → IsSettled number owners (made geometry is.log) contents shapes now
-  settled-undone shapes laid covered = record {
-    safe = settled-safe geometry number now (standing_all contents) is of forced owners past within
-        allowed stands;
-    ascends = ascends;
-    opened = record {
-      laid = All-weaker
-          (λ (shape : Shape). shapes_by geometry is.log is.contents (part_no shape).0
-          ≡ Some shape)
-          (λ (shape : Shape). shape_by geometry (contents 0) (part_no shape).0 ≡ Some shape)
-          (λ shape there. laid-whole (part_no shape).0 ∙ there) shapes laid;
-      records = same-records geometry number now (standing_all contents) is of forced owners past
-          within;
-    };
-    parts = λ part shape there. settled-part part shape (sym (laid-whole part) ∙ there) there;
-    covered = covered;
-  }

@@ -13,7 +13,7 @@ use Rattle.vr_types.specs.declared.geometry.Geometry.{Geometry}
 use Rattle.vr_types.specs.declared.unit.Unit.{Unit as UnitOfRecovery}
 use Rattle.vr_altkey.specs.Placing.{placed_in}
 use Rattle.vr_altkey.proofs.CallerLemmas.{same_items}
-use Rattle.vr_space.specs.Part.{Shape, left_by}
+use Rattle.vr_space.specs.Part.{Shape, item_of, left_by}
 use Rattle.vr_space.proofs.CallerLemmas.{content_item, stands_content}
 use Rattle.vr_history.specs.Committed.{kept_or}
 use Rattle.vr_history.specs.State.{BeforeImage}
@@ -24,8 +24,8 @@ use Rattle.vr_undo.proofs.CallerLemmas.{record-stands, stands-ascends, stands-it
 use Rattle.vr_volume.specs.Laid.{shape_by}
 use Rattle.vr_volume.specs.PutBack.{image_in, images_of, is_image_of, oldest, put_back, standing}
 use Rattle.vr_volume.specs.PutBack.{standing_of}
-use Rattle.vr_recover.specs.Recovered.{AreBackOf, IsRecovered, item_back, standing_all}
-use Rattle.vr_volume.specs.Volume.{CanPutBack, Recovers, shapes_by}
+use Rattle.vr_recover.specs.Recovered.{AreBackOf, IsRecovered, IsWhole, item_back, standing_all}
+use Rattle.vr_volume.specs.Volume.{CanPutBack, Recovers, RecoversItems, shapes_by}
 use Rattle.vr_volume.proofs.Alone.{is-there}
 use Rattle.vr_volume.proofs.CallerLemmas.{back-record, left-stands, records-ascend, shape-stands}
 use Rattle.vr_volume.proofs.PuttingBack.{back-ascends, back-item}
@@ -239,3 +239,42 @@ module _ (geometry : Geometry) (number : ℕ) (image : Image) (recovered : ℕ �
     spelled = is.stands.log_is;
     items = whole-back;
   }
+
+  -- so it recovers to the records of contents that the blocks have
+  pub recovers-whole : IsWhole geometry number whole image
+  recovers-whole = record {
+    recovers = whole-recovers;
+    whole = whole-recovered;
+    ascends = whole-ascend;
+    others = λ part none. whole-none part (sym (whole-lays part) ∙ none);
+  }
+
+-- ---- the items
+
+-- Off the places of its log's before-images it has the items of such contents.
+module _ (geometry : Geometry) (number : ℕ) (image : Image) (contents : ℕ → Content)
+    (is : Recovers geometry number image (standing_all contents))
+    (back : AreBackOf geometry is.log.records contents image)
+    (others : (part : ℕ) → shape_by geometry (contents 0) part ≡ None → contents part ≡ []) where
+  lays-same : (part : ℕ) → shapes_by geometry is.log is.contents part
+      ≡ shape_by geometry (contents 0) part
+  lays-same part = sym (ap (λ (c : Content). shape_by geometry c part) (is.back 0))
+      ∙ shape-stands geometry (contents 0) part
+
+  item-same : (part : ℕ) (place : List ℕ)
+      → oldest (images_of is.log.records) part place ≡ None
+      → item_at (is.contents part) place ≡ item_at (contents part) place
+  item-same part place none = by_shape (shape_by geometry (contents 0) part) refl
+    where
+      by_shape : (found : Option Shape) → shape_by geometry (contents 0) part ≡ found
+          → item_at (is.contents part) place ≡ item_at (contents part) place
+      by_shape None there = ap (λ (c : Content). item_at c place)
+          (is.stands.others part (lays-same part ∙ there) ∙ sym (others part there))
+      by_shape (Some shape) there =
+          content_item shape image (is.contents part)
+          (is.stands.laid part shape (lays-same part ∙ there)) place
+          ∙ sym (back part shape there place
+          ∙ ap (λ (o : Option BeforeImage). item_back shape o (item_of shape image place)) none)
+
+  pub recovers-items : RecoversItems geometry number is.log contents image
+  recovers-items = record { recovers = is; log_is = refl; items = item-same }

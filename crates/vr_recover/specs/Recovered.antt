@@ -1,9 +1,9 @@
 -- What a volume has once the before-images are put back that its log has of units without an end.
 -- Records are what it recovers to; an added record of an entry-sequenced part keeps its address,
 -- and is withdrawn. The rules are this project's own.
-use Rattle.std.specs.Prelude.{◌≡◌, ℕ, List, Option, Some, None}
+use Rattle.std.specs.Prelude.{◌≡◌, ℕ, List, [], Option, Some, None}
 use Rattle.std.specs.Option.{option_and_then}
-use Rattle.vr_types.specs.Content.{Content, Item, item_at, record_of}
+use Rattle.vr_types.specs.Content.{Ascends, Content, Item, item_at, record_of}
 use Rattle.vr_types.specs.Image.{Image, block_at}
 use Rattle.vr_types.specs.declared.geometry.Geometry.{Geometry}
 use Rattle.vr_space.specs.Part.{Shape, item_of, left_by}
@@ -14,6 +14,7 @@ use Rattle.vr_log.specs.Spells.{Spells}
 use Rattle.vr_log.specs.declared.record.LogRecord.{LogRecord}
 use Rattle.vr_volume.specs.Laid.{shape_by}
 use Rattle.vr_volume.specs.PutBack.{images_of, oldest, standing}
+use Rattle.vr_volume.specs.Volume.{Recovers, RecoversItems}
 
 -- the records of each part
 abbrev pub standing_all : (ℕ → Content) → ℕ → Content
@@ -48,3 +49,30 @@ pub record IsRecovered (geometry : Geometry) (number : ℕ) (contents : ℕ → 
   pub log : LogContent
   pub spelled : Spells geometry image log
   pub items : AreBackOf geometry log.records contents image
+
+-- The blocks have these contents so, and recover to their records; a part that isn't laid has
+-- nothing.
+pub record IsWhole (geometry : Geometry) (number : ℕ) (contents : ℕ → Content) (image : Image)
+    : Type 0 where
+  pub recovers : Recovers geometry number image (standing_all contents)
+  pub whole : IsRecovered geometry number contents image
+  pub ascends : (part : ℕ) → Ascends (contents part)
+  pub others : (part : ℕ) → shape_by geometry (contents 0) part ≡ None → contents part ≡ []
+
+-- ---- while it is put back
+
+-- where these before-images have none of a place, those haven't either
+abbrev pub HasNoMore : List BeforeImage → List BeforeImage → Type 0
+HasNoMore these those = (part : ℕ) (place : List ℕ) → oldest these part place ≡ None
+    → oldest those part place ≡ None
+
+-- The image recovers to the records of these contents, by a log of its own. Off the places of that
+-- log's before-images it has the items of the contents, withdrawn or not; and where these images
+-- have none of a place, that log hasn't either. So what is withdrawn there stays withdrawn, with
+-- nothing to put back: an address that was given is never given again (DFSMS Using Data Sets,
+-- entry-sequenced data sets).
+pub record KeepsAll (geometry : Geometry) (number : ℕ) (images : List BeforeImage)
+    (contents : ℕ → Content) (image : Image) : Type 0 where
+  pub log : LogContent
+  pub items : RecoversItems geometry number log contents image
+  pub fewer : HasNoMore images (images_of log.records)

@@ -23,7 +23,7 @@ use Rattle.vr_log.specs.declared.record.LogRecord.TheVariants.{Before, End}
 use Rattle.vr_part.specs.Attached.{IsAttachedWith}
 use Rattle.vr_volume.specs.Laid.{shape_by}
 use Rattle.vr_volume.specs.PutBack.{images_of, lengths_kept}
-use Rattle.vr_recover.specs.Recovered.{IsBackOf, standing_all}
+use Rattle.vr_recover.specs.Recovered.{HasNoMore, IsBackOf}
 use Rattle.vr_volume.specs.Safe.{IsSafe}
 
 -- Between two calls that put before-images back into it: the part is at rest, in the blocks that
@@ -85,6 +85,11 @@ pub record ArePutBack (shape : Shape) (content : Content) (images : List BeforeI
 abbrev pub HasAllRecords : LogNow → Type 0
 HasAllRecords log = (content : LogContent) → IsLogOf log content → content.records ≡ log.records
 
+-- whichever log an image has, it has no before-image of a place of which these images have none
+abbrev pub HasFewer : List BeforeImage → LogNow → Type 0
+HasFewer images log = (content : LogContent) → IsLogOf log content
+    → HasNoMore images (images_of content.records)
+
 -- Whatever a crash leaves of a part, each place has the item of the content.
 abbrev pub HasContent : Shape → Content → Seen → Type 0
 HasContent shape content now = (place : List ℕ) (found : Option Item)
@@ -136,12 +141,11 @@ HasAll geometry contents now = (part : ℕ) (shape : Shape)
 abbrev pub alike : (ℕ → Content) → List LogRecord → ℕ → Content
 alike contents records = contents
 
--- The volume is safe by these owners, with the records of these contents committed, and whatever a
--- crash leaves of its parts has their items, what was withdrawn too: no before-image has to be put
--- back any more.
+-- The volume is safe by these owners, with these contents committed, what was withdrawn too, and
+-- whatever a crash leaves of its parts has their items: no before-image has to be put back any more.
 pub record IsUndone (number : ℕ) (owners : Owners) (log : LogNow) (contents : ℕ → Content)
     (now : Seen) : Type 0 where
-  pub safe : IsSafe log.geometry number owners log (alike (standing_all contents)) now
+  pub safe : IsSafe log.geometry number owners log (alike contents) now
   pub ascends : (part : ℕ) → Ascends (contents part)
   pub all : HasAll log.geometry contents now
 
@@ -161,11 +165,11 @@ AreSettled geometry owners images contents now = (part : ℕ) (shape : Shape)
     → IsSettledPart shape owners part images (contents part) now
 
 -- What undoing a crash's units of recovery begins with: the volume is safe by these owners, with
--- the records of these contents committed, these parts are laid by them, each part is as a crash
--- left it, and the part of each before-image is one of these.
+-- these contents committed, these parts are laid by them, each part is as a crash left it, and the
+-- part of each before-image is one of these.
 pub record IsSettled (number : ℕ) (owners : Owners) (log : LogNow) (contents : ℕ → Content)
     (shapes : List Shape) (now : Seen) : Type 0 where
-  pub safe : IsSafe log.geometry number owners log (alike (standing_all contents)) now
+  pub safe : IsSafe log.geometry number owners log (alike contents) now
   pub ascends : (part : ℕ) → Ascends (contents part)
   pub opened : AreOpened log.geometry log contents shapes
   pub parts : AreSettled log.geometry owners (images_of log.records) contents now

@@ -1,5 +1,5 @@
 //! Ending the units of recovery that a crash left, once their before-images are put back.
-ghost use Rattle.std.specs.Prelude.{◌≡◌, ◌<◌, ◌+◌, ◌^◌, [], ℕ, IsTrue, OnOk, false};
+ghost use Rattle.std.specs.Prelude.{◌≡◌, ◌<◌, ◌+◌, ◌^◌, [], ℕ, List, IsTrue, OnOk, false};
 ghost use Rattle.vr_types.specs.Content.{Content};
 ghost use Rattle.vr_types.specs.Faults.{HasWriteCause};
 ghost use Rattle.vr_types.specs.Moments.{Guards};
@@ -8,17 +8,18 @@ ghost use Rattle.vr_space.specs.Owners.{Owners};
 ghost use Rattle.vr_log.specs.Live.{live_in};
 ghost use Rattle.vr_log.specs.LogNow.{IsForced, IsOf, next_generation};
 ghost use Rattle.vr_log.specs.Standing.{InLog, LogStands};
-ghost use Rattle.vr_recover.specs.Recovered.{standing_all};
-ghost use Rattle.vr_volume.specs.Volume.{Recovers};
+ghost use Rattle.vr_history.specs.State.{BeforeImage};
+ghost use Rattle.vr_recover.specs.Recovered.{KeepsAll};
 ghost use Rattle.vr_mount.specs.Touched.{Anything};
-ghost use Rattle.vr_recover.specs.Undone.{IsOut, IsUndone};
+ghost use Rattle.vr_recover.specs.Undone.{HasFewer, IsOut, IsUndone};
 
 use vr_log::{EndKind, LogRecord, UndoLog};
 use vr_types::{Blocks, DeviceFault};
 use vr_volume::{append_end, force_log, restart_log};
 
 /// Ends the unit of a before-image as backed out, where it is live. In every image of every moment,
-/// whether it fails or not, the blocks recover to what was committed.
+/// whether it fails or not, the blocks recover to the records of what was committed, and keep what was
+/// withdrawn.
 fn back_out<B: Blocks>(
     blocks: &mut B,
     log: &mut UndoLog,
@@ -30,14 +31,17 @@ fn back_out<B: Blocks>(
     ensures touches { IsTrue B.tells → Touches (InLog log.old.geometry) Anything
         (B.seen blocks.old) (B.seen blocks.new) }
     ensures any_moment { IsTrue B.tells → (number : ℕ) (owners : Owners)
-        (contents : ℕ → Content)
+        (images : List BeforeImage) (contents : ℕ → Content)
         → IsUndone number owners log.old contents (B.seen blocks.old)
+        → HasFewer images log.old
         → Guards (B.seen blocks.old) (B.seen blocks.new)
-        (λ image. Recovers log.old.geometry number image (standing_all contents)) }
+        (KeepsAll log.old.geometry number images contents) }
     ensures undone { IsTrue B.tells → OnOk result ((number : ℕ) (owners : Owners)
         (contents : ℕ → Content)
         → IsUndone number owners log.old contents (B.seen blocks.old)
         → IsUndone number owners log.new contents (B.seen blocks.new)) }
+    ensures fewer { IsTrue B.tells → OnOk result ((images : List BeforeImage)
+        → HasFewer images log.old → HasFewer images log.new) }
     ensures out { OnOk result (IsOut rec.now log.old.records log.new.records) }
     ensures geometry { OnOk result (log.new.geometry ≡ log.old.geometry) }
     ensures generation { OnOk result (log.new.generation ≡ log.old.generation) }
@@ -55,7 +59,8 @@ fn back_out<B: Blocks>(
 }
 
 /// Ends each unit that is live as backed out. `records` are those of the log. In every image of
-/// every moment, whether it fails or not, the blocks recover to what was committed.
+/// every moment, whether it fails or not, the blocks recover to the records of what was committed, and
+/// keep what was withdrawn.
 fn back_out_all<B: Blocks>(
     blocks: &mut B,
     log: &mut UndoLog,
@@ -68,10 +73,11 @@ fn back_out_all<B: Blocks>(
     ensures touches { IsTrue B.tells → Touches (InLog log.old.geometry) Anything
         (B.seen blocks.old) (B.seen blocks.new) }
     ensures any_moment { IsTrue B.tells → (number : ℕ) (owners : Owners)
-        (contents : ℕ → Content)
+        (images : List BeforeImage) (contents : ℕ → Content)
         → IsUndone number owners log.old contents (B.seen blocks.old)
+        → HasFewer images log.old
         → Guards (B.seen blocks.old) (B.seen blocks.new)
-        (λ image. Recovers log.old.geometry number image (standing_all contents)) }
+        (KeepsAll log.old.geometry number images contents) }
     ensures undone { IsTrue B.tells → OnOk result ((number : ℕ) (owners : Owners)
         (contents : ℕ → Content)
         → IsUndone number owners log.old contents (B.seen blocks.old)
@@ -91,8 +97,9 @@ fn back_out_all<B: Blocks>(
 }
 
 /// Ends each unit that is live as backed out, forces that, and begins the next generation of the
-/// log. In every image of every moment, whether it fails or not, the blocks recover to what was
-/// committed; once it is done the volume is safe, with a log of no records.
+/// log. In every image of every moment, whether it fails or not, the blocks recover to the records of
+/// what was committed, and keep what was withdrawn; once it is done the volume is safe, with a log of
+/// no records.
 pub(crate) fn end_all<B: Blocks>(
     blocks: &mut B,
     log: &mut UndoLog,
@@ -105,10 +112,11 @@ pub(crate) fn end_all<B: Blocks>(
     ensures touches { IsTrue B.tells → Touches (InLog log.old.geometry) Anything
         (B.seen blocks.old) (B.seen blocks.new) }
     ensures any_moment { IsTrue B.tells → (number : ℕ) (owners : Owners)
-        (contents : ℕ → Content)
+        (images : List BeforeImage) (contents : ℕ → Content)
         → IsUndone number owners log.old contents (B.seen blocks.old)
+        → HasFewer images log.old
         → Guards (B.seen blocks.old) (B.seen blocks.new)
-        (λ image. Recovers log.old.geometry number image (standing_all contents)) }
+        (KeepsAll log.old.geometry number images contents) }
     ensures undone { IsTrue B.tells → log.old.generation + 1 < 2 ^ 64
         → OnOk result ((number : ℕ) (owners : Owners)
         (contents : ℕ → Content)

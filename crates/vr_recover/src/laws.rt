@@ -1,5 +1,6 @@
 //! Laws of what opening begins with: each is the contract of a function that does nothing.
-ghost use Rattle.std.specs.Prelude.{◌≡◌, ◌+◌, ◌<◌, ◌≤◌, ℕ, List, All, Some, length, slice_set};
+ghost use Rattle.std.specs.Prelude.{◌≡◌, ◌+◌, ◌<◌, ◌≤◌, [], ℕ, List, All, None, Some, length};
+ghost use Rattle.std.specs.Prelude.{slice_set};
 ghost use Rattle.vr_types.specs.Blocks.{AllForced};
 ghost use Rattle.vr_types.specs.Content.{Ascends, Content};
 ghost use Rattle.vr_types.specs.Geometry.{IsAllowed};
@@ -12,24 +13,29 @@ ghost use Rattle.vr_log.specs.LogNow.{IsOf, last_index, made};
 ghost use Rattle.vr_log.specs.Records.{bytes_of};
 ghost use Rattle.vr_log.specs.Spells.{Spells};
 ghost use Rattle.vr_log.specs.Standing.{InLog, LogStands};
+ghost use Rattle.vr_volume.specs.Laid.{shape_by};
 ghost use Rattle.vr_volume.specs.PutBack.{images_of};
 ghost use Rattle.vr_recover.specs.Recovered.{standing_all};
 ghost use Rattle.vr_volume.specs.Safe.{IsSafe};
 ghost use Rattle.vr_volume.specs.Volume.{Recovers, shapes_by};
 ghost use Rattle.vr_recover.specs.Recovered.{AreBackOf};
-ghost use Rattle.vr_recover.specs.Undone.{IsCovered, IsOpenedPart, IsSettled};
+ghost use Rattle.vr_recover.specs.Undone.{IsCovered, IsOpenedPart, IsSettled, alike};
 
 use vr_types::Blocks;
 
 /// What opening begins with: where a crash leaves what is read alone, and the blocks that are read
-/// recover to some contents, the volume is safe, with its log, and with these contents committed.
+/// recover to the records of some contents, which they have with the before-images put back, the
+/// volume is safe, with its log, and with these contents committed, what was withdrawn too.
 pub fn settled_is_safe<B: Blocks>(blocks: &B)
-    ensures { (geometry : Geometry) (number : ℕ) (recovered : ℕ → Content)
-        (is : Recovers geometry number (B.seen blocks.now).cur recovered)
+    ensures { (geometry : Geometry) (number : ℕ) (contents : ℕ → Content)
+        (is : Recovers geometry number (B.seen blocks.now).cur (standing_all contents))
+        → AreBackOf geometry is.log.records contents (B.seen blocks.now).cur
+        → ((part : ℕ) → Ascends (contents part))
+        → ((part : ℕ) → shape_by geometry (contents 0) part ≡ None → contents part ≡ [])
         → IsAllowed geometry → IsOf geometry (B.seen blocks.now)
         → AllForced (B.seen blocks.now).count (B.seen blocks.now).cur (B.seen blocks.now).may
         → LogStands (made geometry is.log) (B.seen blocks.now)
-        → IsSafe geometry number is.stands.owners (made geometry is.log) (λ records. recovered)
+        → IsSafe geometry number is.stands.owners (made geometry is.log) (alike contents)
         (B.seen blocks.now) }
 {}
 
@@ -53,6 +59,7 @@ pub fn settled_may_be_undone<B: Blocks>(blocks: &B)
         (is : Recovers geometry number (B.seen blocks.now).cur (standing_all contents))
         → AreBackOf geometry is.log.records contents (B.seen blocks.now).cur
         → ((part : ℕ) → Ascends (contents part))
+        → ((part : ℕ) → shape_by geometry (contents 0) part ≡ None → contents part ≡ [])
         → IsAllowed geometry → IsOf geometry (B.seen blocks.now)
         → AllForced (B.seen blocks.now).count (B.seen blocks.now).cur (B.seen blocks.now).may
         → LogStands (made geometry is.log) (B.seen blocks.now) → (shapes : List Shape)

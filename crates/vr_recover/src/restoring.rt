@@ -2,7 +2,7 @@
 ghost use Rattle.std.specs.Prelude.{◌≡◌, ◌<◌, ◌≤◌, ◌+◌, ◌^◌, [], ℕ, All, IsTrue, IfErr, OnOk};
 ghost use Rattle.std.specs.Prelude.{false, length, map};
 ghost use Rattle.vr_types.specs.Blocks.{AllForced};
-ghost use Rattle.vr_types.specs.Content.{Ascends, Content};
+ghost use Rattle.vr_types.specs.Content.{Content};
 ghost use Rattle.vr_types.specs.Geometry.{IsAllowed};
 ghost use Rattle.vr_types.specs.LogSpace.{log_size};
 ghost use Rattle.vr_types.specs.Moments.{Guards};
@@ -16,13 +16,11 @@ ghost use Rattle.vr_log.specs.Standing.{InLog, IsSettled, LogStands};
 ghost use Rattle.vr_part.specs.Any.{shape_any};
 ghost use Rattle.vr_undo.specs.Records.{images_in};
 ghost use Rattle.vr_volume.specs.PutBack.{images_of};
-ghost use Rattle.vr_recover.specs.Recovered.{standing_all};
-ghost use Rattle.vr_volume.specs.Volume.{Recovers};
 ghost use Rattle.vr_recover.specs.Found.{AreKnown, IsFound, IsLogFound, IsPartReady, IsPlanned};
 ghost use Rattle.vr_recover.specs.Found.{IsUndoable, areas_kept};
 ghost use Rattle.vr_recover.specs.OpenNo.{HasOpenCause, IsSilentNo};
 ghost use Rattle.vr_recover.specs.Opening.{HasNoSplit};
-ghost use Rattle.vr_recover.specs.Recovered.{IsRecovered};
+ghost use Rattle.vr_recover.specs.Recovered.{IsWhole, KeepsAll};
 ghost use Rattle.vr_recover.specs.Undone.{IsUndone};
 ghost use Rattle.vr_recover.specs.Undone.{IsSettled as IsSettledBy};
 
@@ -90,7 +88,7 @@ fn undo<B: Blocks>(
         → IsSettledBy number owners begun.old.log contents (map shape_any parts.old.items)
         (B.seen blocks.old)
         → Guards (B.seen blocks.old) (B.seen blocks.new)
-        (λ image. Recovers begun.old.log.geometry number image (standing_all contents)) }
+        (KeepsAll begun.old.log.geometry number (images_of begun.old.log.records) contents) }
     ensures undone { IsTrue B.tells → begun.old.log.generation + 1 < 2 ^ 64
         → OnOk result ((number : ℕ) (owners : Owners)
         (contents : ℕ → Content)
@@ -130,8 +128,9 @@ fn undo<B: Blocks>(
 /// Makes a volume that was found one without units of recovery: what an earlier log left past the
 /// end of this one becomes zeros, the before-images of live units are put back, these units are
 /// ended, and the next generation of the log begins. In every image of every moment, whether it
-/// fails or not, the blocks recover to what they recovered to. Once it is done the volume is safe
-/// by who owns the areas, and its parts have what they had, with the before-images put back.
+/// fails or not, the blocks recover to what they recovered to, and keep what was withdrawn. Once it is
+/// done the volume is safe by who owns the areas, and its parts have what they had, with the
+/// before-images put back.
 pub(crate) fn restore<B: Blocks>(
     alloc: Global,
     blocks: &mut B,
@@ -155,13 +154,11 @@ pub(crate) fn restore<B: Blocks>(
         (map shape_any parts.old.items) found.now.space (B.seen blocks.old).cur }
     requires known { IsTrue B.tells → AreKnown parts.old.items (B.seen blocks.old).cur }
     ensures any_moment { IsTrue B.tells → (number : ℕ) (contents : ℕ → Content)
-        → Recovers geometry.now number (B.seen blocks.old).cur contents
+        → IsWhole geometry.now number contents (B.seen blocks.old).cur
         → Guards (B.seen blocks.old) (B.seen blocks.new)
-        (λ image. Recovers geometry.now number image contents) }
+        (KeepsAll geometry.now number (images_of begun.old.content.records) contents) }
     ensures undone { IsTrue B.tells → OnOk result ((number : ℕ) (contents : ℕ → Content)
-        → Recovers geometry.now number (B.seen blocks.old).cur (standing_all contents)
-        → IsRecovered geometry.now number contents (B.seen blocks.old).cur
-        → ((part : ℕ) → Ascends (contents part))
+        → IsWhole geometry.now number contents (B.seen blocks.old).cur
         → IsUndone number (owner_of geometry.now found.now.space) begun.new.log contents
         (B.seen blocks.new)) }
     ensures ready { IsTrue B.tells → OnOk result

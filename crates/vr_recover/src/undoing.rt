@@ -10,8 +10,7 @@ ghost use Rattle.vr_attach.specs.Owning.{IsPastLog};
 ghost use Rattle.vr_log.specs.LogNow.{IsForced, IsOf, next_generation};
 ghost use Rattle.vr_log.specs.Standing.{LogStands};
 ghost use Rattle.vr_volume.specs.PutBack.{AreAlone, images_of};
-ghost use Rattle.vr_recover.specs.Recovered.{standing_all};
-ghost use Rattle.vr_volume.specs.Volume.{Recovers};
+ghost use Rattle.vr_recover.specs.Recovered.{KeepsAll};
 ghost use Rattle.vr_recover.specs.Found.{areas_kept};
 ghost use Rattle.vr_recover.specs.Opening.{HasNoSplit};
 ghost use Rattle.vr_recover.specs.Undone.{
@@ -32,9 +31,9 @@ use vr_types::{Blocks, DeviceFault};
 
 /// Puts the before-images that the log has of live units back into the parts, forces that, ends
 /// each unit as backed out, and begins the next generation of the log. `records` are those of the
-/// log. In every image of every moment, whether it fails or not, the blocks recover to what was
-/// committed; once it is done the volume is safe, with a log of no records, and whatever a crash
-/// leaves of its parts has their items, what was withdrawn too.
+/// log. In every image of every moment, whether it fails or not, the blocks recover to the records of
+/// what was committed, and what was withdrawn stays so; once it is done the volume is safe, with a
+/// log of no records, and whatever a crash leaves of its parts has their items.
 pub(crate) fn undo_units<B: Blocks, K: Kept>(
     blocks: &mut B,
     parts: &mut [AnyPart],
@@ -61,7 +60,7 @@ pub(crate) fn undo_units<B: Blocks, K: Kept>(
         (contents : ℕ → Content)
         → IsSettled number owners log.old contents (map shape_any parts.old) (B.seen blocks.old)
         → Guards (B.seen blocks.old) (B.seen blocks.new)
-        (λ image. Recovers log.old.geometry number image (standing_all contents)) }
+        (KeepsAll log.old.geometry number (images_of log.old.records) contents) }
     ensures undone { IsTrue B.tells → log.old.generation + 1 < 2 ^ 64
         → OnOk result ((number : ℕ) (owners : Owners)
         (contents : ℕ → Content)

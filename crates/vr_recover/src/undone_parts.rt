@@ -11,7 +11,6 @@ ghost use Rattle.vr_attach.specs.Owning.{IsPastLog};
 ghost use Rattle.vr_log.specs.LogNow.{IsForced};
 ghost use Rattle.vr_log.specs.Standing.{LogStands};
 ghost use Rattle.vr_volume.specs.PutBack.{AreAlone, images_of};
-ghost use Rattle.vr_recover.specs.Recovered.{standing_all};
 ghost use Rattle.vr_volume.specs.Safe.{IsSafe, IsSafeImage};
 ghost use Rattle.vr_recover.specs.Found.{areas_kept};
 ghost use Rattle.vr_recover.specs.Opening.{HasNoSplit};
@@ -35,7 +34,7 @@ use vr_types::{Blocks, DeviceFault};
 
 /// Puts the before-images that the log has of live units back into the parts, and forces each.
 /// `records` are those of the log. At each moment of it, whether it fails or not, each image is a
-/// safe one, with the same records committed; once it is done, whatever a crash leaves of the parts
+/// safe one, with the same contents committed; once it is done, whatever a crash leaves of the parts
 /// has the items of the contents.
 pub(crate) fn put_back_all<B: Blocks, K: Kept>(
     blocks: &mut B,
@@ -58,16 +57,16 @@ pub(crate) fn put_back_all<B: Blocks, K: Kept>(
         (K.kept kept.now (part_no (shape_any part))) (B.seen blocks.old)) parts.old }
     ensures safe { IsTrue B.tells → (geometry : Geometry) (member : ℕ) (owners : Owners)
         (contents : ℕ → Content)
-        → IsSafe geometry member owners log.now (alike (standing_all contents))
+        → IsSafe geometry member owners log.now (alike contents)
         (B.seen blocks.old)
         → AreOpened geometry log.now contents (map shape_any parts.old)
         → Guards (B.seen blocks.old) (B.seen blocks.new)
-        (IsSafeImage geometry member owners log.now (alike (standing_all contents)))
-        × IsSafe geometry member owners log.now (alike (standing_all contents))
+        (IsSafeImage geometry member owners log.now (alike contents))
+        × IsSafe geometry member owners log.now (alike contents)
         (B.seen blocks.new) }
     ensures all { IsTrue B.tells → OnOk result ((geometry : Geometry) (member : ℕ)
         (owners : Owners) (contents : ℕ → Content)
-        → IsSafe geometry member owners log.now (alike (standing_all contents))
+        → IsSafe geometry member owners log.now (alike contents)
         (B.seen blocks.old)
         → AreOpened geometry log.now contents (map shape_any parts.old)
         → AreSettled geometry owners (images_of log.now.records) contents (B.seen blocks.old)

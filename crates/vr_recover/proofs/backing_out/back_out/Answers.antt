@@ -5,57 +5,64 @@ use Rattle.vr_log.specs.LogNow.{HasLog, with_record}
 use Rattle.vr_log.specs.Standing.{InLog}
 use Rattle.vr_log.specs.declared.record.EndKind.TheVariants.{BackedOut}
 use Rattle.vr_log.specs.declared.record.LogRecord.TheVariants.{End}
-use Rattle.vr_recover.specs.Recovered.{standing_all}
+use Rattle.vr_recover.specs.Recovered.{KeepsAll}
 use Rattle.vr_volume.specs.Safe.{IsSafe, IsSafeImage}
-use Rattle.vr_volume.specs.Volume.{Recovers}
 use Rattle.vr_mount.specs.Touched.{Anything}
 use Rattle.vr_mount.proofs.CallerLemmas.{touches-none}
 use Rattle.vr_recover.specs.Undone.{HasAll, IsBeforeOf, alike}
-use Rattle.vr_recover.proofs.BackingOut.{all-stays, end-undone, left-recovers, out-ended}
-use Rattle.vr_recover.proofs.BackingOut.{safe-recovers}
+use Rattle.vr_recover.proofs.BackingOut.{all-stays, end-undone, fewer-ended, fewer-more, left-keeps}
+use Rattle.vr_recover.proofs.BackingOut.{out-ended, safe-keeps}
 use Rattle.vr_recover.proofs.backing_out.back_out.Goals as goal
 
 pub returns-else-is_live-clause-any_moment : goal.returns-else-is_live-clause-any_moment
-returns-else-is_live-clause-any_moment g c told number owners contents undone =
+returns-else-is_live-clause-any_moment g c told number owners images contents undone
+    fewer =
     guards-start (g.B.Blocks.seen c.args.blocks.now)
-    (λ image. Recovers c.args.log.now.geometry number image (standing_all contents))
+    (KeepsAll c.args.log.now.geometry number images contents)
     (λ image there. g.met.B.Blocks.images_may c.args.blocks.now image told there)
-    (left-recovers number owners c.args.log.now contents (g.B.Blocks.seen c.args.blocks.now) undone)
+    (left-keeps number owners c.args.log.now contents (g.B.Blocks.seen c.args.blocks.now) undone
+    images fewer)
 
 pub returns-in_default-clause-any_moment : goal.returns-in_default-clause-any_moment
-returns-in_default-clause-any_moment g c told number owners contents undone =
+returns-in_default-clause-any_moment g c told number owners images contents undone
+    fewer =
     guards-start (g.B.Blocks.seen c.args.blocks.now)
-    (λ image. Recovers c.args.log.now.geometry number image (standing_all contents))
+    (KeepsAll c.args.log.now.geometry number images contents)
     (λ image there. g.met.B.Blocks.images_may c.args.blocks.now image told there)
-    (left-recovers number owners c.args.log.now contents (g.B.Blocks.seen c.args.blocks.now) undone)
+    (left-keeps number owners c.args.log.now contents (g.B.Blocks.seen c.args.blocks.now) undone
+    images fewer)
 
 pub returns-in_ok-append_end-clause-any_moment : goal.returns-in_ok-append_end-clause-any_moment
-returns-in_ok-append_end-clause-any_moment g c told number owners contents undone =
+returns-in_ok-append_end-clause-any_moment g c told number owners images contents undone
+    fewer =
     let B = g.B.Blocks in
     let log = c.args.log.now in
     let a = B.seen c.args.blocks.now in
+    let most = (c.requires.stands told).forced in
     let more = with_record log (End c.in-Before.unit BackedOut) in
     guards-weaken a (B.seen c.append_end.new.blocks)
-    (IsSafeImage log.geometry number owners more (alike (standing_all contents)))
-    (λ image. Recovers log.geometry number image (standing_all contents))
-    (c.append_end.ensures.safe told number owners (alike (standing_all contents)) undone.safe
-    (end-undone number owners log contents a undone (c.requires.stands told).forced c.in-Before.unit
-    BackedOut))
-    (λ image. safe-recovers log.geometry number owners more (standing_all contents) image)
+    (IsSafeImage log.geometry number owners more (alike contents))
+    (KeepsAll log.geometry number images contents)
+    (c.append_end.ensures.safe told number owners (alike contents) undone.safe
+    (end-undone number owners log contents a undone most c.in-Before.unit BackedOut))
+    (safe-keeps log.geometry number owners more images contents
+    (fewer-more images log c.in-Before.unit BackedOut most c.requires.sound fewer))
 
 pub returns-in_err-append_end-clause-any_moment : goal.returns-in_err-append_end-clause-any_moment
-returns-in_err-append_end-clause-any_moment g c told number owners contents undone =
+returns-in_err-append_end-clause-any_moment g c told number owners images contents undone
+    fewer =
     let B = g.B.Blocks in
     let log = c.args.log.now in
     let a = B.seen c.args.blocks.now in
+    let most = (c.requires.stands told).forced in
     let more = with_record log (End c.in-Before.unit BackedOut) in
     guards-weaken a (B.seen c.append_end.new.blocks)
-    (IsSafeImage log.geometry number owners more (alike (standing_all contents)))
-    (λ image. Recovers log.geometry number image (standing_all contents))
-    (c.append_end.ensures.safe told number owners (alike (standing_all contents)) undone.safe
-    (end-undone number owners log contents a undone (c.requires.stands told).forced c.in-Before.unit
-    BackedOut))
-    (λ image. safe-recovers log.geometry number owners more (standing_all contents) image)
+    (IsSafeImage log.geometry number owners more (alike contents))
+    (KeepsAll log.geometry number images contents)
+    (c.append_end.ensures.safe told number owners (alike contents) undone.safe
+    (end-undone number owners log contents a undone most c.in-Before.unit BackedOut))
+    (safe-keeps log.geometry number owners more images contents
+    (fewer-more images log c.in-Before.unit BackedOut most c.requires.sound fewer))
 
 pub returns-in_ok-append_end-clause-undone : goal.returns-in_ok-append_end-clause-undone
 returns-in_ok-append_end-clause-undone g c told number owners contents undone =
@@ -66,7 +73,7 @@ returns-in_ok-append_end-clause-undone g c told number owners contents undone =
     let b = B.seen c.append_end.new.blocks in
     let most = (c.requires.stands told).forced in
     let same = c.in_ok-append_end.ensures.log.geometry in
-    let committed = alike (standing_all contents) in
+    let committed = alike contents in
     record {
       safe = subst (λ (geometry : Geometry). IsSafe geometry number owners new committed b)
           (sym same)
@@ -110,3 +117,8 @@ returns-in_err-append_end-clause-touches g c told =
     touches-weaken (InLog log.geometry) (HasLog (with_record log (End c.in-Before.unit BackedOut)))
     Anything (g.B.Blocks.seen c.args.blocks.now) (g.B.Blocks.seen c.append_end.new.blocks)
     (c.append_end.ensures.touches told) (λ image has. tt)
+
+pub returns-in_ok-append_end-clause-fewer : goal.returns-in_ok-append_end-clause-fewer
+returns-in_ok-append_end-clause-fewer g c told images fewer =
+    fewer-ended images c.args.log.now c.append_end.new.log c.in-Before.unit BackedOut
+    (c.requires.stands told).forced c.in_ok-append_end.ensures.log fewer

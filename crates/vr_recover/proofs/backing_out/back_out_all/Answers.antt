@@ -8,10 +8,9 @@ use Rattle.vr_types.specs.declared.geometry.Geometry.{Geometry}
 use Rattle.vr_types.proofs.CallerLemmas.{guards-start, guards-then, touches-then}
 use Rattle.vr_log.specs.Live.{live_in}
 use Rattle.vr_log.specs.Standing.{InLog}
-use Rattle.vr_recover.specs.Recovered.{standing_all}
-use Rattle.vr_volume.specs.Volume.{Recovers}
+use Rattle.vr_recover.specs.Recovered.{KeepsAll}
 use Rattle.vr_mount.proofs.CallerLemmas.{touches-none}
-use Rattle.vr_recover.proofs.BackingOut.{AreOut, left-recovers, none-live, stays-out}
+use Rattle.vr_recover.proofs.BackingOut.{AreOut, left-keeps, none-live, stays-out}
 use Rattle.vr_mount.specs.Touched.{Anything}
 use Rattle.vr_recover.proofs.backing_out.back_out_all.Goals as goal
 
@@ -26,29 +25,30 @@ loop-rec-init g c = record {
   touches = λ told. touches-none (InLog c.args.log.now.geometry)
       (g.B.Blocks.seen c.args.blocks.now)
       (λ image there. g.met.B.Blocks.images_may c.args.blocks.now image told there);
-  any_moment = λ told number owners contents undone.
+  any_moment = λ told number owners images contents undone fewer.
       guards-start (g.B.Blocks.seen c.args.blocks.now)
-      (λ image. Recovers c.args.log.now.geometry number image (standing_all contents))
+      (KeepsAll c.args.log.now.geometry number images contents)
       (λ image there. g.met.B.Blocks.images_may c.args.blocks.now image told there)
-      (left-recovers number owners c.args.log.now contents (g.B.Blocks.seen c.args.blocks.now)
-      undone);
+      (left-keeps number owners c.args.log.now contents (g.B.Blocks.seen c.args.blocks.now)
+      undone images fewer);
+  before = λ told images fewer. fewer;
   undone = λ told number owners contents undone. undone;
   fewer = λ unit there. there;
   out = All-nil (AreOut (live_in c.args.log.now.records));
 }
 
 pub returns-in_err-back_out-clause-any_moment : goal.returns-in_err-back_out-clause-any_moment
-returns-in_err-back_out-clause-any_moment g c told number owners contents undone =
+returns-in_err-back_out-clause-any_moment g c told number owners images contents undone fewer =
     let b = g.B.Blocks.seen c.loop-rec.blocks in
     let d = g.B.Blocks.seen c.back_out.new.blocks in
     guards-then (g.B.Blocks.seen c.args.blocks.now) b d
-    (λ image. Recovers c.args.log.now.geometry number image (standing_all contents))
-    (c.loop-rec.invariant.any_moment told number owners contents undone)
-    (subst (λ (geometry : Geometry). Guards b d
-    (λ image. Recovers geometry number image (standing_all contents)))
+    (KeepsAll c.args.log.now.geometry number images contents)
+    (c.loop-rec.invariant.any_moment told number owners images contents undone fewer)
+    (subst (λ (geometry : Geometry). Guards b d (KeepsAll geometry number images contents))
     c.loop-rec.invariant.geometry
-    (c.back_out.ensures.any_moment told number owners contents
-    (c.loop-rec.invariant.undone told number owners contents undone)))
+    (c.back_out.ensures.any_moment told number owners images contents
+    (c.loop-rec.invariant.undone told number owners contents undone)
+    (c.loop-rec.invariant.before told images fewer)))
 
 pub loop-rec-preserved : goal.loop-rec-preserved
 loop-rec-preserved g c =
@@ -69,15 +69,17 @@ loop-rec-preserved g c =
           (g.B.Blocks.seen c.args.blocks.now) b d (c.loop-rec.invariant.touches told)
           (subst (λ (geometry : Geometry). Touches (InLog geometry) Anything b d)
           c.loop-rec.invariant.geometry (c.back_out.ensures.touches told));
-      any_moment = λ told number owners contents undone.
+      any_moment = λ told number owners images contents undone fewer.
           guards-then (g.B.Blocks.seen c.args.blocks.now) b d
-          (λ image. Recovers c.args.log.now.geometry number image (standing_all contents))
-          (c.loop-rec.invariant.any_moment told number owners contents undone)
-          (subst (λ (geometry : Geometry). Guards b d
-          (λ image. Recovers geometry number image (standing_all contents)))
+          (KeepsAll c.args.log.now.geometry number images contents)
+          (c.loop-rec.invariant.any_moment told number owners images contents undone fewer)
+          (subst (λ (geometry : Geometry). Guards b d (KeepsAll geometry number images contents))
           c.loop-rec.invariant.geometry
-          (c.back_out.ensures.any_moment told number owners contents
-          (c.loop-rec.invariant.undone told number owners contents undone)));
+          (c.back_out.ensures.any_moment told number owners images contents
+          (c.loop-rec.invariant.undone told number owners contents undone)
+          (c.loop-rec.invariant.before told images fewer)));
+      before = λ told images fewer. c.in_ok-back_out.ensures.fewer told images
+          (c.loop-rec.invariant.before told images fewer);
       undone = λ told number owners contents undone.
           c.in_ok-back_out.ensures.undone told number owners contents
           (c.loop-rec.invariant.undone told number owners contents undone);

@@ -1,4 +1,4 @@
-use Rattle.std.proofs.Common.{◌≡◌, ℕ, true, false, IsTrue, take}
+use Rattle.std.proofs.Common.{◌≡◌, ℕ, List, true, false, IsTrue, take}
 use Rattle.std.specs.Prelude.{All}
 use Rattle.vr_types.specs.Content.{Content}
 use Rattle.vr_types.specs.Moments.{Guards}
@@ -8,10 +8,10 @@ use Rattle.vr_space.specs.Owners.{Owners}
 use Rattle.vr_log.specs.Live.{is_in, live_in}
 use Rattle.vr_log.specs.LogNow.{IsOf}
 use Rattle.vr_log.specs.Standing.{InLog, LogStands}
-use Rattle.vr_recover.specs.Recovered.{standing_all}
-use Rattle.vr_volume.specs.Volume.{Recovers}
+use Rattle.vr_history.specs.State.{BeforeImage}
+use Rattle.vr_recover.specs.Recovered.{KeepsAll}
 use Rattle.vr_mount.specs.Touched.{Anything}
-use Rattle.vr_recover.specs.Undone.{IsUndone}
+use Rattle.vr_recover.specs.Undone.{HasFewer, IsUndone}
 use Rattle.vr_recover.proofs.BackingOut.{AreOut}
 use Rattle.vr_recover.proofs.backing_out.back_out_all.Given as goal
 
@@ -26,10 +26,13 @@ invariant-loop-rec g l = record {
   touches : IsTrue g.B.Blocks.tells → Touches (InLog l.fn.log.geometry) Anything
       (g.B.Blocks.seen l.fn.blocks) (g.B.Blocks.seen l.blocks);
   any_moment : IsTrue g.B.Blocks.tells → (number : ℕ) (owners : Owners)
-      (contents : ℕ → Content)
+      (images : List BeforeImage) (contents : ℕ → Content)
       → IsUndone number owners l.fn.log contents (g.B.Blocks.seen l.fn.blocks)
+      → HasFewer images l.fn.log
       → Guards (g.B.Blocks.seen l.fn.blocks) (g.B.Blocks.seen l.blocks)
-      (λ image. Recovers l.fn.log.geometry number image (standing_all contents));
+      (KeepsAll l.fn.log.geometry number images contents);
+  before : IsTrue g.B.Blocks.tells → (images : List BeforeImage) → HasFewer images l.fn.log
+      → HasFewer images l.log;
   undone : IsTrue g.B.Blocks.tells → (number : ℕ) (owners : Owners)
       (contents : ℕ → Content)
       → IsUndone number owners l.fn.log contents (g.B.Blocks.seen l.fn.blocks)

@@ -5,9 +5,8 @@ use Rattle.vr_log.specs.Live.{live_in}
 use Rattle.vr_log.specs.LogNow.{LogNow}
 use Rattle.vr_log.specs.Standing.{InLog, LogStands}
 use Rattle.vr_log.proofs.CallerLemmas.{restarted_stands}
-use Rattle.vr_recover.specs.Recovered.{standing_all}
+use Rattle.vr_recover.specs.Recovered.{KeepsAll}
 use Rattle.vr_volume.specs.Safe.{IsSafe}
-use Rattle.vr_volume.specs.Volume.{Recovers}
 use Rattle.vr_volume.proofs.EndCalls.{forced-generation}
 use Rattle.vr_volume.proofs.LogCalls.{forced-geometry, forced-is, forced-records}
 use Rattle.vr_mount.specs.Touched.{Anything}
@@ -16,19 +15,21 @@ use Rattle.vr_recover.proofs.BackingOut.{all-stays}
 use Rattle.vr_recover.proofs.backing_out.end_all.Goals as goal
 
 pub returns-in_err-force_log-clause-any_moment : goal.returns-in_err-force_log-clause-any_moment
-returns-in_err-force_log-clause-any_moment g c told number owners contents undone =
+returns-in_err-force_log-clause-any_moment g c told number owners images contents undone
+    fewer =
     guards-keeps g.B.Blocks.tells (g.B.Blocks.seen c.args.blocks.now)
     (g.B.Blocks.seen c.back_out_all.new.blocks) (g.B.Blocks.seen c.force_log.new.blocks)
-    (λ image. Recovers c.args.log.now.geometry number image (standing_all contents))
-    (c.back_out_all.ensures.any_moment told number owners contents undone)
+    (KeepsAll c.args.log.now.geometry number images contents)
+    (c.back_out_all.ensures.any_moment told number owners images contents undone fewer)
     c.force_log.ensures.keeps told
 
 pub returns-clause-any_moment : goal.returns-clause-any_moment
-returns-clause-any_moment g c told number owners contents undone =
+returns-clause-any_moment g c told number owners images contents undone
+    fewer =
     guards-keeps g.B.Blocks.tells (g.B.Blocks.seen c.args.blocks.now)
     (g.B.Blocks.seen c.back_out_all.new.blocks) (g.B.Blocks.seen c.force_log.new.blocks)
-    (λ image. Recovers c.args.log.now.geometry number image (standing_all contents))
-    (c.back_out_all.ensures.any_moment told number owners contents undone)
+    (KeepsAll c.args.log.now.geometry number images contents)
+    (c.back_out_all.ensures.any_moment told number owners images contents undone fewer)
     c.force_log.ensures.keeps told
 
 pub returns-clause-stands : goal.returns-clause-stands
@@ -64,7 +65,7 @@ returns-clause-undone g c told below number owners contents undone =
     let generation : mid.generation ≡ c.args.log.now.generation =
     ap (λ (l : LogNow). l.generation) c.in_ok-force_log.ensures.forced
     ∙ forced-generation ended ∙ c.in_ok-back_out_all.ensures.generation in
-    let committed = alike (standing_all contents) in
+    let committed = alike contents in
     let safe = c.restart_log.ensures.safe told number owners committed
     (subst (λ (n : ℕ). n + 1 < 2 ^ 64) (sym generation) below)
     (c.in_ok-force_log.ensures.stands told)

@@ -2,6 +2,6 @@ use Rattle.vr_recover.proofs.Settled.{settled-safe}
 use Rattle.vr_recover.proofs.laws.settled_is_safe.Goals as goal
 
 pub returns : goal.returns
-returns g c geometry number recovered is allowed of forced stands =
-    settled-safe geometry number (g.B.Blocks.seen c.args.blocks.now) recovered is of forced
-    is.stands.owners is.stands.past is.stands.within allowed stands
+returns g c geometry number contents is back ascends others allowed of forced stands =
+    settled-safe geometry number (g.B.Blocks.seen c.args.blocks.now) contents is of forced back
+    ascends others is.stands.owners is.stands.past is.stands.within allowed stands

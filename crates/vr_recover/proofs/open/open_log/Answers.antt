@@ -1,21 +1,30 @@
 use Rattle.std.proofs.Common.{map, sym, subst}
 use Rattle.vr_types.specs.Image.{Image}
 use Rattle.vr_types.proofs.CallerLemmas.{guards-then}
-use Rattle.vr_recover.specs.Recovered.{IsRecovered, standing_all}
-use Rattle.vr_volume.specs.Volume.{Recovers}
+use Rattle.vr_recover.specs.Recovered.{IsWhole, KeepsAll}
+use Rattle.vr_volume.specs.PutBack.{images_of}
 use Rattle.vr_undo.specs.Records.{images_in}
 use Rattle.vr_part.specs.Any.{shape_any}
 use Rattle.vr_recover.specs.Found.{AreKnown, IsFound}
+use Rattle.vr_recover.proofs.Clearing.{kept-here}
 use Rattle.vr_recover.proofs.OpenLemmas.{forced-guards, handed-out, opened-by}
 use Rattle.vr_recover.proofs.Recovery.{found-recovers, recovered}
+use Rattle.vr_recover.proofs.Refusals.{log-long}
 use Rattle.vr_recover.proofs.open.open_log.Goals as goal
 
 pub returns-in_err-found-clause-any_moment : goal.returns-in_err-found-clause-any_moment
 returns-in_err-found-clause-any_moment g c told number contents is =
-    forced-guards g.B.Blocks.tells c.args.geometry.now number contents
-    (g.B.Blocks.seen c.args.blocks.now) (g.B.Blocks.seen c.find.new.blocks) told
+    let a = g.B.Blocks.seen c.args.blocks.now in
+    forced-guards g.B.Blocks.tells
+    (KeepsAll c.args.geometry.now number (images_of c.args.begun.now.content.records) contents) a
+    (g.B.Blocks.seen c.find.new.blocks) told
     (λ image there. g.met.B.Blocks.images_may c.args.blocks.now image told there)
-    (g.met.B.Blocks.cur_may c.args.blocks.now told) (c.requires.forced told) is
+    (g.met.B.Blocks.cur_may c.args.blocks.now told) (c.requires.forced told)
+    (kept-here c.args.geometry.now c.args.begun.now.content a.cur
+    (log-long c.args.geometry.now a c.requires.allowed c.requires.shape
+    (g.met.B.Blocks.cur_may c.args.blocks.now told)
+    (λ n block below may. g.met.B.Blocks.sized c.args.blocks.now n block told below may))
+    (c.requires.spelled told) number contents is)
     c.find.ensures.keeps
 
 pub restore-requires-clause-found : goal.restore-requires-clause-found
@@ -32,14 +41,20 @@ pub returns-in_err-restore-clause-any_moment : goal.returns-in_err-restore-claus
 returns-in_err-restore-clause-any_moment g c told number contents is =
     let a = g.B.Blocks.seen c.args.blocks.now in
     let b = g.B.Blocks.seen c.find.new.blocks in
-    guards-then a b (g.B.Blocks.seen c.restore.new.blocks)
-    (λ image. Recovers c.args.geometry.now number image contents)
-    (forced-guards g.B.Blocks.tells c.args.geometry.now number contents a b told
+    let kept : Image → Type 0 =
+    KeepsAll c.args.geometry.now number (images_of c.args.begun.now.content.records) contents in
+    guards-then a b (g.B.Blocks.seen c.restore.new.blocks) kept
+    (forced-guards g.B.Blocks.tells kept a b told
     (λ image there. g.met.B.Blocks.images_may c.args.blocks.now image told there)
-    (g.met.B.Blocks.cur_may c.args.blocks.now told) (c.requires.forced told) is
+    (g.met.B.Blocks.cur_may c.args.blocks.now told) (c.requires.forced told)
+    (kept-here c.args.geometry.now c.args.begun.now.content a.cur
+    (log-long c.args.geometry.now a c.requires.allowed c.requires.shape
+    (g.met.B.Blocks.cur_may c.args.blocks.now told)
+    (λ n block below may. g.met.B.Blocks.sized c.args.blocks.now n block told below may))
+    (c.requires.spelled told) number contents is)
     c.find.ensures.keeps)
     (c.restore.ensures.any_moment told number contents
-    (subst (λ (i : Image). Recovers c.args.geometry.now number i contents)
+    (subst (IsWhole c.args.geometry.now number contents)
     (sym (c.find.ensures.keeps.content told)) is))
 
 -- so are the parts as they were attached
@@ -66,26 +81,30 @@ returns-clause-opened g c told number header =
     c.in_ok-found.ensures.planned did.shapes did.areas c.in_ok-found.found.space
     c.in_ok-found.ensures.owners number c.restore.new.begun.log
     (images_in c.in_ok-found.found.undo.value) a (g.B.Blocks.seen c.restore.new.blocks)
-    c.requires.shape (c.requires.forced told)
+    c.requires.shape
     (c.in_ok-found.ensures.found told number header (c.requires.spelled told))
-    (λ contents is whole ascends. did.undone told number contents
-    (subst (λ (i : Image). Recovers c.args.geometry.now number i (standing_all contents))
-    (sym (c.find.ensures.keeps.content told)) is)
-    (subst (λ (i : Image). IsRecovered c.args.geometry.now number contents i)
-    (sym (c.find.ensures.keeps.content told)) whole) ascends) (did.stands told) (did.ready told)
+    (λ contents is. did.undone told number contents
+    (subst (IsWhole c.args.geometry.now number contents)
+    (sym (c.find.ensures.keeps.content told)) is)) (did.stands told) (did.ready told)
 
 pub returns-clause-any_moment : goal.returns-clause-any_moment
 returns-clause-any_moment g c told number contents is =
     let a = g.B.Blocks.seen c.args.blocks.now in
     let b = g.B.Blocks.seen c.find.new.blocks in
-    guards-then a b (g.B.Blocks.seen c.restore.new.blocks)
-    (λ image. Recovers c.args.geometry.now number image contents)
-    (forced-guards g.B.Blocks.tells c.args.geometry.now number contents a b told
+    let kept : Image → Type 0 =
+    KeepsAll c.args.geometry.now number (images_of c.args.begun.now.content.records) contents in
+    guards-then a b (g.B.Blocks.seen c.restore.new.blocks) kept
+    (forced-guards g.B.Blocks.tells kept a b told
     (λ image there. g.met.B.Blocks.images_may c.args.blocks.now image told there)
-    (g.met.B.Blocks.cur_may c.args.blocks.now told) (c.requires.forced told) is
+    (g.met.B.Blocks.cur_may c.args.blocks.now told) (c.requires.forced told)
+    (kept-here c.args.geometry.now c.args.begun.now.content a.cur
+    (log-long c.args.geometry.now a c.requires.allowed c.requires.shape
+    (g.met.B.Blocks.cur_may c.args.blocks.now told)
+    (λ n block below may. g.met.B.Blocks.sized c.args.blocks.now n block told below may))
+    (c.requires.spelled told) number contents is)
     c.find.ensures.keeps)
     (c.restore.ensures.any_moment told number contents
-    (subst (λ (i : Image). Recovers c.args.geometry.now number i contents)
+    (subst (IsWhole c.args.geometry.now number contents)
     (sym (c.find.ensures.keeps.content told)) is))
 
 -- what was found is a volume

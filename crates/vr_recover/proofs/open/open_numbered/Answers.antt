@@ -1,35 +1,46 @@
-use Rattle.std.proofs.Common.{◌≡◌, sym, ap, subst, ◌∙◌}
+use Rattle.std.proofs.Common.{◌≡◌, ℕ, sym, ap, subst, ◌∙◌}
 use Rattle.std.proofs.lemmas.Result.{err_from_is_err_and}
+use Rattle.vr_types.specs.Content.{Content}
 use Rattle.vr_types.specs.Image.{Image, block_at}
+use Rattle.vr_types.specs.Moments.{Guards}
 use Rattle.vr_types.specs.declared.geometry.Geometry.{Geometry}
 use Rattle.vr_types.proofs.CallerLemmas.{keeps-then}
 use Rattle.vr_attach.specs.Header.{header_block}
+use Rattle.vr_volume.specs.PutBack.{images_of}
 use Rattle.vr_recover.specs.Opening.{IsOpened}
+use Rattle.vr_recover.specs.Recovered.{IsWhole, KeepsAll}
 use Rattle.vr_recover.specs.declared.begun.Begun.{Begun}
 use Rattle.vr_recover.proofs.OpenLemmas.{left-guards, left-then, none-then, opened-before}
 use Rattle.vr_recover.proofs.OpenLemmas.{refused-before}
+use Rattle.vr_recover.proofs.Refusals.{log-long}
 use Rattle.vr_recover.proofs.open.open_numbered.Goals as goal
 
 pub returns-in_err-begun-clause-any_moment : goal.returns-in_err-begun-clause-any_moment
-returns-in_err-begun-clause-any_moment g c told geometry contents is =
-    left-guards g.B.Blocks.tells geometry c.args.number contents
+returns-in_err-begun-clause-any_moment g c told geometry contents allowed of is =
+    left-guards g.B.Blocks.tells
+    (KeepsAll geometry c.args.number (images_of is.whole.log.records) contents)
     (g.B.Blocks.seen c.args.blocks.now) (g.B.Blocks.seen c.start.new.blocks) told
     (λ image there. g.met.B.Blocks.images_may c.args.blocks.now image told there)
     c.start.ensures.keeps
 
 pub returns-in_err-found-clause-any_moment : goal.returns-in_err-found-clause-any_moment
 returns-in_err-found-clause-any_moment g c told =
-    let geometry = c.deref.result.now.geometry in
-    let same : geometry ≡ c.in_ok-begun.begun.value.geometry =
-    ap (λ (b : Begun). b.geometry) c.deref.ensures in
-    left-then g.B.Blocks.tells geometry c.args.number (g.B.Blocks.seen c.args.blocks.now)
+    let a = g.B.Blocks.seen c.args.blocks.now in
+    let begun : Begun = c.in_ok-begun.begun.value in
+    let further = subst (λ (one : Begun). (contents : ℕ → Content)
+    → IsWhole one.geometry c.args.number contents (g.B.Blocks.seen c.start.new.blocks).cur
+    → Guards (g.B.Blocks.seen c.start.new.blocks) (g.B.Blocks.seen c.open_log.new.blocks)
+    (KeepsAll one.geometry c.args.number (images_of one.content.records) contents)) c.deref.ensures
+    (λ contents is. c.open_log.ensures.any_moment told c.args.number contents is) in
+    left-then g.B.Blocks.tells begun.geometry c.args.number begun.content a
     (g.B.Blocks.seen c.start.new.blocks) (g.B.Blocks.seen c.open_log.new.blocks) told
     (λ image there. g.met.B.Blocks.images_may c.args.blocks.now image told there)
-    c.start.ensures.keeps
-    (subst Rattle.vr_types.specs.Geometry.IsAllowed (sym same) c.in_ok-begun.ensures.allowed)
-    (c.in_ok-begun.ensures.header told
-    ∙ ap (λ (g : Geometry). header_block g c.args.number) (sym same))
-    (λ contents is. c.open_log.ensures.any_moment told c.args.number contents is)
+    c.start.ensures.keeps c.in_ok-begun.ensures.allowed (c.in_ok-begun.ensures.header told)
+    (c.in_ok-begun.ensures.spelled told)
+    (log-long begun.geometry a c.in_ok-begun.ensures.allowed c.in_ok-begun.ensures.shape
+    (g.met.B.Blocks.cur_may c.args.blocks.now told)
+    (λ n block below may. g.met.B.Blocks.sized c.args.blocks.now n block told below may))
+    further
 
 pub returns-in_err-found-clause-refused : goal.returns-in_err-found-clause-refused
 returns-in_err-found-clause-refused g c told =
@@ -78,17 +89,22 @@ returns-clause-opened g c told =
 
 pub returns-clause-any_moment : goal.returns-clause-any_moment
 returns-clause-any_moment g c told =
-    let geometry = c.deref.result.now.geometry in
-    let same : geometry ≡ c.in_ok-begun.begun.value.geometry =
-    ap (λ (b : Begun). b.geometry) c.deref.ensures in
-    left-then g.B.Blocks.tells geometry c.args.number (g.B.Blocks.seen c.args.blocks.now)
+    let a = g.B.Blocks.seen c.args.blocks.now in
+    let begun : Begun = c.in_ok-begun.begun.value in
+    let further = subst (λ (one : Begun). (contents : ℕ → Content)
+    → IsWhole one.geometry c.args.number contents (g.B.Blocks.seen c.start.new.blocks).cur
+    → Guards (g.B.Blocks.seen c.start.new.blocks) (g.B.Blocks.seen c.open_log.new.blocks)
+    (KeepsAll one.geometry c.args.number (images_of one.content.records) contents)) c.deref.ensures
+    (λ contents is. c.open_log.ensures.any_moment told c.args.number contents is) in
+    left-then g.B.Blocks.tells begun.geometry c.args.number begun.content a
     (g.B.Blocks.seen c.start.new.blocks) (g.B.Blocks.seen c.open_log.new.blocks) told
     (λ image there. g.met.B.Blocks.images_may c.args.blocks.now image told there)
-    c.start.ensures.keeps
-    (subst Rattle.vr_types.specs.Geometry.IsAllowed (sym same) c.in_ok-begun.ensures.allowed)
-    (c.in_ok-begun.ensures.header told
-    ∙ ap (λ (g : Geometry). header_block g c.args.number) (sym same))
-    (λ contents is. c.open_log.ensures.any_moment told c.args.number contents is)
+    c.start.ensures.keeps c.in_ok-begun.ensures.allowed (c.in_ok-begun.ensures.header told)
+    (c.in_ok-begun.ensures.spelled told)
+    (log-long begun.geometry a c.in_ok-begun.ensures.allowed c.in_ok-begun.ensures.shape
+    (g.met.B.Blocks.cur_may c.args.blocks.now told)
+    (λ n block below may. g.met.B.Blocks.sized c.args.blocks.now n block told below may))
+    further
 
 pub returns-in_err-found-clause-unwritten : goal.returns-in_err-found-clause-unwritten
 returns-in_err-found-clause-unwritten g c told none =

@@ -98,8 +98,8 @@ returns-clause-any_moment g c told number contents is =
       stands = c.in_ok-clear.ensures.stands told;
     } in
     then-moments geometry content entries parts c.requires.planned areas a b cleared number contents
-    c.args.begun.now.log (g.B.Blocks.seen c.undo.new.blocks) c.requires.log is
-    (c.undo.ensures.any_moment told number (owner_of geometry areas))
+    is c.args.begun.now.log (g.B.Blocks.seen c.undo.new.blocks) c.requires.log
+    (c.undo.ensures.any_moment told number (owner_of geometry areas) contents)
 
 pub returns-clause-undone : goal.returns-clause-undone
 returns-clause-undone g c told =
@@ -134,9 +134,9 @@ returns-clause-undone g c told =
     subst (λ (l : LogNow). l.generation + 1 < 2 ^ 64) (sym c.requires.log)
     (omega (arith, c.requires.young.young)) in
     on_ok_weaker c.undo.result
-    (λ undone number contents is whole ascends. undone number (owner_of geometry areas) contents
+    (λ undone number contents is. undone number (owner_of geometry areas) contents
     (then-settled geometry content entries parts c.requires.planned areas a b cleared number
-    contents is c.args.begun.now.log c.requires.log whole ascends))
+    contents is c.args.begun.now.log c.requires.log))
     (c.undo.ensures.undone told low)
 
 pub returns-clause-ready : goal.returns-clause-ready

@@ -2,13 +2,13 @@ use Rattle.std.proofs.Common.{get_or}
 use Rattle.vr_types.proofs.CallerLemmas.{guards-then, guards-weaken}
 use Rattle.vr_part.specs.Any.{known_any, shape_any}
 use Rattle.vr_space.specs.Part.{part_no}
-use Rattle.vr_recover.specs.Recovered.{standing_all}
+use Rattle.vr_recover.specs.Recovered.{KeepsAll}
+use Rattle.vr_volume.specs.PutBack.{images_of}
 use Rattle.vr_volume.specs.Safe.{IsSafeImage}
-use Rattle.vr_volume.specs.Volume.{Recovers}
 use Rattle.vr_volume.proofs.Calls.{stays-part}
 use Rattle.vr_mount.specs.Touched.{Anything}
 use Rattle.vr_recover.specs.Undone.{IsUndone, alike}
-use Rattle.vr_recover.proofs.BackingOut.{safe-recovers}
+use Rattle.vr_recover.proofs.BackingOut.{fewer-all, safe-keeps}
 use Rattle.vr_recover.proofs.PartsBack.{ready-stays}
 use Rattle.vr_recover.proofs.undoing.undo_units.Goals as goal
 
@@ -20,11 +20,12 @@ returns-in_err-put_back_all-clause-any_moment g c told number owners contents se
     let b = g.B.Blocks.seen c.put_back_all.new.blocks in
     let first = c.put_back_all.ensures.safe told log.geometry number owners contents settled.safe
     settled.opened in
-    let recovers = guards-weaken a b
-    (IsSafeImage log.geometry number owners log (alike (standing_all contents)))
-    (λ image. Recovers log.geometry number image (standing_all contents)) first.0
-    (λ image. safe-recovers log.geometry number owners log (standing_all contents) image) in
-    recovers
+    let images = images_of log.records in
+    let keeps = guards-weaken a b (IsSafeImage log.geometry number owners log (alike contents))
+    (KeepsAll log.geometry number images contents) first.0
+    (safe-keeps log.geometry number owners log images contents
+    (fewer-all log settled.opened.records)) in
+    keeps
 
 pub returns-in_err-end_all-clause-any_moment : goal.returns-in_err-end_all-clause-any_moment
 returns-in_err-end_all-clause-any_moment g c told number owners contents settled =
@@ -33,10 +34,11 @@ returns-in_err-end_all-clause-any_moment g c told number owners contents settled
     let b = g.B.Blocks.seen c.put_back_all.new.blocks in
     let first = c.put_back_all.ensures.safe told log.geometry number owners contents settled.safe
     settled.opened in
-    let recovers = guards-weaken a b
-    (IsSafeImage log.geometry number owners log (alike (standing_all contents)))
-    (λ image. Recovers log.geometry number image (standing_all contents)) first.0
-    (λ image. safe-recovers log.geometry number owners log (standing_all contents) image) in
+    let images = images_of log.records in
+    let keeps = guards-weaken a b (IsSafeImage log.geometry number owners log (alike contents))
+    (KeepsAll log.geometry number images contents) first.0
+    (safe-keeps log.geometry number owners log images contents
+    (fewer-all log settled.opened.records)) in
     let undone : IsUndone number owners log contents b = record {
       safe = first.1;
       ascends = settled.ascends;
@@ -44,8 +46,9 @@ returns-in_err-end_all-clause-any_moment g c told number owners contents settled
           settled.opened settled.parts settled.covered;
     } in
     guards-then a b (g.B.Blocks.seen c.end_all.new.blocks)
-    (λ image. Recovers log.geometry number image (standing_all contents)) recovers
-    (c.end_all.ensures.any_moment told number owners contents undone)
+    (KeepsAll log.geometry number images contents) keeps
+    (c.end_all.ensures.any_moment told number owners images contents undone
+    (fewer-all log settled.opened.records))
 
 pub returns-clause-any_moment : goal.returns-clause-any_moment
 returns-clause-any_moment g c told number owners contents settled =
@@ -54,10 +57,11 @@ returns-clause-any_moment g c told number owners contents settled =
     let b = g.B.Blocks.seen c.put_back_all.new.blocks in
     let first = c.put_back_all.ensures.safe told log.geometry number owners contents settled.safe
     settled.opened in
-    let recovers = guards-weaken a b
-    (IsSafeImage log.geometry number owners log (alike (standing_all contents)))
-    (λ image. Recovers log.geometry number image (standing_all contents)) first.0
-    (λ image. safe-recovers log.geometry number owners log (standing_all contents) image) in
+    let images = images_of log.records in
+    let keeps = guards-weaken a b (IsSafeImage log.geometry number owners log (alike contents))
+    (KeepsAll log.geometry number images contents) first.0
+    (safe-keeps log.geometry number owners log images contents
+    (fewer-all log settled.opened.records)) in
     let undone : IsUndone number owners log contents b = record {
       safe = first.1;
       ascends = settled.ascends;
@@ -65,8 +69,9 @@ returns-clause-any_moment g c told number owners contents settled =
           settled.opened settled.parts settled.covered;
     } in
     guards-then a b (g.B.Blocks.seen c.end_all.new.blocks)
-    (λ image. Recovers log.geometry number image (standing_all contents)) recovers
-    (c.end_all.ensures.any_moment told number owners contents undone)
+    (KeepsAll log.geometry number images contents) keeps
+    (c.end_all.ensures.any_moment told number owners images contents undone
+    (fewer-all log settled.opened.records))
 
 pub returns-clause-undone : goal.returns-clause-undone
 returns-clause-undone g c told below number owners contents settled =

@@ -16,7 +16,6 @@ use Rattle.vr_space.specs.Part.{InPart, IsOn, IsSound, Shape, part_no}
 use Rattle.vr_space.proofs.CallerLemmas.{StaysPart, on-still, rest-sound}
 use Rattle.vr_volume.specs.Laid.{shape_by}
 use Rattle.vr_volume.specs.PutBack.{images_of}
-use Rattle.vr_recover.specs.Recovered.{standing_all}
 use Rattle.vr_volume.specs.Safe.{IsSafeImage}
 use Rattle.vr_volume.proofs.Apart.{laid-number}
 use Rattle.vr_volume.proofs.Recovering.{each_image_is_safe}
@@ -43,10 +42,10 @@ loop-part-init g c =
       ready = λ told owners ready. ready;
       safe = λ told geometry member owners contents safe opened. (
         guards-start a
-            (IsSafeImage geometry member owners c.args.log.now (alike (standing_all contents)))
+            (IsSafeImage geometry member owners c.args.log.now (alike contents))
             (λ image there. g.met.B.Blocks.images_may c.args.blocks.now image told there)
             (each_image_is_safe geometry member owners c.args.log.now
-            (alike (standing_all contents)) a safe),
+            (alike contents) a safe),
         safe,
       );
       stands = λ told forced stands. stands;
@@ -130,7 +129,7 @@ returns-in_err-put_back-clause-safe g c told geometry member owners contents saf
     within in
     let numbered : number ≡ part_no shape = c.number-number.ensures in
     let before = c.loop-part.invariant.safe told geometry member owners contents safe opened in
-    let committed = alike (standing_all contents) in
+    let committed = alike contents in
     let call = c.put_back.ensures.safe told geometry member owners committed before.1
     (laid-opened geometry log contents kept shapes index shape number opened is c.requires.kept
     numbered) opened.records in (
@@ -224,7 +223,7 @@ loop-part-preserved g c =
       safe = λ told geometry member owners contents safe opened.
           let before =
           c.loop-part.invariant.safe told geometry member owners contents safe opened in
-          let committed = alike (standing_all contents) in
+          let committed = alike contents in
           let call = c.put_back.ensures.safe told geometry member owners committed before.1
           (laid-opened geometry log contents kept shapes index shape number opened is
           c.requires.kept numbered) opened.records in (

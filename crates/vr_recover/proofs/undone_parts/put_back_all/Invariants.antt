@@ -10,7 +10,6 @@ use Rattle.vr_log.specs.LogNow.{IsForced}
 use Rattle.vr_log.specs.Standing.{LogStands}
 use Rattle.vr_volume.specs.Laid.{shape_by}
 use Rattle.vr_volume.specs.PutBack.{images_of}
-use Rattle.vr_recover.specs.Recovered.{standing_all}
 use Rattle.vr_volume.specs.Safe.{IsSafe, IsSafeImage}
 use Rattle.vr_recover.specs.Found.{areas_kept}
 use Rattle.vr_recover.specs.Opening.{HasNoSplit}
@@ -34,12 +33,12 @@ invariant-loop-part g l = record {
       (g.K.Kept.kept l.kept (part_no (shape_any part))) (g.B.Blocks.seen l.blocks)) l.parts;
   safe : IsTrue g.B.Blocks.tells → (geometry : Geometry) (member : ℕ)
       (owners : Owners) (contents : ℕ → Content)
-      → IsSafe geometry member owners l.log (alike (standing_all contents))
+      → IsSafe geometry member owners l.log (alike contents)
       (g.B.Blocks.seen l.fn.blocks)
       → AreOpened geometry l.log contents (map shape_any l.fn.parts)
       → Guards (g.B.Blocks.seen l.fn.blocks) (g.B.Blocks.seen l.blocks)
-      (IsSafeImage geometry member owners l.log (alike (standing_all contents)))
-      × IsSafe geometry member owners l.log (alike (standing_all contents))
+      (IsSafeImage geometry member owners l.log (alike contents))
+      × IsSafe geometry member owners l.log (alike contents)
       (g.B.Blocks.seen l.blocks);
   stands : IsTrue g.B.Blocks.tells → IsForced l.log
       → LogStands l.log (g.B.Blocks.seen l.fn.blocks)
