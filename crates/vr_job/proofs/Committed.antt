@@ -37,7 +37,8 @@ use Rattle.vr_history.specs.declared.entry.What.{What}
 use Rattle.vr_history.specs.declared.entry.What.TheVariants.{Asked, Undone, Claimed, Split, Faulted}
 use Rattle.vr_history.proofs.Same.{unit_same}
 use Rattle.vr_volume.specs.Committed.{has_commit, kept_by}
-use Rattle.vr_volume.specs.Crashes.{RecoversTo, committed_with, is_among, kept_but}
+use Rattle.vr_volume.specs.Crashes.{committed_with, is_among, kept_but}
+use Rattle.vr_volume.specs.Volume.{Recovers}
 use Rattle.vr_volume.specs.PutBack.{put_back, standing}
 use Rattle.vr_volume.proofs.Histories.{committed-everywhere}
 use Rattle.vr_job.specs.Committed.{HasCommitted, IsOffCatalog, KeepTheCatalog, KeepsCatalog}
@@ -478,11 +479,11 @@ module _ (geometry : Geometry) (contents : ℕ → Content) (owned : List Owned)
 
   pub has-committed : (number : ℕ) (catalog : List CatEntry) → catalog ≡ entries_in (contents 0)
       → KeepTheCatalog geometry opening entries → (counted : List UnitOfRecovery) (image : Image)
-      → RecoversTo geometry number end counted image
+      → Recovers geometry number image (committed_with counted end)
       → HasCommitted geometry number catalog opening entries counted image
   has-committed number catalog is keep counted image recovers = record {
     recovered = committed_with counted end;
-    recovers = recovers.recovers;
+    recovers = recovers;
     records = λ part has place. records-committed keep counted part
         (subst (λ (c : List CatEntry). has_part (parts_in c) part ≡ true) is has) place;
   }

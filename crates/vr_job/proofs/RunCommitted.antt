@@ -1,5 +1,5 @@
 -- What a run leaves of a volume is what its history committed.
-use Rattle.std.proofs.Common.{◌≡◌, ◌++◌, ◌∷◌, ℕ, List, [], subst}
+use Rattle.std.proofs.Common.{◌≡◌, ◌++◌, ◌∷◌, inl, ℕ, List, [], refl, subst}
 use Rattle.vr_types.specs.Content.{Content}
 use Rattle.vr_types.specs.Image.{Image}
 use Rattle.vr_types.specs.declared.geometry.Geometry.{Geometry}
@@ -9,6 +9,8 @@ use Rattle.vr_history.specs.Legal.{AreSteps}
 use Rattle.vr_history.specs.State.{Owned, State, opening_state}
 use Rattle.vr_history.specs.Step.{state_after}
 use Rattle.vr_history.specs.declared.entry.Entry.{Entry}
+use Rattle.vr_volume.specs.PutBack.{standing}
+use Rattle.vr_volume.specs.Volume.{Recovers}
 use Rattle.vr_job.specs.Committed.{IsCommittedBy, IsCommittedWhile, KeepTheCatalog}
 use Rattle.vr_job.specs.Crash.{IsLeftBy}
 use Rattle.vr_job.specs.Events.{IsLeftWhile}
@@ -28,6 +30,19 @@ module _ (geometry : Geometry) (number : ℕ) (catalog : List CatEntry) (content
     (steps : AreSteps geometry (opening_state contents owned) entries)
     (ascend : AllAscend contents)
     (keep : KeepTheCatalog geometry (opening_state contents owned) entries) where
+  -- what has the records of the opening: nothing of the history is committed yet
+  pub opening-committed : (image : Image)
+      → Recovers geometry number image (λ (part : ℕ). standing (contents part))
+      → IsCommittedBy geometry number catalog (opening_state contents owned) entries image
+  opening-committed image recovers = record {
+    before = [];
+    after = entries;
+    is = refl;
+    counted = [];
+    commits = inl refl;
+    has = has-committed geometry contents owned [] tt ascend number catalog is tt [] image recovers;
+  }
+
   -- what the history leaves
   pub left-committed : (image : Image)
       → IsLeftBy geometry number (opening_state contents owned) entries image
@@ -44,7 +59,7 @@ module _ (geometry : Geometry) (number : ℕ) (catalog : List CatEntry) (content
         catalog is
         (keep-first geometry (opening_state contents owned) left.before left.after
         (subst (KeepTheCatalog geometry (opening_state contents owned)) left.is keep))
-        left.counted image left.recovers;
+        left.counted image left.recovers.recovers;
   }
 
   -- and what is left while an event goes on
@@ -60,5 +75,5 @@ module _ (geometry : Geometry) (number : ℕ) (catalog : List CatEntry) (content
         catalog is
         (keep-first geometry (opening_state contents owned) before more
         (subst (KeepTheCatalog geometry (opening_state contents owned)) both keep))
-        left.counted image left.recovers;
+        left.counted image left.recovers.recovers;
   }

@@ -434,6 +434,7 @@ module _ {D : Type 0} (tells : Bool) (seen : D → Seen) (faults : D → Faults)
     kept = is.kept;
     unwritten = is.unwritten told;
     moments = is.any_moment told;
+    items = is.items told;
   }
 
   unopened-run : (line : EndLine) (number : ℕ) (device left : D)

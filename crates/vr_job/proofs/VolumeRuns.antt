@@ -5,7 +5,6 @@ use Rattle.std.proofs.Common.{◌≤◌, ◌+◌, ◌++◌}
 use Rattle.std.specs.Prelude.{IsErr, IsSome, IsTrue, OnOk}
 use Rattle.std.proofs.lemmas.Bool.{true≢false}
 use Rattle.std.proofs.lemmas.List.{append-nil}
-use Rattle.vr_types.specs.Content.{Content}
 use Rattle.vr_types.specs.Faults.{Faults}
 use Rattle.vr_types.specs.Image.{Image}
 use Rattle.vr_types.specs.Moments.{Guards}
@@ -25,11 +24,10 @@ use Rattle.vr_event.specs.Opening.{owned_in}
 use Rattle.vr_event.specs.Volume.{IsWhole, VolumeNow}
 use Rattle.vr_mount.specs.Areas.{AreOwners}
 use Rattle.vr_store.proofs.CallerLemmas.{stored-left}
-use Rattle.vr_recover.specs.Opening.{IsVolume}
-use Rattle.vr_recover.specs.Recovered.{IsRecovered, standing_all}
+use Rattle.vr_recover.specs.Opening.{HasContents, IsLeftOpening}
+use Rattle.vr_recover.specs.Recovered.{KeepsAll}
 use Rattle.vr_volume.specs.Crashes.{RecoversTo}
-use Rattle.vr_volume.specs.Laid.{shape_by}
-use Rattle.vr_volume.specs.Volume.{Recovers}
+use Rattle.vr_volume.specs.PutBack.{images_of}
 use Rattle.vr_job.specs.Crash.{IsLeftBy}
 use Rattle.vr_job.specs.Faultless.{AreFaultless}
 use Rattle.vr_job.proofs.Faultless.{faultless-none}
@@ -56,20 +54,6 @@ goes-start seen faults volume whole = record {
   writes = omega arith;
   stops = λ same. refl;
   faultless = λ same before. before;
-}
-
--- an image that recovers to the records of the contents of an opening
-left-first : (geometry : Geometry) (number : ℕ) (contents : ℕ → Content)
-    (owned : List Rattle.vr_history.specs.State.Owned) (entries : List Entry) (image : Image)
-    → Recovers geometry number image (standing_all contents)
-    → IsLeftBy geometry number (opening_state contents owned) entries image
-left-first geometry number contents owned entries image is = record {
-  before = [];
-  after = entries;
-  is = refl;
-  counted = [];
-  commits = inl refl;
-  recovers = is;
 }
 
 -- what a crash may leave after calls that put nothing, it might have left before
@@ -168,14 +152,6 @@ module _ {D : Type 0} (tells : Bool) (seen : D → Seen) (faults : D → Faults)
     held : IsOpenHeld seen faults number (seen first) volume
     held = opens_so.held told
 
-    -- the records of the contents that it was opened with
-    abbrev records : ℕ → Content
-    records = standing_all held.contents
-
-    opened : Guards (seen first) (seen volume.blocks) (λ image. Left (seen first) image
-        ⊎ Recovers volume.file.geometry number image records)
-    opened = opens_so.any_moment told volume.file.geometry records held.volume_is
-
     abbrev old : Seen
     old = seen first
 
@@ -191,26 +167,41 @@ module _ {D : Type 0} (tells : Bool) (seen : D → Seen) (faults : D → Faults)
     same-number : end.number ≡ number
     same-number = on.number ∙ opens_so.number_is
 
-    abbrev MayLeave : Image → Type 0
-    MayLeave image = Left old image
-        ⊎ IsLeftBy end.file.geometry end.number opening end.file.entries image
+    -- what it had as it was opened, by its shape and its number then
+    was : HasContents number volume.file.geometry held.contents old
+    was = record {
+      volume = held.volume_is;
+      whole = held.whole;
+      ascends = held.ascends;
+      others = held.others;
+    }
 
-    as-end : (image : Image) → Recovers volume.file.geometry number image records
-        → Recovers end.file.geometry end.number image records
-    as-end image is =
-        subst (λ (g : Geometry). Recovers g end.number image records) (sym same-geometry)
-        (subst (λ (n : ℕ). Recovers volume.file.geometry n image records) (sym same-number) is)
+    abbrev Opens : Geometry → ℕ → Type 0
+    Opens geometry n = (has : HasContents n geometry held.contents old)
+        × Guards old (seen volume.blocks) (IsLeftOpening n geometry held.contents old has)
+
+    -- and by those that it has at the end
+    had : Opens end.file.geometry end.number
+    had = subst (λ (g : Geometry). Opens g end.number) (sym same-geometry)
+        (subst (λ (n : ℕ). Opens volume.file.geometry n) (sym same-number)
+        (was, opens_so.items told volume.file.geometry held.contents was))
+
+    abbrev Keeping : Image → Type 0
+    Keeping image = KeepsAll end.file.geometry end.number (images_of had.0.whole.log.records)
+        held.contents image
+
+    abbrev MayLeave : Image → Type 0
+    MayLeave image = Left old image ⊎ Keeping image
+        ⊎ IsLeftBy end.file.geometry end.number opening end.file.entries image
 
     each-moment : Guards old (seen end.blocks) MayLeave
     each-moment = guards-then old (seen volume.blocks) (seen end.blocks) MayLeave
-        (guards-weaken old (seen volume.blocks) (λ (image : Image). Left old image
-        ⊎ Recovers volume.file.geometry number image records) MayLeave opened
-        (λ image is. ⊎_elim (λ before. inl before)
-        (λ recovers. inr (left-first end.file.geometry end.number held.contents
-        (owned_in held.owners) end.file.entries image (as-end image recovers))) is))
+        (guards-weaken old (seen volume.blocks)
+        (IsLeftOpening end.number end.file.geometry held.contents old had.0) MayLeave had.1
+        (λ image is. ⊎_elim (λ before. inl before) (λ keeps. inr (inl keeps)) is))
         (guards-weaken (seen volume.blocks) (seen end.blocks)
         (IsLeftBy end.file.geometry end.number opening end.file.entries) MayLeave run.left
-        (λ image is. inr is))
+        (λ image is. inr (inr is)))
 
     abbrev Ran-as : ℕ → List Entry → Type 0
     Ran-as n es =
@@ -221,16 +212,10 @@ module _ {D : Type 0} (tells : Bool) (seen : D → Seen) (faults : D → Faults)
       geometry = end.file.geometry;
       contents = held.contents;
       owners = held.owners;
-      volume = subst (λ (g : Geometry). IsVolume end.number g records old) (sym same-geometry)
-          (subst (λ (n : ℕ). IsVolume n volume.file.geometry records old) (sym same-number)
-          held.volume_is);
-      whole = subst (λ (g : Geometry). IsRecovered g end.number held.contents old.cur)
-          (sym same-geometry)
-          (subst (λ (n : ℕ). IsRecovered volume.file.geometry n held.contents old.cur)
-          (sym same-number) held.whole);
-      ascends = held.ascends;
-      others = subst (λ (g : Geometry). (part : ℕ) → shape_by g (held.contents 0) part ≡ None
-          → held.contents part ≡ []) (sym same-geometry) held.others;
+      volume = had.0.volume;
+      whole = had.0.whole;
+      ascends = had.0.ascends;
+      others = had.0.others;
       catalog_is = held.catalog_is;
       legal = run.held.file.legal;
       keeps_catalog = run.keeps_catalog;
@@ -240,10 +225,7 @@ module _ {D : Type 0} (tells : Bool) (seen : D → Seen) (faults : D → Faults)
       owners_are = subst (λ (g : Geometry). AreOwners g volume.file.catalog
           (seen volume.blocks).cur held.owners) (sym same-geometry) held.owners_are;
       quiet = opens_so.quiet;
-      opens = guards-weaken old (seen volume.blocks) (λ (image : Image). Left old image
-          ⊎ Recovers volume.file.geometry number image records) (λ (image : Image).
-          Left old image ⊎ Recovers end.file.geometry end.number image records) opened
-          (λ image is. ⊎_elim (λ before. inl before) (λ recovers. inr (as-end image recovers)) is);
+      opens = had.1;
       events = run.events;
       closes = ended.closed.keeps;
       goes = λ same. sym run.held.file.now.stopped ∙ ended-going same;

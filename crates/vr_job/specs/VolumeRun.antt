@@ -21,8 +21,8 @@ use Rattle.vr_job_text.specs.declared.text.Step.{Step}
 use Rattle.vr_event.specs.Opening.{owned_in}
 use Rattle.vr_event.specs.Volume.{IsWhole, VolumeNow}
 use Rattle.vr_mount.specs.Areas.{AreOwners}
-use Rattle.vr_recover.specs.Opening.{IsNoVolume, IsVolume}
-use Rattle.vr_recover.specs.Recovered.{IsRecovered, standing_all}
+use Rattle.vr_recover.specs.Opening.{HasContents, IsLeftOpening, IsNoVolume, IsVolume}
+use Rattle.vr_recover.specs.Recovered.{IsRecovered, KeepsAll, standing_all}
 use Rattle.vr_worker.specs.Steps.{AreOfSteps}
 use Rattle.vr_job_ends.specs.declared.job_end.End.{End}
 use Rattle.vr_job_ends.specs.declared.job_end.End.TheVariants.{Line, Ran, Unsynced}
@@ -30,6 +30,7 @@ use Rattle.vr_trace.specs.declared.ending.EndLine.{EndLine}
 use Rattle.vr_trace.specs.declared.ending.EndLine.TheVariants.{DeviceFault}
 use Rattle.vr_volume.specs.Crashes.{RecoversTo}
 use Rattle.vr_volume.specs.Laid.{shape_by}
+use Rattle.vr_volume.specs.PutBack.{images_of}
 use Rattle.vr_volume.specs.Volume.{Recovers}
 use Rattle.vr_job.specs.Committed.{KeepTheCatalog}
 use Rattle.vr_job.specs.Crash.{IsLeftBy}
@@ -53,7 +54,9 @@ opening_of contents owners = opening_state contents (owned_in owners)
 -- nowhere else; and a part that isn't laid has nothing. An area is owned by the part of the catalog
 -- that reaches it once it is opened, and by no other, and else it is free; the history is legal from
 -- its opening, and no entry of it changes the catalog; and each image of each moment is one that a
--- crash left before, or is left by the history. No fault came as it was opened. From the end of its
+-- crash left before, or recovers to the records of the contents and keeps what is withdrawn in them
+-- where the log had nothing to put back, or is left by the history. No fault came as it was opened.
+-- From the end of its
 -- opening on the run is events, in each of which an image recovers to what is committed by the
 -- history before it, perhaps with the unit whose COMMIT it enters; so it came to what the requests
 -- left, and then nothing more is put. As long as the device counted no write that failed, the volume
@@ -74,12 +77,13 @@ pub record IsRun {D : Type 0} (tells : Bool) (seen : D → Seen) (faults : D →
   pub legal : IsLegal geometry (opening_state contents (owned_in owners)) entries
   pub keeps_catalog : KeepTheCatalog geometry (opening_state contents (owned_in owners)) entries
   pub moments : Guards (seen old) (seen new) (λ image. Left (seen old) image
+      ⊎ KeepsAll geometry number (images_of whole.log.records) contents image
       ⊎ IsLeftBy geometry number (opening_state contents (owned_in owners)) entries image)
   pub opened : D
   pub owners_are : AreOwners geometry catalog (seen opened).cur owners
   pub quiet : faults opened ≡ faults old
   pub opens : Guards (seen old) (seen opened) (λ image. Left (seen old) image
-      ⊎ Recovers geometry number image (standing_all contents))
+      ⊎ KeepsAll geometry number (images_of whole.log.records) contents image)
   pub events : IsOfEvents seen faults geometry number (opening_state contents (owned_in owners))
       opened ended entries
   pub closes : Keeps tells (seen ended) (seen new)
@@ -104,7 +108,8 @@ HasFaultCause number before now end = IsFaultEnd number end
     → (before.reads < now.reads) ⊎ (before.writes < now.writes)
 
 -- It was not opened, and the job ended by that: nothing was asked, and each image of each moment is one
--- that a crash left before, or recovers to what the blocks recovered to. Where its blocks are refused
+-- that a crash left before, or recovers to what the blocks recovered to, and keeps what is withdrawn
+-- in the contents that they have where the log had nothing to put back. Where its blocks are refused
 -- for what they are, they were left as they were; and so they were, whatever the line, where they were
 -- those of no volume of this number.
 pub record IsUnopened (tells : Bool) (number : ℕ) (end : End) (entries : List Entry)
@@ -118,6 +123,9 @@ pub record IsUnopened (tells : Bool) (number : ℕ) (end : End) (entries : List 
   pub moments : (geometry : Geometry) (contents : ℕ → Content)
       → IsVolume number geometry contents old
       → Guards old new (λ image. Left old image ⊎ Recovers geometry number image contents)
+  pub items : (geometry : Geometry) (contents : ℕ → Content)
+      → (has : HasContents number geometry contents old)
+      → Guards old new (IsLeftOpening number geometry contents old has)
 
 -- It was left as it was, since a volume of a lesser number was not opened.
 pub record IsUntouched {D : Type 0} (number : ℕ) (end : End) (entries : List Entry)
@@ -162,10 +170,10 @@ pub record IsOpen {D : Type 0} (tells : Bool) (seen : D → Seen) (faults : D �
   pub never_fall : NeverFall (faults device) (faults volume.blocks)
   pub quiet : faults volume.blocks ≡ faults device
   pub held : IsTrue tells → IsOpenHeld seen faults number (seen device) volume
-  pub any_moment : IsTrue tells → (geometry : Geometry) (contents : ℕ → Content)
-      → IsVolume number geometry contents (seen device)
-      → Guards (seen device) (seen volume.blocks) (λ image. Left (seen device) image
-      ⊎ Recovers geometry number image contents)
+  pub items : IsTrue tells → (geometry : Geometry) (contents : ℕ → Content)
+      → (has : HasContents number geometry contents (seen device))
+      → Guards (seen device) (seen volume.blocks)
+      (IsLeftOpening number geometry contents (seen device) has)
 
 -- The volume of this number was not opened on a device. Where its blocks are refused for what they
 -- are, they were left as they were; and so they were, whatever the line, where they were those of no
@@ -182,6 +190,9 @@ pub record IsNotOpen {D : Type 0} (tells : Bool) (seen : D → Seen) (faults : D
       → IsVolume number geometry contents (seen old)
       → Guards (seen old) (seen new) (λ image. Left (seen old) image
       ⊎ Recovers geometry number image contents)
+  pub items : IsTrue tells → (geometry : Geometry) (contents : ℕ → Content)
+      → (has : HasContents number geometry contents (seen old))
+      → Guards (seen old) (seen new) (IsLeftOpening number geometry contents (seen old) has)
 
 -- A volume was closed: nothing was put on its device, and no count of faults fell; the device
 -- failed to sync exactly where the count of writes that failed rose; and else a crash leaves what

@@ -11,7 +11,8 @@ ghost use Rattle.vr_event.specs.Opening.{IsOpened as IsOpenedWith, owned_in};
 ghost use Rattle.vr_event.specs.Volume.{IsWhole, OwnLaid};
 ghost use Rattle.vr_history.specs.State.{opening_state};
 ghost use Rattle.vr_volume.specs.Volume.{Recovers};
-ghost use Rattle.vr_recover.specs.Opening.{IsHandedOut, IsNoVolume, IsOpened, IsVolume};
+ghost use Rattle.vr_recover.specs.Opening.{HasContents, IsHandedOut, IsLeftOpening, IsNoVolume};
+ghost use Rattle.vr_recover.specs.Opening.{IsOpened, IsVolume};
 ghost use Rattle.vr_job.specs.Going.{HasRun};
 ghost use Rattle.vr_job.specs.OpenEnds as ends;
 ghost use Rattle.vr_job.specs.OpenEnds.{HasEndCause, IsOpenEnd, IsOpenLine, NeverFall};
@@ -78,6 +79,10 @@ fn open_whole<B: Blocks>(
         → IsVolume number geometry contents (B.seen blocks.old)
         → Guards (B.seen blocks.old) (B.seen blocks.new) (λ image.
         Left (B.seen blocks.old) image ⊎ Recovers geometry number image contents) }
+    ensures items { IsTrue B.tells → (geometry : VolumeShape) (contents : ℕ → Content)
+        → (has : HasContents number geometry contents (B.seen blocks.old))
+        → Guards (B.seen blocks.old) (B.seen blocks.new)
+        (IsLeftOpening number geometry contents (B.seen blocks.old) has) }
     ensures line { IfErr result (IsOpenLine number) }
     ensures refused { IsTrue B.tells → IfErr result (IsOpenEnd number (B.seen blocks.old)) }
     ensures kept { IfErr result (λ end. SaysOfBlocks number end
@@ -114,6 +119,10 @@ fn open_parts<B: Blocks>(
         → IsVolume number geometry contents (B.seen blocks.old)
         → Guards (B.seen blocks.old) (B.seen blocks.new) (λ image.
         Left (B.seen blocks.old) image ⊎ Recovers geometry number image contents) }
+    ensures items { IsTrue B.tells → (geometry : VolumeShape) (contents : ℕ → Content)
+        → (has : HasContents number geometry contents (B.seen blocks.old))
+        → Guards (B.seen blocks.old) (B.seen blocks.new)
+        (IsLeftOpening number geometry contents (B.seen blocks.old) has) }
     ensures line { IfErr result (IsOpenLine number) }
     ensures refused { IsTrue B.tells → IfErr result (IsOpenEnd number (B.seen blocks.old)) }
     ensures kept { IfErr result (λ end. SaysOfBlocks number end
@@ -180,11 +189,15 @@ pub fn open<B: Blocks + Drop>(
     // of it recovers to the records of that.
     ensures held { IsTrue B.tells
         → IfOk result (IsOpenHeld B.seen B.faults number (B.seen blocks)) }
-    // In every image of every moment, whether it is opened or not.
-    ensures any_moment { IsTrue B.tells → (geometry : VolumeShape) (contents : ℕ → Content)
-        → IsVolume number geometry contents (B.seen blocks)
-        → IfOk result (λ volume. Guards (B.seen blocks) (B.seen volume.blocks) (λ image.
-        Left (B.seen blocks) image ⊎ Recovers geometry number image contents)) }
+    // In every image of every moment, whether it is opened or not; and what was withdrawn stays so.
+    ensures items { IsTrue B.tells → (geometry : VolumeShape) (contents : ℕ → Content)
+        → (has : HasContents number geometry contents (B.seen blocks))
+        → IfOk result (λ volume. Guards (B.seen blocks) (B.seen volume.blocks)
+        (IsLeftOpening number geometry contents (B.seen blocks) has)) }
+    ensures items_back { IsTrue B.tells → (geometry : VolumeShape) (contents : ℕ → Content)
+        → (has : HasContents number geometry contents (B.seen blocks))
+        → IfErr result (λ back. Guards (B.seen blocks) (B.seen back.0)
+        (IsLeftOpening number geometry contents (B.seen blocks) has)) }
     ensures any_moment_back { IsTrue B.tells → (geometry : VolumeShape) (contents : ℕ → Content)
         → IsVolume number geometry contents (B.seen blocks)
         → IfErr result (λ back. Guards (B.seen blocks) (B.seen back.0) (λ image.

@@ -6,7 +6,7 @@ use Rattle.std.specs.List.{IsDistinct, filter_map}
 use Rattle.vr_types.specs.Content.{Ascends, Content}
 use Rattle.vr_types.specs.Geometry.{IsAllowed, area_count, head_block}
 use Rattle.vr_types.specs.Image.{Image, block_at}
-use Rattle.vr_types.specs.Seen.{Seen}
+use Rattle.vr_types.specs.Seen.{Left, Seen}
 use Rattle.vr_types.specs.declared.geometry.Geometry.{Geometry}
 use Rattle.vr_types.specs.declared.unit.PartNo.{PartNo}
 use Rattle.vr_space.specs.Part.{IsOn, OwnsChain, Shape, StandsFor, part_no}
@@ -33,6 +33,7 @@ use Rattle.vr_volume.specs.PutBack.{images_of}
 use Rattle.vr_recover.specs.Recovered.{standing_all}
 use Rattle.vr_volume.specs.Volume.{Recovers}
 use Rattle.vr_recover.specs.Images.{CannotGoBack, catalog_by}
+use Rattle.vr_recover.specs.Recovered.{KeepsAll}
 pub use Rattle.vr_recover.specs.Recovered.{IsRecovered}
 use Rattle.vr_recover.specs.Undone.{IsLaidPastLog, IsReady, IsUndone}
 use Rattle.vr_recover.specs.Unserved.{IsServedCluster, IsUnserved}
@@ -53,6 +54,22 @@ pub record IsVolume (number : ℕ) (geometry : Geometry) (contents : ℕ → Con
 abbrev pub IsNoVolume : ℕ → Seen → Type 0
 IsNoVolume number now = (geometry : Geometry) (contents : ℕ → Content)
     → IsVolume number geometry contents now → ⊥
+
+-- The blocks are those of a volume of this number and shape, and have these contents, as an opening
+-- hands them out: a part that isn't laid has nothing.
+pub record HasContents (number : ℕ) (geometry : Geometry) (contents : ℕ → Content) (now : Seen)
+    : Type 0 where
+  pub volume : IsVolume number geometry (standing_all contents) now
+  pub whole : IsRecovered geometry number contents now.cur
+  pub ascends : (part : ℕ) → Ascends (contents part)
+  pub others : (part : ℕ) → shape_by geometry (contents 0) part ≡ None → contents part ≡ []
+
+-- What an image has while they are opened: it is one that a crash left before, or recovers to the
+-- records of the contents and keeps what is withdrawn in them where the log had nothing to put back.
+abbrev pub IsLeftOpening : (number : ℕ) (geometry : Geometry) (contents : ℕ → Content) (old : Seen)
+    → HasContents number geometry contents old → Image → Type 0
+IsLeftOpening number geometry contents old has image = Left old image
+    ⊎ KeepsAll geometry number (images_of has.whole.log.records) contents image
 
 -- ---- which block and which rule are shown
 

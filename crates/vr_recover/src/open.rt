@@ -1,7 +1,7 @@
 //! Opening a volume.
-ghost use Rattle.std.specs.Prelude.{◌≡◌, ◌⊎◌, [], ℕ, None, IsTrue, IfErr, IfOk, OnOk};
+ghost use Rattle.std.specs.Prelude.{◌≡◌, ◌⊎◌, [], ℕ, IsTrue, IfErr, IfOk, OnOk};
 ghost use Rattle.vr_types.specs.Blocks.{AllForced, Keeps};
-ghost use Rattle.vr_types.specs.Content.{Ascends, Content};
+ghost use Rattle.vr_types.specs.Content.{Content};
 ghost use Rattle.vr_types.specs.Geometry.{IsAllowed};
 ghost use Rattle.vr_types.specs.Image.{Image, block_at};
 ghost use Rattle.vr_types.specs.Moments.{Guards};
@@ -10,13 +10,13 @@ ghost use Rattle.vr_types.specs.declared.geometry.Geometry.{Geometry as VolumeSh
 ghost use Rattle.vr_attach.specs.Header.{header_block};
 ghost use Rattle.vr_log.specs.LogNow.{IsOf, made};
 ghost use Rattle.vr_log.specs.Spells.{Spells};
-ghost use Rattle.vr_volume.specs.Laid.{shape_by};
 ghost use Rattle.vr_volume.specs.PutBack.{images_of};
 ghost use Rattle.vr_volume.specs.Volume.{Recovers};
 ghost use Rattle.vr_recover.specs.Found.{IsLogFound};
 ghost use Rattle.vr_recover.specs.OpenNo.{HasOpenCause, IsToldNo};
-ghost use Rattle.vr_recover.specs.Opening.{IsHandedOut, IsNoVolume, IsOpened, IsRefused, IsVolume};
-ghost use Rattle.vr_recover.specs.Recovered.{IsRecovered, IsWhole, KeepsAll, standing_all};
+ghost use Rattle.vr_recover.specs.Opening.{HasContents, IsHandedOut, IsLeftOpening, IsNoVolume};
+ghost use Rattle.vr_recover.specs.Opening.{IsOpened, IsRefused, IsVolume};
+ghost use Rattle.vr_recover.specs.Recovered.{IsWhole, KeepsAll};
 
 use crate::begun::{Begun, begin_log, read_shape};
 use crate::finding::{Found, find};
@@ -183,14 +183,11 @@ pub fn open_volume<B: Blocks>(
         → IsVolume number geometry contents (B.seen blocks.old)
         → Guards (B.seen blocks.old) (B.seen blocks.new) (λ image.
         Left (B.seen blocks.old) image ⊎ Recovers geometry number image contents) }
-    // What was withdrawn stays so in them: its address isn't given again.
+    // And what was withdrawn stays so in them: its address isn't given again.
     ensures items { IsTrue B.tells → (geometry : VolumeShape) (contents : ℕ → Content)
-        → IsVolume number geometry (standing_all contents) (B.seen blocks.old)
-        → (whole : IsRecovered geometry number contents (B.seen blocks.old).cur)
-        → ((part : ℕ) → Ascends (contents part))
-        → ((part : ℕ) → shape_by geometry (contents 0) part ≡ None → contents part ≡ [])
-        → Guards (B.seen blocks.old) (B.seen blocks.new) (λ image. Left (B.seen blocks.old) image
-        ⊎ KeepsAll geometry number (images_of whole.log.records) contents image) }
+        → (has : HasContents number geometry contents (B.seen blocks.old))
+        → Guards (B.seen blocks.old) (B.seen blocks.new)
+        (IsLeftOpening number geometry contents (B.seen blocks.old) has) }
     ensures recovers { IsTrue B.tells → (geometry : VolumeShape) (contents : ℕ → Content)
         → IsAllowed geometry → IsOf geometry (B.seen blocks.old)
         → ((image : Image) → Left (B.seen blocks.old) image

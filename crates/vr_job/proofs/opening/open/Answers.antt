@@ -1,16 +1,13 @@
-use Rattle.std.proofs.Common.{◌≡◌, ◌∙◌, ◌⊎◌, [], ℕ, List, None, subst, sym}
-use Rattle.vr_types.specs.Image.{Image}
+use Rattle.std.proofs.Common.{◌≡◌, ◌∙◌, [], ℕ, List, None, subst, sym}
 use Rattle.vr_types.specs.Moments.{Guards}
-use Rattle.vr_types.specs.Seen.{Left}
 use Rattle.vr_types.specs.declared.geometry.Geometry.{Geometry}
 use Rattle.vr_catalog.specs.declared.entry.CatEntry.{CatEntry}
 use Rattle.vr_event.specs.Opening.{owned_in}
 use Rattle.vr_history.specs.State.{opening_state}
 use Rattle.vr_mount.specs.Areas.{AreOwners}
-use Rattle.vr_recover.specs.Opening.{IsVolume}
+use Rattle.vr_recover.specs.Opening.{IsLeftOpening, IsVolume}
 use Rattle.vr_recover.specs.Recovered.{IsRecovered, standing_all}
 use Rattle.vr_volume.specs.Laid.{shape_by}
-use Rattle.vr_volume.specs.Volume.{Recovers}
 use Rattle.vr_job.specs.Going.{HasRun}
 use Rattle.vr_job.proofs.Readying.{own-laid}
 use Rattle.vr_job.proofs.opening.open.Goals as goal
@@ -50,9 +47,9 @@ returns-in-Ok-clause-held g c told =
           from.1.opened);
     }
 
-pub returns-in-Ok-clause-any_moment : goal.returns-in-Ok-clause-any_moment
-returns-in-Ok-clause-any_moment g c told geometry contents is =
+pub returns-in-Ok-clause-items : goal.returns-in-Ok-clause-items
+returns-in-Ok-clause-items g c told geometry contents has =
     subst (λ (blocks : g.row.B.Denot). Guards (g.B.Blocks.seen c.args.blocks)
-    (g.B.Blocks.seen blocks) (λ (image : Image). Left (g.B.Blocks.seen c.args.blocks) image
-    ⊎ Recovers geometry c.args.number image contents)) (sym c.made.ensures.blocks)
-    (c.in-Ok.ensures.any_moment told geometry contents is)
+    (g.B.Blocks.seen blocks)
+    (IsLeftOpening c.args.number geometry contents (g.B.Blocks.seen c.args.blocks) has))
+    (sym c.made.ensures.blocks) (c.in-Ok.ensures.items told geometry contents has)

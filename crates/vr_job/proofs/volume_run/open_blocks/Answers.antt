@@ -15,4 +15,5 @@ returns-in-Err-clause-not_open g c =
       unwritten = c.in-Err.ensures.unwritten;
       cause = c.in-Err.ensures.cause;
       any_moment = c.in-Err.ensures.any_moment_back;
+      items = c.in-Err.ensures.items_back;
     })

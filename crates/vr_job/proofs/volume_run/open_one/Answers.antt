@@ -3,6 +3,7 @@ use Rattle.vr_types.specs.Image.{Image}
 use Rattle.vr_types.specs.Seen.{Left}
 use Rattle.vr_types.proofs.CallerLemmas.{guards-start, keeps-none}
 use Rattle.vr_volume.specs.Volume.{Recovers}
+use Rattle.vr_recover.specs.Opening.{IsLeftOpening}
 use Rattle.vr_recover.specs.declared.open_no.OpenNo.TheVariants.{Memory}
 use Rattle.vr_job.specs.OpenEnds.{IsMemory}
 use Rattle.vr_job.specs.VolumeRun.{IsNotOpen}
@@ -27,6 +28,10 @@ returns-in-Err-clause-not_open g c =
       any_moment = λ told geometry contents is. guards-start (D.seen first)
           (λ (image : Image). Left (D.seen first) image
           ⊎ Recovers geometry c.args.number image contents)
+          (λ image at. g.met.D.BlockDevice.images_may first image told at)
+          (λ image left. inl left);
+      items = λ told geometry contents has. guards-start (D.seen first)
+          (IsLeftOpening c.args.number geometry contents (D.seen first) has)
           (λ image at. g.met.D.BlockDevice.images_may first image told at)
           (λ image left. inl left);
     })

@@ -15,12 +15,13 @@ returns-clause-any_moment g c told geometry contents is =
     (whole geometry c.args.number a.cur contents is.recovers) is.allowed is.shape had)
 
 pub returns-clause-items : goal.returns-clause-items
-returns-clause-items g c told geometry contents is recovered ascends others =
-    c.open_numbered.ensures.any_moment told geometry contents is.allowed is.shape (record {
-      recovers = is.recovers;
-      whole = recovered;
-      ascends = ascends;
-      others = others;
+returns-clause-items g c told geometry contents has =
+    c.open_numbered.ensures.any_moment told geometry contents has.volume.allowed has.volume.shape
+    (record {
+      recovers = has.volume.recovers;
+      whole = has.whole;
+      ascends = has.ascends;
+      others = has.others;
     })
 
 pub returns-clause-recovers : goal.returns-clause-recovers
