@@ -184,6 +184,7 @@ module _ (geometry : Geometry) (number : ℕ) (entries : List CatEntry) (image :
   pub formatted-recovers : Recovers geometry number image contents
   formatted-recovers = recovers-same geometry number image
       (λ (part : ℕ). standing (contents part)) contents
-      (λ part. stands-same (contents part) (each-by (nat_eq part 0)) (recorded (nat_eq part 0)))
+      (λ part. sym (stands-same (contents part) (each-by (nat_eq part 0))
+      (recorded (nat_eq part 0))))
       (image_recovers geometry number (owner_of geometry owned.0) image no_log contents
       formatted-safe).recovers
