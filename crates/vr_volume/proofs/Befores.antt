@@ -26,11 +26,11 @@ use Rattle.vr_log.specs.Content.{Content as LogContent}
 use Rattle.vr_log.specs.LogNow.{IsLogOf, IsPrefixOf, LogNow, first_of, with_record}
 use Rattle.vr_log.specs.declared.record.LogRecord.{LogRecord}
 use Rattle.vr_log.specs.declared.record.LogRecord.TheVariants.{Before}
-use Rattle.vr_undo.proofs.CallerLemmas.{stands-record}
+use Rattle.vr_undo.proofs.CallerLemmas.{record-stands}
 use Rattle.vr_volume.specs.Laid.{shape_by}
 use Rattle.vr_volume.specs.Logged.{IsFirstBefore}
 use Rattle.vr_volume.specs.PutBack.{AreAlone, images_of, is_image_of, length_of, lengths_kept}
-use Rattle.vr_volume.specs.PutBack.{oldest}
+use Rattle.vr_volume.specs.PutBack.{oldest, standing_of}
 use Rattle.vr_log.proofs.Growing.{has_more}
 use Rattle.vr_volume.specs.Safe.{IsPartSafe, IsSafe, IsSafeBy}
 use Rattle.vr_volume.specs.Volume.{CanPutBack}
@@ -139,20 +139,21 @@ module _ (geometry : Geometry) (number : ℕ) (owners : Owners) (log : LogNow)
   olds-more : (other : ℕ) (at : List ℕ) (found : BeforeImage) (before : Option BeforeImage)
       → oldest (images_of log.records) other at ≡ before
       → option_or before (cond (is_image_of other at image) (Some image) None) ≡ Some found
-      → found.old ≡ item_at (committed log.records other) at
+      → found.old ≡ standing_of (item_at (committed log.records other) at)
   olds-more other at found (Some first) is same =
       by-all.committed.olds other at found (is ∙ same)
   olds-more other at found None is same = by_test (is_image_of other at image) refl same
     where
       by_test : (mine : Bool) → is_image_of other at image ≡ mine
           → cond mine (Some image) None ≡ Some found
-          → found.old ≡ item_at (committed log.records other) at
+          → found.old ≡ standing_of (item_at (committed log.records other) at)
       by_test true mine here =
           let there = is-there other at mine in
           let found-is : image ≡ found = cc in
-          sym (ap (λ (i : BeforeImage). i.old) found-is) ∙ next.item
+          sym (ap (λ (i : BeforeImage). i.old) found-is) ∙ sym (record-stands old)
+          ∙ ap standing_of (next.item
           ∙ ap (λ (p : ℕ). item_at (committed log.records p) place) there.0
-          ∙ sym (ap (item_at (committed log.records other)) there.1)
+          ∙ sym (ap (item_at (committed log.records other)) there.1))
       by_test false mine here = absurd (cc)
 
   module _ (other : ℕ) (shape : Shape)
@@ -176,10 +177,10 @@ module _ (geometry : Geometry) (number : ℕ) (owners : Owners) (log : LogNow)
         mine.sound mine.room
         (λ item held. (
           bytes,
-          stands-record item bytes (mine.items place item held
+          mine.items place item held
               (sym (ap (λ (p : ℕ). oldest (images_of log.records) p place) here) ∙ next.first)
               ∙ sym (ap (λ (p : ℕ). item_at (committed log.records p) place) here)
-              ∙ sym next.item ∙ ap (option_map Standing) is),
+              ∙ sym next.item ∙ ap (option_map Standing) is,
           goes-back shape (length bytes),
         ))
 
@@ -218,9 +219,8 @@ module _ (geometry : Geometry) (number : ℕ) (owners : Owners) (log : LogNow)
   -- what stands at its place is the record that it has
   record-old : (bytes : List ℕ) → old ≡ Some bytes → IsRecordOf next.shape place bytes
   record-old bytes is = record-read next.shape a.cur stands.content stands.stands place bytes
-      (stands-record (item_at stands.content place) bytes
       (safe-here.items place (item_at stands.content place) (stands.each place) next.first
-      ∙ sym next.item ∙ ap (option_map Standing) is))
+      ∙ sym next.item ∙ ap (option_map Standing) is)
 
   can-put-back : CanPutBack (shape_by geometry (committed log.records 0)) image
   can-put-back = record {

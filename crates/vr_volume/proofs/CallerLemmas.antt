@@ -6,8 +6,13 @@ pub use Rattle.vr_volume.proofs.Crashing.{commit-recovers, safe-recovers}
 -- the records of a catalog lay the parts as it does, and keep its rules, as committed ones do
 pub use Rattle.vr_volume.proofs.RecordsLaid.{catalog-stands, catalog-whole, shape-stands}
 pub use Rattle.vr_volume.proofs.Committing.{shape-same}
--- what stands once before-images were put back into the records of a content
-pub use Rattle.vr_volume.proofs.PuttingBack.{back-record, records-ascend}
+-- what is there once before-images were put back into a content, and what stands once they were put
+-- back into its records; the records are the same
+pub use Rattle.vr_volume.proofs.PuttingBack.{back-item, back-record, records-ascend}
+pub use Rattle.vr_volume.proofs.Histories.{record-back}
+-- a safe image recovers to the records of what is committed by its log, and has the items of that
+-- where nothing is put back; and one recovers to contents that are the same
+pub use Rattle.vr_volume.proofs.Recovering.{image_recovers, recovers-same}
 -- the record that a call leaves at a place is the one that it gives
 pub use Rattle.vr_volume.proofs.PuttingBack.{left-stands}
 -- each length that is kept of fewer before-images is one that was kept

@@ -22,12 +22,10 @@ use Rattle.vr_volume.specs.Committed.{HasLogged, IsCurrent, IsKeptIn, IsLaidStat
 use Rattle.vr_volume.specs.Committed.{committed_by, commits_unit, has_commit, is_committing}
 use Rattle.vr_volume.specs.Committed.{kept_by}
 use Rattle.vr_volume.specs.Laid.{shape_by}
-use Rattle.vr_volume.specs.PutBack.{AreAlone, images_of, oldest, put_back, standing}
-use Rattle.vr_volume.specs.PutBack.{standing_of}
+use Rattle.vr_volume.specs.PutBack.{AreAlone, images_of, oldest, put_back, standing_of}
 use Rattle.vr_volume.specs.Safe.{AreCommitted}
 use Rattle.vr_volume.specs.Volume.{CanPutBack, IsInside}
-use Rattle.vr_volume.proofs.PuttingBack.{back-record, records-ascend}
-use Rattle.vr_volume.proofs.RecordsLaid.{catalog-stands, shape-stands}
+use Rattle.vr_volume.proofs.PuttingBack.{back-ascends, back-item}
 
 -- ---- contents to which nothing is put back
 
@@ -128,7 +126,7 @@ before-same state records unit part place old =
     ∙ or-false (has_commit records other)) state.befores)
   where
     contents-of : List BeforeImage → ℕ → Content
-    contents-of images p = put_back p images (standing (state.contents p))
+    contents-of images p = put_back p images (state.contents p)
 
     or-false : (b : Bool) → (b || false) ≡ b
     or-false true = refl
@@ -150,11 +148,22 @@ all-map P Q more (image ∷ images) all = All-cons Q image images
     (more image (All-head P image images all))
     (all-map P Q more images (All-tail P image images all))
 
+-- what may be put back may be where the parts are laid the same
+pub backs-by : (one other : ℕ → Option Shape) → ((part : ℕ) → other part ≡ one part)
+    → (images : List BeforeImage) → All (CanPutBack one) images → All (CanPutBack other) images
+backs-by one other same = all-map (CanPutBack one) (CanPutBack other)
+    (λ image can. record {
+      shape = can.shape;
+      laid = same image.part ∙ can.laid;
+      place = can.place;
+      old = can.old;
+    })
+
 module _ (geometry : Geometry) (state : State) (laid : IsLaidState geometry state) where
-  -- the records of the catalog are committed as they are
+  -- the catalog is committed as it is
   pub catalog-same : (records : List LogRecord)
-      → committed_by state records 0 ≡ standing (state.contents 0)
-  catalog-same records = back-apart 0 (kept_by records state.befores) (standing (state.contents 0))
+      → committed_by state records 0 ≡ state.contents 0
+  catalog-same records = back-apart 0 (kept_by records state.befores) (state.contents 0)
       (kept-some records (λ (image : BeforeImage). image.part ≢ 0) state.befores
       (all-map (IsKeptIn geometry state) (λ (image : BeforeImage). image.part ≢ 0)
       (λ image kept. kept.not_catalog) state.befores laid.kept))
@@ -165,59 +174,44 @@ module _ (geometry : Geometry) (state : State) (laid : IsLaidState geometry stat
       ≡ shape_by geometry (state.contents 0) part
   shape-same records part =
       ap (λ (catalog : Content). shape_by geometry catalog part) (catalog-same records)
-      ∙ shape-stands geometry (state.contents 0) part
 
-  -- a part that isn't laid keeps nothing
-  none-kept : (records : List LogRecord) (part : ℕ)
+  -- a part that isn't laid has nothing
+  pub committed-none : (records : List LogRecord) (part : ℕ)
       → shape_by geometry (state.contents 0) part ≡ None
       → committed_by state records part ≡ []
-  none-kept records part none =
-      back-apart part (kept_by records state.befores) (standing (state.contents part))
+  committed-none records part none =
+      back-apart part (kept_by records state.befores) (state.contents part)
       (kept-some records (λ (image : BeforeImage). image.part ≢ part) state.befores
       (all-map (IsKeptIn geometry state) (λ (image : BeforeImage). image.part ≢ part)
       (λ image kept here. no-shape kept.shape
       (sym (ap (shape_by geometry (state.contents 0)) here ∙ none) ∙ kept.laid))
       state.befores laid.kept))
-      ∙ ap standing (laid.others part none)
+      ∙ laid.others part none
     where
       no-shape : (shape : Shape) → None ≡ Some shape → ⊥
       no-shape shape same = cc
 
   pub committed-ascends : (records : List LogRecord) (part : ℕ)
       → Ascends (committed_by state records part)
-  committed-ascends records part = records-ascend part (kept_by records state.befores)
+  committed-ascends records part = back-ascends part (kept_by records state.befores)
       (state.contents part) (laid.each part)
 
   -- a before-image that may be put back by the state may be by what is committed
   pub images-same : (records : List LogRecord) (images : List BeforeImage)
       → All (CanPutBack (shape_by geometry (state.contents 0))) images
       → All (CanPutBack (shape_by geometry (committed_by state records 0))) images
-  images-same records images all = all-map
-      (CanPutBack (shape_by geometry (state.contents 0)))
-      (CanPutBack (shape_by geometry (committed_by state records 0)))
-      (λ image can. record {
-        shape = can.shape;
-        laid = shape-same records image.part ∙ can.laid;
-        place = can.place;
-        old = can.old;
-      }) images all
+  images-same records images = backs-by (shape_by geometry (state.contents 0))
+      (shape_by geometry (committed_by state records 0)) (shape-same records) images
 
   -- and the other way round
   pub images-back : (records : List LogRecord) (images : List BeforeImage)
       → All (CanPutBack (shape_by geometry (committed_by state records 0))) images
       → All (CanPutBack (shape_by geometry (state.contents 0))) images
-  images-back records images all = all-map
-      (CanPutBack (shape_by geometry (committed_by state records 0)))
-      (CanPutBack (shape_by geometry (state.contents 0)))
-      (λ image can. record {
-        shape = can.shape;
-        laid = sym (shape-same records image.part) ∙ can.laid;
-        place = can.place;
-        old = can.old;
-      }) images all
+  images-back records images = backs-by (shape_by geometry (committed_by state records 0))
+      (shape_by geometry (state.contents 0)) (λ part. sym (shape-same records part)) images
 
   -- the contents are committed ones, where the parts are on blocks that there are, and each
-  -- before-image of the log may be put back, and is the item of its place
+  -- before-image of the log may be put back, and is the record of its place
   pub are-committed : (records : List LogRecord)
       → ((part : ℕ) (shape : Shape) → shape_by geometry (state.contents 0) part ≡ Some shape
       → IsInside geometry shape)
@@ -225,14 +219,13 @@ module _ (geometry : Geometry) (state : State) (laid : IsLaidState geometry stat
       → AreAlone (images_of records)
       → ((part : ℕ) (place : List ℕ) (image : BeforeImage)
       → oldest (images_of records) part place ≡ Some image
-      → image.old ≡ item_at (committed_by state records part) place)
+      → image.old ≡ standing_of (item_at (committed_by state records part) place))
       → AreCommitted geometry records (committed_by state records)
   are-committed records inside images alone olds = record {
     each = committed-ascends records;
-    catalog = subst (IsCatalog geometry) (sym (catalog-same records))
-        (catalog-stands geometry (state.contents 0) laid.catalog);
+    catalog = subst (IsCatalog geometry) (sym (catalog-same records)) laid.catalog;
     inside = λ part shape is. inside part shape (sym (shape-same records part) ∙ is);
-    others = λ part none. none-kept records part (sym (shape-same records part) ∙ none);
+    others = λ part none. committed-none records part (sym (shape-same records part) ∙ none);
     images = images-same records (images_of records) images;
     alone = alone;
     olds = olds;
@@ -250,12 +243,10 @@ module _ (geometry : Geometry) (state : State) (laid : IsLaidState geometry stat
     pub all-kept : kept_by log.records state.befores ≡ state.befores
     all-kept = kept-all log.records state.befores none-ended
 
-    -- the record that is committed at a place
+    -- the item that is committed at a place
     pub item-now : (part : ℕ) (place : List ℕ) → item_at (committed_by state log.records part) place
-        ≡ kept_or (oldest state.befores part place)
-        (standing_of (item_at (state.contents part) place))
+        ≡ kept_or (oldest state.befores part place) (item_at (state.contents part) place)
     item-now part place =
-        back-record part (kept_by log.records state.befores) (state.contents part) place
-        (laid.each part)
+        back-item part (kept_by log.records state.befores) (state.contents part) place
         ∙ ap (λ (images : List BeforeImage). kept_or (oldest images part place)
-        (standing_of (item_at (state.contents part) place))) all-kept
+        (item_at (state.contents part) place)) all-kept

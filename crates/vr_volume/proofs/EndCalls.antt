@@ -28,11 +28,12 @@ use Rattle.vr_history.specs.Effects.{is_other}
 use Rattle.vr_history.specs.State.{BeforeImage, Logged, State}
 use Rattle.vr_volume.specs.Committed.{IsCurrent, IsFirmFor, IsLaidState, KeepsNoneIf}
 use Rattle.vr_volume.specs.Committed.{committed_by, kept_by, logged_of}
+use Rattle.vr_volume.specs.Ended.{ended}
 use Rattle.vr_volume.specs.EndedLog.{IsEndForced, IsEndedLog}
 use Rattle.vr_volume.specs.Laid.{shape_by}
 use Rattle.vr_volume.specs.Laying.{IsLogged}
 use Rattle.vr_volume.specs.PutBack.{AreAlone, images_of, is_image_of, lengths_kept, oldest}
-use Rattle.vr_volume.specs.PutBack.{put_back, standing}
+use Rattle.vr_volume.specs.PutBack.{put_back}
 use Rattle.vr_volume.specs.Rests.{IsPartAtRest, IsVolumeAtRest}
 use Rattle.vr_volume.specs.Safe.{IsSafe, IsSafeImage}
 use Rattle.vr_volume.specs.Steps.{IsEndedIn}
@@ -47,7 +48,7 @@ use Rattle.vr_volume.proofs.LogCalls.{safe-fewer}
 use Rattle.vr_volume.proofs.Meeting.{end-of, find-stays, images-ended}
 use Rattle.vr_volume.proofs.Rested.{stays-holds}
 use Rattle.vr_volume.proofs.Restarting.{no-images, safe-restarted}
-use Rattle.vr_volume.proofs.Resting.{safe-same}
+use Rattle.vr_volume.proofs.Resting.{AreAlikeIn, alike-same, safe-alike}
 
 -- ---- the log
 
@@ -170,20 +171,20 @@ module _ (geometry : Geometry) (number : ℕ) (owners : Owners) (log : LogNow)
     abbrev others : List BeforeImage
     others = others_of unit images
 
+    laid-new : IsLaidState geometry new
+    laid-new = laid-ended geometry old new rest.laid log rest.logged unit kind current made
+
     -- with the end the volume is safe by the new state
     safe-new : IsSafe geometry number owners mid (committed_by new) b
-    safe-new = safe-same geometry number owners mid (committed_by old) (committed_by new) b
+    safe-new = safe-alike geometry number owners mid (committed_by old) (committed_by new) b
         (safe-fewer geometry number owners (committed_by old) more mid b
         (log-after geometry number owners (committed_by old) more a b safe-end log-call)
         (end.geometry ∙ rest.safe.shape) logged.less stands)
-        (λ content is part.
-        ap (λ (records : List LogRecord). committed_by new records part) (logged.all content is)
-        ∙ committed-end geometry old new rest.laid log rest.logged unit kind current made none part
-        ∙ sym (ap (λ (records : List LogRecord). committed_by old records part)
-        (logged.all content is)))
-
-    laid-new : IsLaidState geometry new
-    laid-new = laid-ended geometry old new rest.laid log rest.logged unit kind current made
+        (λ content is. subst (AreAlikeIn geometry old new) (sym (logged.all content is))
+        (alike-same geometry old new rest.laid laid-new (made.contents 0) (ended log unit kind)
+        (λ part place. ap (λ (content : Content). item_at content place)
+        (committed-end geometry old new rest.laid log rest.logged unit kind current made none
+        part))))
 
     images-new : others ≡ images_of mid.records
     images-new = ap (filter (λ (image : BeforeImage). is_other unit image.unit)) rest.kept
@@ -218,8 +219,7 @@ module _ (geometry : Geometry) (number : ℕ) (owners : Owners) (log : LogNow)
     same-none gone = ap (by []) gone ∙ sym (ap (by mid.records) gone)
       where
         by : List LogRecord → List BeforeImage → ℕ → Content
-        by records befores part = put_back part (kept_by records befores)
-            (standing (new.contents part))
+        by records befores part = put_back part (kept_by records befores) (new.contents part)
 
     rests-begun : new.logged ≡ [] → log.generation + 1 < 2 ^ 64
         → IsVolumeAtRest geometry number owners (restarted mid) others new b

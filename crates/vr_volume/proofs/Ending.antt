@@ -33,7 +33,7 @@ use Rattle.vr_volume.specs.Committed.{kept_by, logged_of}
 use Rattle.vr_volume.specs.Ended.{ended}
 use Rattle.vr_volume.specs.Laid.{shape_by}
 use Rattle.vr_volume.specs.PutBack.{AreAlone, images_of, is_image_of, oldest, put_back}
-use Rattle.vr_volume.specs.PutBack.{standing, standing_of}
+use Rattle.vr_volume.specs.PutBack.{standing_of}
 use Rattle.vr_volume.specs.Steps.{IsEndedIn}
 use Rattle.vr_volume.proofs.Committing.{all-map, commit-append, none-ended}
 use Rattle.vr_volume.proofs.Images.{live-append}
@@ -433,11 +433,10 @@ module _ (geometry : Geometry) (old new : State) (laid : IsLaidState geometry ol
   pub committed-end : KeepsNoneIf kind old unit → (part : ℕ)
       → committed_by new (ended log unit kind) part ≡ committed_by old (ended log unit kind) part
   committed-end none part =
-      ap (λ (images : List BeforeImage). put_back part images (standing (new.contents part)))
+      ap (λ (images : List BeforeImage). put_back part images (new.contents part))
       (ap (kept_by (ended log unit kind)) made.befores
       ∙ same-kept old.befores (none-ended geometry old laid log logged) (own kind refl none))
-      ∙ ap (λ (content : Content). put_back part (kept_by (ended log unit kind) old.befores)
-      (standing content)) (made.contents part)
+      ∙ ap (put_back part (kept_by (ended log unit kind) old.befores)) (made.contents part)
     where
       own : (k : EndKind) → kind ≡ k → KeepsNoneIf k old unit
           → All (λ (image : BeforeImage). (same_unit unit image.unit ≡ false)

@@ -15,8 +15,8 @@ use Rattle.vr_history.proofs.Counting.{settled_everywhere}
 use Rattle.vr_log.specs.declared.record.LogRecord.{LogRecord}
 use Rattle.vr_undo.proofs.CallerLemmas.{stands-read}
 use Rattle.vr_volume.specs.Committed.{CountAlike, committed_by, has_commit, kept_by}
-use Rattle.vr_volume.specs.PutBack.{is_image_of, oldest, standing_of}
-use Rattle.vr_volume.proofs.PuttingBack.{back-record}
+use Rattle.vr_volume.specs.PutBack.{is_image_of, oldest, put_back, standing, standing_of}
+use Rattle.vr_volume.proofs.PuttingBack.{back-item, back-record}
 
 -- of the images that the log keeps, the oldest of a place is the first that a unit which doesn't
 -- count keeps there
@@ -46,31 +46,38 @@ same-found counts records part place (image ∷ befores) alike =
         ∙ sym (ap (λ (b : Bool). cond (b && is_image_of part place image) (Some image)
         (find (is_kept_of counts part place) befores)) same)
 
--- what was withdrawn is no record there either
+-- ---- the records of what is committed
+
+-- what was withdrawn is no record
 record-kept : (found : Option BeforeImage) (item : Option Item)
     → record_in (kept_or found (standing_of item)) ≡ record_in (kept_or found item)
 record-kept None item = stands-read item
 record-kept (Some image) item = refl
 
--- The records are the same where the places of the state's content ascend.
+-- So it is the same whether before-images are put back into a content or into its records.
+pub record-back : (part : ℕ) (images : List BeforeImage) (content : Content) (place : List ℕ)
+    → Ascends content
+    → record_in (item_at (put_back part images (standing content)) place)
+    ≡ record_in (item_at (put_back part images content) place)
+record-back part images content place ascends =
+    ap record_in (back-record part images content place ascends)
+    ∙ record-kept (oldest images part place) (item_at content place)
+    ∙ sym (ap record_in (back-item part images content place))
+
+-- The records are those that the history committed.
 pub committed-everywhere : (geometry : Geometry) (contents : ℕ → Content) (owned : List Owned)
     (entries : List Entry) (others : List UnitOfRecovery) (records : List LogRecord) (part : ℕ)
     → AreSteps geometry (opening_state contents owned) entries
     → HasPartThroughout geometry part (is_counted others entries) (opening_state contents owned)
     contents entries
     → CountAlike others entries records
-    (state_of geometry (opening_state contents owned) entries)
-    → Ascends ((state_of geometry (opening_state contents owned) entries).contents part)
-    → (place : List ℕ)
+    (state_of geometry (opening_state contents owned) entries) → (place : List ℕ)
     → record_now (committed_by (state_of geometry (opening_state contents owned) entries) records)
     part place
     ≡ record_now (committed geometry (opening_state contents owned) entries others) part place
-committed-everywhere geometry contents owned entries others records part steps has alike ascends
-    place =
+committed-everywhere geometry contents owned entries others records part steps has alike place =
     ap record_in
-    (back-record part (kept_by records state.befores) (state.contents part) place ascends)
-    ∙ record-kept (oldest (kept_by records state.befores) part place)
-    (item_at (state.contents part) place)
+    (back-item part (kept_by records state.befores) (state.contents part) place)
     ∙ ap (λ (found : Option BeforeImage).
     record_in (kept_or found (item_at (state.contents part) place)))
     (same-found (is_counted others entries) records part place state.befores alike)

@@ -17,7 +17,6 @@ use Rattle.vr_space.specs.Owners.{Owners}
 use Rattle.vr_log.specs.Content.{Content as LogContent}
 use Rattle.vr_log.specs.LogNow.{IsLogOf, LogNow}
 use Rattle.vr_log.specs.Standing.{LogStands}
-use Rattle.vr_log.specs.declared.record.LogRecord.{LogRecord}
 use Rattle.vr_history.specs.Committed.{kept_or}
 use Rattle.vr_history.specs.State.{BeforeImage, Logged, State}
 use Rattle.vr_space.specs.Part.{Shape, part_no}
@@ -31,9 +30,9 @@ use Rattle.vr_volume.specs.Steps.{Changing, IsChangeOf, IsKeptAgain, image_by}
 use Rattle.vr_volume.proofs.Alone.{alone-append, is-own, is-there}
 use Rattle.vr_volume.proofs.Committing.{item-now}
 use Rattle.vr_volume.proofs.Images.{oldest-append}
-use Rattle.vr_volume.proofs.Moving.{item-else, laid-stays}
+use Rattle.vr_volume.proofs.Moving.{catalog-stays, item-else, laid-stays}
 use Rattle.vr_volume.proofs.Rested.{all-records}
-use Rattle.vr_volume.proofs.Resting.{contents-same, safe-same}
+use Rattle.vr_volume.proofs.Resting.{AreAlikeIn, alike-same, safe-alike}
 
 some-none : {X : Type 0} {x : X} → Some x ≡ None → ⊥
 some-none same = cc
@@ -176,22 +175,21 @@ module _ (geometry : Geometry) (log : LogNow) (old new : State) (change : Changi
       item-now geometry new laid-kept-again log logged-kept-again part place
       ∙ ⊎_elim
       (λ there.
-      ap (λ (p : ℕ). kept_or (oldest new.befores p place)
-      (standing_of (item_at (new.contents p) place))) there.0
+      ap (λ (p : ℕ). kept_or (oldest new.befores p place) (item_at (new.contents p) place)) there.0
       ∙ ap (λ (q : List ℕ). kept_or (oldest new.befores change.part.0 q)
-      (standing_of (item_at (new.contents change.part.0) q))) there.1
+      (item_at (new.contents change.part.0) q)) there.1
       ∙ ap (λ (found : Option BeforeImage). kept_or found
-      (standing_of (item_at (new.contents change.part.0) change.place))) kept-here
-      ∙ sym (record-stands change.old) ∙ ap standing_of made.item
+      (item_at (new.contents change.part.0) change.place)) kept-here
+      ∙ made.item
       ∙ sym (item-now geometry old laid log logged change.part.0 change.place
       ∙ ap (λ (found : Option BeforeImage). kept_or found
-      (standing_of (item_at (old.contents change.part.0) change.place))) made.none)
+      (item_at (old.contents change.part.0) change.place)) made.none)
       ∙ sym (ap (λ (p : ℕ). item_at (committed_by old log.records p) place) there.0
       ∙ ap (item_at (committed_by old log.records change.part.0)) there.1))
       (λ apart.
-      ap (λ (found : Option BeforeImage). kept_or found
-      (standing_of (item_at (new.contents part) place))) (kept-else part place apart)
-      ∙ ap (λ (item : Option Item). kept_or (oldest old.befores part place) (standing_of item))
+      ap (λ (found : Option BeforeImage). kept_or found (item_at (new.contents part) place))
+      (kept-else part place apart)
+      ∙ ap (kept_or (oldest old.befores part place))
       (item-else geometry old new change laid of made.contents part place
       (apart-from part place apart))
       ∙ sym (item-now geometry old laid log logged part place))
@@ -203,13 +201,10 @@ module _ (geometry : Geometry) (log : LogNow) (old new : State) (change : Changi
       → IsSafe geometry number owners log (committed_by old) now
       → IsSafe geometry number owners log (committed_by new) now
   safe-kept-again number owners now all safe =
-      safe-same geometry number owners log (committed_by old) (committed_by new) now safe
-      (λ content is part.
-      ap (λ (records : List LogRecord). committed_by new records part) (all content is)
-      ∙ contents-same geometry old new log log laid logged laid-kept-again logged-kept-again
-      items-kept-again part
-      ∙ ap (λ (records : List LogRecord). committed_by old records part)
-      (sym (all content is)))
+      safe-alike geometry number owners log (committed_by old) (committed_by new) now safe
+      (λ content is. subst (AreAlikeIn geometry old new) (sym (all content is))
+      (alike-same geometry old new laid laid-kept-again
+      (catalog-stays geometry old new change laid of made.contents) log.records items-kept-again))
 
 module _ (geometry : Geometry) (number : ℕ) (owners : Owners) (log : LogNow)
     (images : List BeforeImage) (old : State) (a : Seen)

@@ -4,11 +4,12 @@ use Rattle.std.proofs.Common.{◌≡◌, inl, ℕ, Bool, true, false, cond, not,
 use Rattle.std.proofs.Common.{Option, Some, None, refl, sym, ap, subst, ◌∙◌, arith, length, filter}
 use Rattle.std.proofs.Common.{◌&&◌, ◌||◌, ◌==◌}
 use Rattle.std.specs.Prelude.{All, find}
+use Rattle.std.specs.List.{cons_option, filter_map}
 use Rattle.std.specs.Option.{option_map}
 use Rattle.std.proofs.lemmas.Bool.{true≢false}
 use Rattle.std.proofs.lemmas.Bool.Decides.{Decides-eqb}
 use Rattle.std.proofs.lemmas.List.{take_all}
-use Rattle.std.proofs.lemmas.List.Elements.{All-filter, All-head, All-tail}
+use Rattle.std.proofs.lemmas.List.Elements.{All-cons, All-filter, All-head, All-nil, All-tail}
 use Rattle.std.proofs.lemmas.Slice.Eq.{bytes_eq-Decides}
 use Rattle.vr_types.specs.Content.{Item, Standing, item_at}
 use Rattle.vr_types.specs.Locks.{same_unit}
@@ -18,11 +19,12 @@ use Rattle.vr_types.specs.declared.unit.PartNo.{PartNo}
 use Rattle.vr_types.specs.declared.unit.Unit.{Unit as UnitOfRecovery}
 use Rattle.vr_space.specs.Owners.{Owners}
 use Rattle.vr_space.specs.Part.{IsPlaceOf, MayHold, Shape}
+use Rattle.vr_log.specs.Live.{is_in, live_in}
 use Rattle.vr_log.specs.LogNow.{IsForced, LogNow, first_of}
 use Rattle.vr_log.specs.declared.record.EndKind.{EndKind}
 use Rattle.vr_log.specs.declared.record.EndKind.TheVariants.{Committed, BackedOut}
 use Rattle.vr_log.specs.declared.record.LogRecord.{LogRecord}
-use Rattle.vr_log.specs.declared.record.LogRecord.TheVariants.{End}
+use Rattle.vr_log.specs.declared.record.LogRecord.TheVariants.{Before, End}
 use Rattle.vr_history.specs.Committed.{kept_or}
 use Rattle.vr_history.specs.Effects.{is_other}
 use Rattle.vr_history.specs.State.{BeforeImage, State}
@@ -33,13 +35,15 @@ use Rattle.vr_volume.specs.Committed.{KeepsNoneIf, committed_by, has_commit, is_
 use Rattle.vr_volume.specs.Ended.{IsEndOf, ended}
 use Rattle.vr_volume.specs.Laid.{shape_by}
 use Rattle.vr_volume.specs.Logged.{IsFirstBefore}
-use Rattle.vr_volume.specs.PutBack.{AreAlone, images_of, is_image_of, oldest, standing_of}
+use Rattle.vr_volume.specs.PutBack.{AreAlone, image_in, images_of, is_image_of, oldest}
+use Rattle.vr_volume.specs.PutBack.{standing_of}
 use Rattle.vr_volume.specs.Safe.{IsSafe, IsSafeBy}
 use Rattle.vr_volume.specs.Volume.{CanPutBack, IsInside}
 use Rattle.vr_volume.proofs.Committing.{are-committed, commit-append, images-back, shape-same}
 use Rattle.vr_volume.proofs.Committing.{before-same, item-now, none-ended}
+use Rattle.vr_volume.proofs.Images.{image_of}
 use Rattle.vr_volume.proofs.Living.{left-images, live-or-none}
-use Rattle.vr_volume.proofs.PuttingBack.{back-record}
+use Rattle.vr_volume.proofs.PuttingBack.{back-item}
 
 -- ---- what is found among some of the images
 
@@ -177,6 +181,34 @@ found-has P test (first ∷ images) image all is =
         subst P it (All-head P first images all)
     by_test false same further = further same
 
+-- ---- the before-images of a log
+
+-- each is a record, or none
+records-in : (live : List UnitOfRecovery) (records : List LogRecord)
+    → All (λ (image : BeforeImage). standing_of image.old ≡ image.old)
+    (filter_map (image_in live) records)
+records-in live [] = All-nil (λ (image : BeforeImage). standing_of image.old ≡ image.old)
+records-in live (End unit kind ∷ records) = records-in live records
+records-in live (Before unit part place old ∷ records) =
+    by_live (is_in unit live) (records-in live records)
+  where
+    by_live : (there : Bool)
+        → All (λ (image : BeforeImage). standing_of image.old ≡ image.old)
+        (filter_map (image_in live) records)
+        → All (λ (image : BeforeImage). standing_of image.old ≡ image.old)
+        (cons_option (cond there (Some (image_of unit part place old)) None)
+        (filter_map (image_in live) records))
+    by_live true further = All-cons (λ (image : BeforeImage). standing_of image.old ≡ image.old)
+        (image_of unit part place old) (filter_map (image_in live) records) (record-stands old)
+        further
+    by_live false further = further
+
+pub image-record : (records : List LogRecord) (part : ℕ) (place : List ℕ) (image : BeforeImage)
+    → oldest (images_of records) part place ≡ Some image → standing_of image.old ≡ image.old
+image-record records part place image is = found-has
+    (λ (i : BeforeImage). standing_of i.old ≡ i.old) (is_image_of part place) (images_of records)
+    image (records-in (live_in records) records) is
+
 -- ---- a first before-image
 
 module _ (geometry : Geometry) (state : State) (laid : IsLaidState geometry state) (log : LogNow)
@@ -192,14 +224,13 @@ module _ (geometry : Geometry) (state : State) (laid : IsLaidState geometry stat
       by_found None is = refl
       by_found (Some image) is = absurd (some-none (sym (logged.kept part place image is) ∙ none))
 
-  -- the record that stands at such a place is committed
+  -- what is at such a place is committed
   pub item-there : (part : ℕ) (place : List ℕ)
       → oldest (images_of log.records) part place ≡ None
-      → item_at (committed_by state log.records part) place
-      ≡ standing_of (item_at (state.contents part) place)
+      → item_at (committed_by state log.records part) place ≡ item_at (state.contents part) place
   item-there part place none = item-now geometry state laid log logged part place
-      ∙ ap (λ (found : Option BeforeImage). kept_or found
-      (standing_of (item_at (state.contents part) place))) (none-kept part place none)
+      ∙ ap (λ (found : Option BeforeImage). kept_or found (item_at (state.contents part) place))
+      (none-kept part place none)
 
   pub first-before : (unit : UnitOfRecovery) (part : PartNo) (place : List ℕ)
       (old : Option (List ℕ)) (shape : Shape) → IsCurrent state.numbers unit
@@ -211,7 +242,7 @@ module _ (geometry : Geometry) (state : State) (laid : IsLaidState geometry stat
     forced = omega (arith, forced);
     live = live-or-none state.numbers unit current [] log.records logged.ended;
     first = none;
-    item = sym (record-stands old) ∙ ap standing_of item ∙ sym (item-there part.0 place none);
+    item = item ∙ sym (item-there part.0 place none);
     same = before-same state log.records unit part place old;
     shape = shape;
     laid = shape-same geometry state laid log.records part.0 ∙ is;
@@ -250,11 +281,10 @@ module _ (geometry : Geometry) (state : State) (laid : IsLaidState geometry stat
     -- what is committed with the end at a place that nobody keeps then
     item-ended : (part : ℕ) (place : List ℕ) → oldest kept-on part place ≡ None
         → item_at (committed_by state (ended log unit kind) part) place
-        ≡ standing_of (item_at (state.contents part) place)
-    item-ended part place none =
-        back-record part kept-on (state.contents part) place (laid.each part)
-        ∙ ap (λ (found : Option BeforeImage). kept_or found
-        (standing_of (item_at (state.contents part) place))) none
+        ≡ item_at (state.contents part) place
+    item-ended part place none = back-item part kept-on (state.contents part) place
+        ∙ ap (λ (found : Option BeforeImage). kept_or found (item_at (state.contents part) place))
+        none
 
     none-on : (part : ℕ) (place : List ℕ) → oldest state.befores part place ≡ None
         → oldest kept-on part place ≡ None
@@ -275,10 +305,10 @@ module _ (geometry : Geometry) (state : State) (laid : IsLaidState geometry stat
         (λ (i : BeforeImage). has_commit log.records i.unit ≡ false) (is_image_of part place)
         state.befores image (none-ended geometry state laid log logged) is
 
-    -- each before-image that the log has with the end is a committed item
+    -- each before-image that the log has with the end is a committed record
     olds-ended : (part : ℕ) (place : List ℕ) (image : BeforeImage)
         → oldest (images_of (ended log unit kind)) part place ≡ Some image
-        → image.old ≡ item_at (committed_by state (ended log unit kind) part) place
+        → image.old ≡ standing_of (item_at (committed_by state (ended log unit kind) part) place)
     olds-ended part place image is = by_kept (oldest state.befores part place) refl
       where
         among : oldest (filter keeps (images_of log.records)) part place ≡ Some image
@@ -296,9 +326,10 @@ module _ (geometry : Geometry) (state : State) (laid : IsLaidState geometry stat
             not-true false is = refl
 
         by_kept : (found : Option BeforeImage) → oldest state.befores part place ≡ found
-            → image.old ≡ item_at (committed_by state (ended log unit kind) part) place
+            → image.old
+            ≡ standing_of (item_at (committed_by state (ended log unit kind) part) place)
         by_kept None none = logged.back part place image all none
-            ∙ sym (item-ended part place (none-on part place none))
+            ∙ sym (ap standing_of (item-ended part place (none-on part place none)))
         by_kept (Some kept) there =
             let same : Some image ≡ Some kept = sym all ∙ logged.kept part place kept there in
             let one : image ≡ kept = cc in
@@ -308,10 +339,11 @@ module _ (geometry : Geometry) (state : State) (laid : IsLaidState geometry stat
             there (ap not (commit-ended kept.unit (no-commit part place kept there)
             ∙ ap (λ (i : BeforeImage). same_unit unit i.unit && is_committing kind) (sym one)
             ∙ ap (λ (b : Bool). b && is_committing kind) others)) in
-            ap (λ (i : BeforeImage). i.old) one
-            ∙ sym (back-record part kept-on (state.contents part) place (laid.each part)
+            sym (image-record log.records part place image all)
+            ∙ ap (λ (i : BeforeImage). standing_of i.old) one
+            ∙ sym (ap standing_of (back-item part kept-on (state.contents part) place
             ∙ ap (λ (found : Option BeforeImage). kept_or found
-            (standing_of (item_at (state.contents part) place))) stays)
+            (item_at (state.contents part) place)) stays))
 
     -- at a place of the unit nobody keeps anything then
     own-none : KeepsNoneIf kind state unit → (part : ℕ) (place : List ℕ) (image : BeforeImage)
@@ -402,7 +434,7 @@ module _ (geometry : Geometry) (state : State) (laid : IsLaidState geometry stat
               (found : Option Item) → MayHold shape now.may place found
               → oldest (images_of (ended log unit kind)) part place ≡ None
               → (image : Option BeforeImage) → oldest (images_of log.records) part place ≡ image
-              → standing_of found ≡ item_at (committed_by state (ended log unit kind) part) place
+              → found ≡ item_at (committed_by state (ended log unit kind) part) place
           at-place part shape is place found may gone None free =
               (by-all.parts part shape
               (shape-same geometry state laid log.records part ∙ is)).items place found may free
@@ -410,5 +442,5 @@ module _ (geometry : Geometry) (state : State) (laid : IsLaidState geometry stat
               ∙ sym (item-ended part place (none-on part place (none-kept part place free)))
           at-place part shape is place found may gone (Some image) there =
               let mine : same_unit unit image.unit ≡ true = gone-of part place image there gone in
-              ap standing_of (firm part place image shape found there mine is may)
+              firm part place image shape found there mine is may
               ∙ sym (item-ended part place (own-none none part place image there mine))

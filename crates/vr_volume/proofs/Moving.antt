@@ -10,7 +10,7 @@ use Rattle.std.proofs.lemmas.Bool.{true≢false}
 use Rattle.std.proofs.lemmas.Bool.Decides.{Decides-eqb}
 use Rattle.std.proofs.lemmas.List.{length-append, map-append}
 use Rattle.std.proofs.lemmas.List.Elements.{All-append, All-cons, All-nil}
-use Rattle.vr_types.specs.Content.{Content, Ascends, Item, item_at}
+use Rattle.vr_types.specs.Content.{Content, Ascends, item_at}
 use Rattle.vr_types.specs.Locks.{same_unit}
 use Rattle.vr_types.specs.LogSpace.{end_length}
 use Rattle.vr_types.specs.declared.geometry.Geometry.{Geometry}
@@ -27,7 +27,6 @@ use Rattle.vr_history.specs.Committed.{kept_or}
 use Rattle.vr_history.specs.State.{BeforeImage, Logged, State, is_live}
 use Rattle.vr_history.proofs.CallerLemmas.{unit_self}
 use Rattle.vr_history.proofs.Same.{unit_same}
-use Rattle.vr_undo.proofs.CallerLemmas.{record-stands}
 use Rattle.vr_volume.specs.CatalogRules.{IsCatalog}
 use Rattle.vr_volume.specs.Committed.{HasLogged, IsCurrent, IsKeptIn, IsLaidState, IsPast}
 use Rattle.vr_volume.specs.Committed.{committed_by, logged_of}
@@ -412,22 +411,21 @@ module _ (geometry : Geometry) (log more : LogNow) (old new : State) (change : C
       item-now geometry new laid-first-change more logged-first-change part place
       ∙ ⊎_elim
       (λ there.
-      ap (λ (p : ℕ). kept_or (oldest new.befores p place)
-      (standing_of (item_at (new.contents p) place))) there.0
+      ap (λ (p : ℕ). kept_or (oldest new.befores p place) (item_at (new.contents p) place)) there.0
       ∙ ap (λ (q : List ℕ). kept_or (oldest new.befores change.part.0 q)
-      (standing_of (item_at (new.contents change.part.0) q))) there.1
+      (item_at (new.contents change.part.0) q)) there.1
       ∙ ap (λ (found : Option BeforeImage). kept_or found
-      (standing_of (item_at (new.contents change.part.0) change.place))) kept-here
-      ∙ sym (record-stands change.old) ∙ ap standing_of made.item
+      (item_at (new.contents change.part.0) change.place)) kept-here
+      ∙ made.item
       ∙ sym (item-now geometry old laid log logged change.part.0 change.place
       ∙ ap (λ (found : Option BeforeImage). kept_or found
-      (standing_of (item_at (old.contents change.part.0) change.place))) free-kept)
+      (item_at (old.contents change.part.0) change.place)) free-kept)
       ∙ sym (ap (λ (p : ℕ). item_at (committed_by old log.records p) place) there.0
       ∙ ap (item_at (committed_by old log.records change.part.0)) there.1))
       (λ apart.
-      ap (λ (found : Option BeforeImage). kept_or found
-      (standing_of (item_at (new.contents part) place))) (kept-else part place apart)
-      ∙ ap (λ (item : Option Item). kept_or (oldest old.befores part place) (standing_of item))
+      ap (λ (found : Option BeforeImage). kept_or found (item_at (new.contents part) place))
+      (kept-else part place apart)
+      ∙ ap (kept_or (oldest old.befores part place))
       (item-else geometry old new change laid of made.contents part place
       (apart-from part place apart))
       ∙ sym (item-now geometry old laid log logged part place))

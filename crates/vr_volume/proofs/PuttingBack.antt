@@ -1,5 +1,5 @@
 -- What stands in a content once before-images were put back into it, or into its records.
-use Rattle.std.proofs.Common.{◌≡◌, ℕ, Bool, true, false, cond, List, [], ◌∷◌, Option, Some}
+use Rattle.std.proofs.Common.{◌≡◌, ℕ, Bool, true, false, cond, List, [], ◌∷◌, Option, Some, None}
 use Rattle.std.proofs.Common.{refl, sym, ap, ◌∙◌, bytes_eq, ◌==◌, ◌&&◌}
 use Rattle.std.proofs.lemmas.Bool.{true≢false}
 use Rattle.std.proofs.lemmas.Slice.Eq.{bytes_eq-Decides}
@@ -10,7 +10,7 @@ use Rattle.vr_space.proofs.CallerLemmas.{left-none}
 use Rattle.vr_history.specs.Committed.{kept_or}
 use Rattle.vr_history.specs.State.{BeforeImage}
 use Rattle.vr_altkey.specs.Placing.{placed_in}
-use Rattle.vr_altkey.proofs.CallerLemmas.{placed_here, placed_elsewhere, placed_ascends}
+use Rattle.vr_altkey.proofs.CallerLemmas.{placed_here, placed_elsewhere, placed_ascends, same_items}
 use Rattle.vr_undo.proofs.CallerLemmas.{stands-ascends, stands-item}
 use Rattle.vr_volume.specs.PutBack.{oldest, put_back, standing, standing_of}
 
@@ -74,6 +74,28 @@ pub back-record : (part : ℕ) (images : List BeforeImage) (content : Content) (
 back-record part images content place ascends =
     back-item part images (standing content) place
     ∙ ap (kept_or (oldest images part place)) (stands-item content place ascends)
+
+-- where what is put back is a record, or none, the records of what stands then are those of the
+-- content with the same put back
+pub stands-back : (part : ℕ) (images : List BeforeImage) (content : Content) → Ascends content
+    → ((place : List ℕ) (image : BeforeImage) → oldest images part place ≡ Some image
+    → standing_of image.old ≡ image.old)
+    → standing (put_back part images content) ≡ put_back part images (standing content)
+stands-back part images content ascends recorded =
+    same_items (standing (put_back part images content)) (put_back part images (standing content))
+    (stands-ascends (put_back part images content) (back-ascends part images content ascends))
+    (records-ascend part images content ascends)
+    (λ place. stands-item (put_back part images content) place
+    (back-ascends part images content ascends)
+    ∙ ap standing_of (back-item part images content place)
+    ∙ by_found place (oldest images part place) refl
+    ∙ sym (back-record part images content place ascends))
+  where
+    by_found : (place : List ℕ) (found : Option BeforeImage) → oldest images part place ≡ found
+        → standing_of (kept_or found (item_at content place))
+        ≡ kept_or found (standing_of (item_at content place))
+    by_found place None is = refl
+    by_found place (Some image) is = recorded place image is
 
 -- the record that a call leaves at a place is the one that it gives
 pub left-stands : (shape : Shape) (now : Option Item) (bytes : Option (List ℕ))

@@ -556,7 +556,7 @@ module _ (geometry : Geometry) (number : ℕ) (owners : Owners) (log : LogNow)
     (images : List BeforeImage) (state : State) (a : Seen)
     (rest : IsVolumeAtRest geometry number owners log images state a) where
   -- the images of each log that an image may have
-  images-rest : (content : LogContent) → IsLogOf log content → images ≡ images_of content.records
+  pub images-rest : (content : LogContent) → IsLogOf log content → images ≡ images_of content.records
   images-rest content (inl prefix) = rest.kept ∙ ap images_of (sym (⊎_elim (λ all. all)
       (λ none. of-none prefix none) (rest-records log rest.forced rest.stands.behind content
       (inl prefix))))

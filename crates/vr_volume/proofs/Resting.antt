@@ -1,14 +1,13 @@
--- A safe volume whose committed contents are told in another way, and what is committed as the
--- state goes on.
+-- A safe volume whose committed contents are told in another way that is alike, and what is
+-- committed as the state goes on.
 use Rattle.std.proofs.Common.{◌≡◌, ◌⊎◌, inl, inr, ⊎_elim, ◌≤◌, ℕ, List, [], ◌∷◌, ◌++◌}
-use Rattle.std.proofs.Common.{Some, refl, sym, ap, subst, ◌∙◌, arith, length}
+use Rattle.std.proofs.Common.{Some, None, refl, sym, ap, subst, ◌∙◌, arith, length}
 use Rattle.std.proofs.lemmas.List.{take_all}
 use Rattle.std.specs.Prelude.{All}
 use Rattle.vr_types.specs.Content.{Content, Ascends, item_at}
 use Rattle.vr_types.specs.Seen.{Seen}
 use Rattle.vr_types.specs.declared.geometry.Geometry.{Geometry}
 use Rattle.vr_space.specs.Owners.{Owners}
-use Rattle.vr_altkey.proofs.CallerLemmas.{same_items}
 use Rattle.vr_log.specs.Content.{Content as LogContent}
 use Rattle.vr_log.specs.LogNow.{IsBehind, IsForced, IsLogOf, IsPrefixOf, LogNow, first_of}
 use Rattle.vr_log.specs.declared.record.LogRecord.{LogRecord}
@@ -17,67 +16,81 @@ use Rattle.vr_history.specs.State.{State}
 use Rattle.vr_volume.specs.CatalogRules.{IsCatalog}
 use Rattle.vr_volume.specs.Committed.{HasLogged, IsLaidState, committed_by}
 use Rattle.vr_volume.specs.Laid.{shape_by}
-use Rattle.vr_volume.specs.PutBack.{images_of}
+use Rattle.vr_volume.specs.PutBack.{images_of, oldest, standing_of}
 use Rattle.vr_volume.specs.Safe.{AreCommitted, IsPartSafe, IsSafe, IsSafeBy}
 use Rattle.vr_volume.specs.Steps.{Changing, IsChangeOf, IsFirstChange, IsNextChange}
 use Rattle.vr_volume.specs.Steps.{IsPutBack}
 use Rattle.vr_volume.specs.Volume.{CanPutBack}
-use Rattle.vr_volume.proofs.Committing.{before-same, committed-ascends}
-use Rattle.vr_volume.proofs.Moving.{items-first-change, laid-first-change, logged-first-change}
+use Rattle.vr_volume.proofs.Committing.{before-same, catalog-same, committed-ascends, committed-none}
+use Rattle.vr_volume.proofs.Committing.{shape-same}
+use Rattle.vr_volume.proofs.Moving.{catalog-stays, items-first-change, laid-first-change}
 use Rattle.vr_volume.proofs.Undoing.{items-next-change, items-put-back, laid-next-change}
-use Rattle.vr_volume.proofs.Undoing.{laid-put-back, logged-next-change, logged-put-back}
+use Rattle.vr_volume.proofs.Undoing.{laid-put-back, records-put-back}
 
--- ---- contents that are the same, part by part
+-- ---- contents that are alike
+
+-- Contents that a log of these records commits are alike: they have the same catalog, and the same
+-- records; and off the places of the log's before-images they have the same items, withdrawn or not.
+-- A before-image that is put back leaves an added record withdrawn while the log has it, so what is
+-- committed at its place may be told as none, or as withdrawn.
+pub record AreAlike (geometry : Geometry) (records : List LogRecord) (one other : ℕ → Content)
+    : Type 0 where
+  pub each : (part : ℕ) → Ascends (other part)
+  pub catalog : other 0 ≡ one 0
+  pub others : (part : ℕ) → shape_by geometry (other 0) part ≡ None → other part ≡ []
+  pub stand : (part : ℕ) (place : List ℕ)
+      → standing_of (item_at (other part) place) ≡ standing_of (item_at (one part) place)
+  pub items : (part : ℕ) (place : List ℕ) → oldest (images_of records) part place ≡ None
+      → item_at (other part) place ≡ item_at (one part) place
 
 module _ (geometry : Geometry) (owners : Owners) (records : List LogRecord)
-    (one other : ℕ → Content) (same : (part : ℕ) → other part ≡ one part) where
+    (one other : ℕ → Content) (alike : AreAlike geometry records one other) where
   shapes-same : (part : ℕ) → shape_by geometry (other 0) part ≡ shape_by geometry (one 0) part
-  shapes-same part = ap (λ (catalog : Content). shape_by geometry catalog part) (same 0)
+  shapes-same part = ap (λ (catalog : Content). shape_by geometry catalog part) alike.catalog
 
-  committed-same : AreCommitted geometry records one → AreCommitted geometry records other
-  committed-same are = record {
-    each = λ part. subst Ascends (sym (same part)) (are.each part);
-    catalog = subst (IsCatalog geometry) (sym (same 0)) are.catalog;
+  committed-alike : AreCommitted geometry records one → AreCommitted geometry records other
+  committed-alike are = record {
+    each = alike.each;
+    catalog = subst (IsCatalog geometry) (sym alike.catalog) are.catalog;
     inside = λ part shape laid. are.inside part shape (sym (shapes-same part) ∙ laid);
-    others = λ part none. same part ∙ are.others part (sym (shapes-same part) ∙ none);
+    others = alike.others;
     images = subst (λ (catalog : Content). All (CanPutBack (shape_by geometry catalog))
-        (images_of records)) (sym (same 0)) are.images;
+        (images_of records)) (sym alike.catalog) are.images;
     alone = are.alone;
-    olds = λ part place image is. are.olds part place image is
-        ∙ sym (ap (λ (content : Content). item_at content place) (same part));
+    olds = λ part place image is. are.olds part place image is ∙ sym (alike.stand part place);
   }
 
-  pub by-same : (now : Seen) → IsSafeBy geometry owners records one now
+  pub by-alike : (now : Seen) → IsSafeBy geometry owners records one now
       → IsSafeBy geometry owners records other now
-  by-same now by = record {
-    committed = committed-same by.committed;
+  by-alike now by = record {
+    committed = committed-alike by.committed;
     parts = λ part shape laid.
         let mine : IsPartSafe shape owners part (images_of records) (one part) now =
         by.parts part shape (sym (shapes-same part) ∙ laid) in
         record {
           sound = mine.sound;
           items = λ place found held none. mine.items place found held none
-              ∙ sym (ap (λ (content : Content). item_at content place) (same part));
+              ∙ sym (alike.items part place none);
           room = mine.room;
         };
   }
 
--- It stays safe where each log that an image may have commits the same.
-pub safe-same : (geometry : Geometry) (number : ℕ) (owners : Owners) (log : LogNow)
+-- It stays safe where each log that an image may have commits what is alike.
+pub safe-alike : (geometry : Geometry) (number : ℕ) (owners : Owners) (log : LogNow)
     (one other : List LogRecord → ℕ → Content) (now : Seen)
     → IsSafe geometry number owners log one now
-    → ((content : LogContent) → IsLogOf log content → (part : ℕ)
-    → other content.records part ≡ one content.records part)
+    → ((content : LogContent) → IsLogOf log content
+    → AreAlike geometry content.records (one content.records) (other content.records))
     → IsSafe geometry number owners log other now
-safe-same geometry number owners log one other now safe same = record {
+safe-alike geometry number owners log one other now safe alike = record {
   allowed = safe.allowed;
   past = safe.past;
   blocks = safe.blocks;
   shape = safe.shape;
   header = safe.header;
   logs = safe.logs;
-  by_log = λ content is. by-same geometry owners content.records (one content.records)
-      (other content.records) (same content is) now (safe.by_log content is);
+  by_log = λ content is. by-alike geometry owners content.records (one content.records)
+      (other content.records) (alike content is) now (safe.by_log content is);
 }
 
 -- ---- the log of a volume at rest
@@ -104,19 +117,39 @@ rest-records log forced behind content is = ⊎_elim
     no-length [] none = refl
     no-length (rec ∷ records) none = absurd (omega (arith, none))
 
--- ---- what is committed by all records stays
+-- ---- what is committed as the state goes on
+
+-- by a log of these records it is alike in two states
+abbrev pub AreAlikeIn : Geometry → State → State → List LogRecord → Type 0
+AreAlikeIn geometry old new records =
+    AreAlike geometry records (committed_by old records) (committed_by new records)
 
 module _ (geometry : Geometry) (old new : State) where
-  -- contents that have the same items are the same
-  pub contents-same : (log more : LogNow) → IsLaidState geometry old → HasLogged log old
-      → IsLaidState geometry new → HasLogged more new
-      → ((part : ℕ) (place : List ℕ) → item_at (committed_by new more.records part) place
-      ≡ item_at (committed_by old log.records part) place)
-      → (part : ℕ) → committed_by new more.records part ≡ committed_by old log.records part
-  contents-same log more laid logged laid' logged' items part =
-      same_items (committed_by new more.records part) (committed_by old log.records part)
-      (committed-ascends geometry new laid' more.records part)
-      (committed-ascends geometry old laid log.records part) (items part)
+  module _ (laid : IsLaidState geometry old) (later : IsLaidState geometry new)
+      (catalog : new.contents 0 ≡ old.contents 0) (records : List LogRecord) where
+    alike-in : ((part : ℕ) (place : List ℕ)
+        → standing_of (item_at (committed_by new records part) place)
+        ≡ standing_of (item_at (committed_by old records part) place))
+        → ((part : ℕ) (place : List ℕ) → oldest (images_of records) part place ≡ None
+        → item_at (committed_by new records part) place
+        ≡ item_at (committed_by old records part) place)
+        → AreAlikeIn geometry old new records
+    alike-in stand items = record {
+      each = committed-ascends geometry new later records;
+      catalog = catalog-same geometry new later records ∙ catalog
+          ∙ sym (catalog-same geometry old laid records);
+      others = λ part none. committed-none geometry new later records part
+          (sym (shape-same geometry new later records part) ∙ none);
+      stand = stand;
+      items = items;
+    }
+
+    -- where each item is the same
+    pub alike-same : ((part : ℕ) (place : List ℕ)
+        → item_at (committed_by new records part) place
+        ≡ item_at (committed_by old records part) place) → AreAlikeIn geometry old new records
+    alike-same same = alike-in (λ part place. ap standing_of (same part place))
+        (λ part place none. same part place)
 
   module _ (log : LogNow) (change : Changing) (laid : IsLaidState geometry old)
       (logged : HasLogged log old) (of : IsChangeOf geometry old change) where
@@ -129,17 +162,17 @@ module _ (geometry : Geometry) (old new : State) where
         → IsSafe geometry number owners more (committed_by old) now
         → IsSafe geometry number owners more (committed_by new) now
     safe-first-change number owners more now made grown all safe =
-        safe-same geometry number owners more (committed_by old) (committed_by new) now safe
-        (λ content is part.
-        ap (λ (records : List LogRecord). committed_by new records part) (all content is)
-        ∙ contents-same log more laid logged
+        safe-alike geometry number owners more (committed_by old) (committed_by new) now safe
+        (λ content is. subst (AreAlikeIn geometry old new) (sym (all content is))
+        (alike-same laid
         (laid-first-change geometry log more old new change laid logged of made grown)
-        (logged-first-change geometry log more old new change laid logged of made grown)
-        (items-first-change geometry log more old new change laid logged of made grown) part
-        ∙ ap (λ (f : ℕ → Content). f part)
+        (catalog-stays geometry old new change laid of made.contents) more.records
+        (λ part place.
+        items-first-change geometry log more old new change laid logged of made grown part place
+        ∙ ap (λ (contents : ℕ → Content). item_at (contents part) place)
         (sym (before-same old log.records change.unit change.part change.place change.old))
-        ∙ ap (λ (records : List LogRecord). committed_by old records part)
-        (sym grown ∙ sym (all content is)))
+        ∙ ap (λ (records : List LogRecord). item_at (committed_by old records part) place)
+        (sym grown))))
 
     -- a further one is made,
     pub safe-next-change : (number : ℕ) (owners : Owners) (now : Seen) → IsNextChange change old new
@@ -147,15 +180,11 @@ module _ (geometry : Geometry) (old new : State) where
         → IsSafe geometry number owners log (committed_by old) now
         → IsSafe geometry number owners log (committed_by new) now
     safe-next-change number owners now made all safe =
-        safe-same geometry number owners log (committed_by old) (committed_by new) now safe
-        (λ content is part.
-        ap (λ (records : List LogRecord). committed_by new records part) (all content is)
-        ∙ contents-same log log laid logged
-        (laid-next-change geometry log old new change laid logged of made)
-        (logged-next-change geometry log old new change laid logged of made)
-        (items-next-change geometry log old new change laid logged of made) part
-        ∙ ap (λ (records : List LogRecord). committed_by old records part)
-        (sym (all content is)))
+        safe-alike geometry number owners log (committed_by old) (committed_by new) now safe
+        (λ content is. subst (AreAlikeIn geometry old new) (sym (all content is))
+        (alike-same laid (laid-next-change geometry log old new change laid logged of made)
+        (catalog-stays geometry old new change laid of made.contents) log.records
+        (items-next-change geometry log old new change laid logged of made)))
 
     -- or a before-image is put back, the volume is safe by the new state.
     pub safe-put-back : (number : ℕ) (owners : Owners) (now : Seen) → IsPutBack change old new
@@ -163,12 +192,9 @@ module _ (geometry : Geometry) (old new : State) where
         → IsSafe geometry number owners log (committed_by old) now
         → IsSafe geometry number owners log (committed_by new) now
     safe-put-back number owners now made all safe =
-        safe-same geometry number owners log (committed_by old) (committed_by new) now safe
-        (λ content is part.
-        ap (λ (records : List LogRecord). committed_by new records part) (all content is)
-        ∙ contents-same log log laid logged
-        (laid-put-back geometry log old new change laid logged of made)
-        (logged-put-back geometry log old new change laid logged of made)
-        (items-put-back geometry log old new change laid logged of made) part
-        ∙ ap (λ (records : List LogRecord). committed_by old records part)
-        (sym (all content is)))
+        safe-alike geometry number owners log (committed_by old) (committed_by new) now safe
+        (λ content is. subst (AreAlikeIn geometry old new) (sym (all content is))
+        (alike-in laid (laid-put-back geometry log old new change laid logged of made)
+        (catalog-stays geometry old new change laid of made.contents) log.records
+        (records-put-back geometry log old new change laid logged of made)
+        (items-put-back geometry log old new change laid logged of made)))

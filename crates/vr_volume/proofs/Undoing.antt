@@ -7,7 +7,7 @@ use Rattle.std.specs.Prelude.{All}
 use Rattle.std.specs.List.{list_any}
 use Rattle.std.proofs.lemmas.Bool.{true≢false}
 use Rattle.std.proofs.lemmas.List.Elements.{All-cons, All-head, All-tail}
-use Rattle.vr_types.specs.Content.{Item, item_at}
+use Rattle.vr_types.specs.Content.{item_at}
 use Rattle.vr_types.specs.Locks.{same_unit}
 use Rattle.vr_types.specs.declared.geometry.Geometry.{Geometry}
 use Rattle.vr_types.specs.declared.unit.Unit.{Unit as UnitOfRecovery}
@@ -15,6 +15,7 @@ use Rattle.vr_log.specs.LogNow.{LogNow}
 use Rattle.vr_history.specs.Committed.{kept_or}
 use Rattle.vr_history.specs.Effects.{keeps_other, last_of, without_last}
 use Rattle.vr_history.specs.State.{BeforeImage, Logged, State}
+use Rattle.vr_undo.proofs.CallerLemmas.{stands-once}
 use Rattle.vr_volume.specs.Committed.{HasLogged, IsCurrent, IsKeptIn, IsLaidState, IsPast}
 use Rattle.vr_volume.specs.Committed.{committed_by}
 use Rattle.vr_volume.specs.PutBack.{AreAlone, images_of, is_image_of, oldest, standing_of}
@@ -304,25 +305,24 @@ module _ (geometry : Geometry) (log : LogNow) (old new : State) (change : Changi
     items-next-change part place =
         item-now geometry new laid-next-change log logged-next-change part place
         ∙ by-place
-        (λ p q. kept_or (oldest new.befores p q) (standing_of (item_at (new.contents p) q)))
-        (λ p q. kept_or (oldest old.befores p q) (standing_of (item_at (old.contents p) q)))
+        (λ p q. kept_or (oldest new.befores p q) (item_at (new.contents p) q))
+        (λ p q. kept_or (oldest old.befores p q) (item_at (old.contents p) q))
         (ap (λ (found : Option BeforeImage). kept_or found
-        (standing_of (item_at (new.contents change.part.0) change.place)))
+        (item_at (new.contents change.part.0) change.place))
         (kept-same change.part.0 change.place)
         ∙ by_found (oldest old.befores change.part.0 change.place) refl)
         (λ p q apart.
-        ap (λ (found : Option BeforeImage).
-        kept_or found (standing_of (item_at (new.contents p) q)))
+        ap (λ (found : Option BeforeImage). kept_or found (item_at (new.contents p) q))
         (kept-same p q)
-        ∙ ap (λ (item : Option Item). kept_or (oldest old.befores p q) (standing_of item))
+        ∙ ap (kept_or (oldest old.befores p q))
         (item-else geometry old new change laid of made.contents p q (apart-from p q apart)))
         part place
         ∙ sym (item-now geometry old laid log logged part place)
       where
         by_found : (found : Option BeforeImage)
             → oldest old.befores change.part.0 change.place ≡ found
-            → kept_or found (standing_of (item_at (new.contents change.part.0) change.place))
-            ≡ kept_or found (standing_of (item_at (old.contents change.part.0) change.place))
+            → kept_or found (item_at (new.contents change.part.0) change.place)
+            ≡ kept_or found (item_at (old.contents change.part.0) change.place)
         by_found None is = absurd (made.kept is)
         by_found (Some kept) is = refl
 
@@ -393,24 +393,45 @@ module _ (geometry : Geometry) (log : LogNow) (old new : State) (change : Changi
         (subst (All (IsKeptIn geometry old)) (sym made.befores)
         (all-without change.unit (IsKeptIn geometry old) old.befores laid.kept))
 
+    -- elsewhere each place has what it had,
+    else-put-back : (part : ℕ) (place : List ℕ) → is_image_of part place image ≡ false
+        → kept_or (oldest new.befores part place) (item_at (new.contents part) place)
+        ≡ kept_or (oldest old.befores part place) (item_at (old.contents part) place)
+    else-put-back part place apart =
+        ap (λ (found : Option BeforeImage). kept_or found (item_at (new.contents part) place))
+        (same-else part place apart)
+        ∙ ap (kept_or (oldest old.befores part place))
+        (item-else geometry old new change laid of made.contents part place
+        (apart-from part place apart))
+
+    -- and there the record that it had: an item that was withdrawn is none.
+    pub records-put-back : (part : ℕ) (place : List ℕ)
+        → standing_of (item_at (committed_by new log.records part) place)
+        ≡ standing_of (item_at (committed_by old log.records part) place)
+    records-put-back part place =
+        ap standing_of (item-now geometry new laid-put-back log logged-put-back part place)
+        ∙ by-place
+        (λ p q. standing_of (kept_or (oldest new.befores p q) (item_at (new.contents p) q)))
+        (λ p q. standing_of (kept_or (oldest old.befores p q) (item_at (old.contents p) q)))
+        (ap (λ (found : Option BeforeImage). standing_of (kept_or found
+        (item_at (new.contents change.part.0) change.place))) none-here
+        ∙ ap standing_of item-back ∙ sym (stands-once change.new)
+        ∙ sym (ap (λ (found : Option BeforeImage). standing_of (kept_or found
+        (item_at (old.contents change.part.0) change.place))) was-here))
+        (λ p q apart. ap standing_of (else-put-back p q apart))
+        part place
+        ∙ sym (ap standing_of (item-now geometry old laid log logged part place))
+
+    -- So a place of which the log has no before-image has the item that it had.
     pub items-put-back : (part : ℕ) (place : List ℕ)
+        → oldest (images_of log.records) part place ≡ None
         → item_at (committed_by new log.records part) place
         ≡ item_at (committed_by old log.records part) place
-    items-put-back part place =
+    items-put-back part place none =
         item-now geometry new laid-put-back log logged-put-back part place
-        ∙ by-place
-        (λ p q. kept_or (oldest new.befores p q) (standing_of (item_at (new.contents p) q)))
-        (λ p q. kept_or (oldest old.befores p q) (standing_of (item_at (old.contents p) q)))
-        (ap (λ (found : Option BeforeImage). kept_or found
-        (standing_of (item_at (new.contents change.part.0) change.place))) none-here
-        ∙ ap standing_of item-back
-        ∙ sym (ap (λ (found : Option BeforeImage). kept_or found
-        (standing_of (item_at (old.contents change.part.0) change.place))) was-here))
-        (λ p q apart.
-        ap (λ (found : Option BeforeImage).
-        kept_or found (standing_of (item_at (new.contents p) q)))
-        (same-else p q apart)
-        ∙ ap (λ (item : Option Item). kept_or (oldest old.befores p q) (standing_of item))
-        (item-else geometry old new change laid of made.contents p q (apart-from p q apart)))
-        part place
+        ∙ ⊎_elim
+        (λ there. absurd (some-none (sym log-here
+        ∙ ap (λ (p : ℕ). oldest (images_of log.records) p change.place) (sym there.0)
+        ∙ ap (oldest (images_of log.records) part) (sym there.1) ∙ none)))
+        (else-put-back part place) (here-or part place)
         ∙ sym (item-now geometry old laid log logged part place)
