@@ -8,7 +8,7 @@ use Rattle.std.specs.declared.cmp.Ordering.{Ordering}
 use Rattle.std.specs.declared.cmp.Ordering.TheVariants.{Less, Equal, Greater}
 use Rattle.std.proofs.lemmas.Bool.{false≢true}
 use Rattle.std.proofs.lemmas.List.{append-nil, map-append}
-use Rattle.vr_types.specs.Content.{Content, Item, Placed, found_by, item_at, place_cmp, places_of}
+use Rattle.vr_types.specs.Content.{Ascends, Content, Item, Placed, found_by, item_at, place_cmp, places_of}
 use Rattle.vr_types.specs.Content.{with_item, without_item}
 use Rattle.vr_types.specs.Geometry.{IsAllowed, area_count}
 use Rattle.vr_types.specs.declared.geometry.Geometry.{Geometry}
@@ -20,7 +20,8 @@ use Rattle.vr_history.specs.State.{BeforeImage, State}
 use Rattle.vr_history.proofs.AddressNumbers.{number_back}
 use Rattle.vr_history.proofs.Laying.{AreLaid, LiesPast, laid_all, lies_past, follow_append, none_laid}
 use Rattle.vr_history.proofs.Outlines.{addressed_outline, length_at, outline, outline_addressed}
-use Rattle.vr_history.proofs.Outlines.{outline_lengths, outline_places, outline_put, out_none}
+use Rattle.vr_history.proofs.Outlines.{one_outline, outline_lengths, outline_places, outline_put}
+use Rattle.vr_history.proofs.Outlines.{out_none}
 use Rattle.vr_history.proofs.Outlines.{put_last}
 use Rattle.vr_history.proofs.Same.{nat_same}
 
@@ -48,6 +49,15 @@ stays_moves geometry content new addressed same = record {
   lengths = λ place n is. sym (outline_lengths new place)
       ∙ (ap (λ (c : Content). length_at c place) same ∙ (outline_lengths content place ∙ is));
 }
+
+-- items of the same lengths at the same places are in order too
+pub lengths_addressed : (geometry : Geometry) (content new : Content)
+    → Ascends content → Ascends new
+    → ((place : List ℕ) → length_at new place ≡ length_at content place)
+    → AreAddressed geometry content → AreAddressed geometry new
+lengths_addressed geometry content new ascends ascends' same addressed =
+    (stays_moves geometry content new addressed
+    (one_outline new content ascends' ascends same)).addressed
 
 pub same_moves : (geometry : Geometry) (content : Content) → AreAddressed geometry content
     → Moves geometry content content []

@@ -49,19 +49,18 @@ volume_fits geometry allowed =
         (area + 1) in
         omega (arith, nat.mul-add (blocks / (area + 1)) area 1)
 
--- what is taken of an interval, with one item more at the end
-taken_append : (size interval : ℕ) (content : Content) (placed : Placed)
+-- what the items of an interval amount to, with one more at the end
+pub begun_append : (amount : Placed → ℕ) (size interval : ℕ) (content : Content) (placed : Placed)
     → begins_in size interval placed ≡ true
-    → lengths_taken size interval (content ++ placed ∷ []) ≡ lengths_taken size interval content
-    + length_of placed.1
-taken_append size interval content placed begins =
-    let long : Placed → ℕ = λ (item : Placed). length_of item.1 in
+    → sum (map amount (filter (begins_in size interval) (content ++ placed ∷ [])))
+    ≡ sum (map amount (filter (begins_in size interval) content)) + amount placed
+begun_append amount size interval content placed begins =
     let here : Placed → Bool = begins_in size interval in
-    sum-map long (filter here (content ++ placed ∷ []))
-    ∙ (ap (sum_by long) (filter-append here content (placed ∷ [])
+    sum-map amount (filter here (content ++ placed ∷ []))
+    ∙ (ap (sum_by amount) (filter-append here content (placed ∷ [])
     ∙ ap (λ (test : Bool). filter here content ++ cond test (placed ∷ []) []) begins)
-    ∙ (sum_by_push long (filter here content) placed
-    ∙ ap (λ n. n + long placed) (sym (sum-map long (filter here content)))))
+    ∙ (sum_by_push amount (filter here content) placed
+    ∙ ap (λ n. n + amount placed) (sym (sum-map amount (filter here content)))))
 
 -- the items alone take less than they do with their control information
 lengths_within : (items : Content)
@@ -78,7 +77,7 @@ lengths_within (placed ∷ items) =
       sum_by-cons (λ (n : ℕ). n) (length_of placed.1 + 3) longer,
     )
 
-last_append : (content : Content) (placed : Placed)
+pub last_append : (content : Content) (placed : Placed)
     → last_item (content ++ placed ∷ []) ≡ Some placed
 last_append [] placed = refl
 last_append (first ∷ []) placed = refl
@@ -383,7 +382,7 @@ laid_next geometry content placed allowed laid follows =
         eq-eqb (number_of placed.0 / size) (n / size) (ap (λ m. m / size) number) in
         let taken : lengths_taken size (n / size) (content ++ placed ∷ []) ≡ lengths_taken size
         (n / size) content + length_of placed.1 =
-        taken_append size (n / size) content placed begins in
+        begun_append (λ (item : Placed). length_of item.1) size (n / size) content placed begins in
         let within : n < n / size * size + lengths_taken size (n / size) (content ++ placed ∷ []) =
         omega (arith, here.past.packed, taken) in
         let itself : IsBelow n placed.0 = λ beyond less fits. ap

@@ -5,6 +5,7 @@ use Rattle.std.proofs.Common.{map, filter, sum, bytes_eq, Some, None, refl, sym,
 use Rattle.std.specs.Prelude.{Option, nat_le, option_map}
 use Rattle.std.specs.Int.{w32, to_be_bytes}
 use Rattle.std.specs.List.{AllByRecursion}
+use Rattle.std.specs.List.Sorted.{IsStrictlySortedBy}
 use Rattle.std.specs.Ordering.{ordering_reverse}
 use Rattle.std.specs.declared.cmp.Ordering.{Ordering}
 use Rattle.std.specs.declared.cmp.Ordering.TheVariants.{Less, Equal, Greater}
@@ -19,6 +20,7 @@ use Rattle.vr_history.specs.Address.{begins_in, is_spanned, last_interval, last_
 use Rattle.vr_history.specs.Address.{lengths_taken, next_address, next_after, number_of, room_taken}
 use Rattle.vr_history.specs.Addresses.{AllFollow, BeginsLater, IsLater}
 use Rattle.vr_altkey.proofs.CallerLemmas.{all_below, equal_places, item_first, none_below}
+use Rattle.vr_altkey.proofs.CallerLemmas.{same_items}
 
 -- each item with its length alone
 abbrev pub outlined : Placed → Placed
@@ -48,6 +50,35 @@ outline_lengths (placed ∷ content) place =
     by_order Less further = further
     by_order Equal further = refl
     by_order Greater further = further
+
+pub outline_ascends : (content : Content) → Ascends content → Ascends (outline content)
+outline_ascends content ascends =
+    subst (IsStrictlySortedBy place_cmp) (sym (outline_places content)) ascends
+
+outline_item : (content : Content) (place : List ℕ)
+    → item_at (outline content) place ≡ option_map Withdrawn (length_at content place)
+outline_item [] place = refl
+outline_item (placed ∷ content) place =
+    by_order (place_cmp place placed.0) (outline_item content place)
+  where
+    by_order : (order : Ordering)
+        → item_at (outline content) place ≡ option_map Withdrawn (length_at content place)
+        → found_by order (Some (Withdrawn (length_of placed.1))) (item_at (outline content) place) ≡
+        option_map Withdrawn
+        (option_map length_of (found_by order (Some placed.1) (item_at content place)))
+    by_order Less further = further
+    by_order Equal further = refl
+    by_order Greater further = further
+
+-- contents that ascend with items of the same lengths at each place have one outline
+pub one_outline : (content other : Content) → Ascends content → Ascends other
+    → ((place : List ℕ) → length_at content place ≡ length_at other place)
+    → outline content ≡ outline other
+one_outline content other ascends ascends' same =
+    same_items (outline content) (outline other) (outline_ascends content ascends)
+    (outline_ascends other ascends')
+    (λ place. outline_item content place
+    ∙ (ap (option_map Withdrawn) (same place) ∙ sym (outline_item other place)))
 
 -- the next address is that of the outline
 last_outlined : (content : Content) → last_item (outline content) ≡ option_map outlined

@@ -1,8 +1,8 @@
 -- What holds of the addresses of an entry-sequenced data set over a history (DFSMS Using Data Sets,
 -- relative byte addresses): a record keeps its address, also once it is withdrawn. That no address
 -- is given again is this project's own rule.
-use Rattle.std.specs.Prelude.{◌≡◌, ◌⊎◌, ◌<◌, ◌*◌, ℕ, List, [], ◌∷◌, ◌++◌, Option, Some, None, ◌==◌, All}
-use Rattle.std.specs.Prelude.{map, flat_map, nat_eq, option_map, option_to_list, if◌then◌else◌}
+use Rattle.std.specs.Prelude.{◌≡◌, ◌⊎◌, ◌<◌, ◌*◌, ℕ, List, [], ◌∷◌, ◌++◌, Option, Some, None, ◌==◌}
+use Rattle.std.specs.Prelude.{All, map, flat_map, nat_eq, option_map, option_to_list, if◌then◌else◌}
 use Rattle.std.specs.Int.{w32, to_be_bytes}
 use Rattle.std.specs.List.{IsDistinct}
 use Rattle.vr_catalog.specs.Catalog.{definition_of}
