@@ -1,2 +1,8 @@
 -- What the crates above cite: which shapes a catalog lays, and the number of each.
 pub use Rattle.vr_recover.proofs.Shapes.{laid-cases, shape-number}
+
+-- Of what a volume recovers to, contents that the blocks have, with what was withdrawn, once the
+-- before-images are put back: their records are what it recovers to.
+pub use Rattle.vr_recover.proofs.Wholes.{recovers-whole, whole, whole-records}
+-- what stays withdrawn in an image that keeps contents
+pub use Rattle.vr_recover.proofs.Wholes.{keeps-withdrawn}
