@@ -46,3 +46,4 @@ pub mod ActedLater
 pub mod Opened
 pub mod Acted
 pub mod CallerLemmas
+pub mod OpenedAreas

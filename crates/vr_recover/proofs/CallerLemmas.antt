@@ -1,4 +1,5 @@
--- What the crates above cite: which shapes a catalog lays, and the number of each.
+-- What the crates above cite: which shapes a catalog lays, and the number of each; and what a volume
+-- recovers to.
 pub use Rattle.vr_recover.proofs.Shapes.{laid-cases, shape-number}
 
 -- Of what a volume recovers to, contents that the blocks have, with what was withdrawn, once the
@@ -6,3 +7,5 @@ pub use Rattle.vr_recover.proofs.Shapes.{laid-cases, shape-number}
 pub use Rattle.vr_recover.proofs.Wholes.{recovers-whole, whole, whole-records}
 -- what stays withdrawn in an image that keeps contents
 pub use Rattle.vr_recover.proofs.Wholes.{keeps-withdrawn}
+-- and the order of addresses in those of an entry-sequenced part
+pub use Rattle.vr_recover.proofs.Addressed.{entry-addressed, recovered-addressed}
