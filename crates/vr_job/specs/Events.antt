@@ -48,7 +48,7 @@ LeavesAtRest seen geometry number opening now entries =
     (state_of geometry opening entries).stopped ≡ None → (image : Image) → Left (seen now) image
     → RecoversTo geometry number (state_of geometry opening entries) [] image
 
--- A request is refused since a write failed, and the fault stops the volume.
+-- A request is refused since a write failed, and the fault, of its unit and line, stops the volume.
 pub record IsStop (made : List Entry) : Type 0 where
   pub request : Request
   pub failing : Entry
@@ -56,6 +56,8 @@ pub record IsStop (made : List Entry) : Type 0 where
   pub made_are : made ≡ failing ∷ fault ∷ []
   pub failing_is : failing.what ≡ Asked request (Refused WriteFault)
   pub fault_is : fault.what ≡ Faulted Write
+  pub unit_is : fault.unit ≡ failing.unit
+  pub line_is : fault.line ≡ failing.line
 
 -- The volume stopped in an event of its history, and what a crash may leave of it is left while that
 -- event goes on: an image recovers to what is committed by the history before it, perhaps with the unit
