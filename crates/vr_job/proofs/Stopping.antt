@@ -54,7 +54,7 @@ commit-going geometry state unit is = ⊎_elim
     not-refused refusal same = cc
 
 -- a step in the midst of others
-step-at : (geometry : Geometry) (state : State) (before : List Entry) (entry : Entry)
+pub step-at : (geometry : Geometry) (state : State) (before : List Entry) (entry : Entry)
     (rest : List Entry) → AreSteps geometry state (before ++ entry ∷ rest)
     → Step geometry (state_of geometry state before) entry
 step-at geometry state [] entry rest steps = steps.0

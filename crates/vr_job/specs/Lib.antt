@@ -1,5 +1,6 @@
 pub mod Crash
 pub mod Events
+pub mod Lacking
 pub mod Committed
 pub mod Faultless
 pub mod ReadFaults
