@@ -37,8 +37,8 @@ use Rattle.vr_worker.proofs.CallerLemmas.{stamped-above}
 use Rattle.vr_worker.specs.Asked.{bound_to}
 use Rattle.vr_job.specs.Committed.{KeepTheCatalog}
 use Rattle.vr_job.specs.Crash.{HaveDoneCommit, IsCommit, IsDoneCommit, IsLeftBy}
-use Rattle.vr_job.specs.Events.{FaultsFollow, HasStopped, IsLeftWhile, IsOfEvents, LeavesAtRest}
-use Rattle.vr_job.specs.Events.{requests_in}
+use Rattle.vr_job.specs.Events.{FaultsFollow, HasStopped, IsLeftWhile, IsOfEvents, KeepsAtRest}
+use Rattle.vr_job.specs.Events.{LeavesAtRest, requests_in}
 use Rattle.vr_job.specs.Faultless.{AreFaultless}
 use Rattle.vr_job.specs.Going.{GoesOn, HasRun, went-then}
 use Rattle.vr_job.specs.Serving.{IsServing, StaysServing}
@@ -46,6 +46,7 @@ use Rattle.vr_job.proofs.Crashing.{held-left, left-more}
 use Rattle.vr_job.proofs.Entering.{step-none}
 use Rattle.vr_job.proofs.Faultless.{NoFault, acted-faultless}
 use Rattle.vr_job.proofs.Keeping.{event-keeps}
+use Rattle.vr_job.proofs.Kept.{AreSized, held-kept}
 use Rattle.vr_job.proofs.Lacking.{SaysWhatLacks, event-lacking}
 use Rattle.vr_job.proofs.ReadFaults.{acted-reads}
 use Rattle.vr_job.proofs.Stopping.{commit-first, commit-went, faults-follow, going-on, stop-of}
@@ -231,6 +232,7 @@ module _ {B : Type 0} (seen : B → Seen) (faults : B → Faults) (old new : Vol
         (IsLeftIn old.store.log.geometry old.number (state_now opening old.file) after unit line
         request old.file new.file))
         (stays : old.file.stopped ≢ None → new.blocks ≡ old.blocks)
+        (sized : AreSized (seen new.blocks))
         (lacks : SaysWhatLacks seen opening old new after unit line request) where
       abbrev Left-by : Image → Type 0
       Left-by = IsLeftBy old.file.geometry old.number opening new.file.entries
@@ -305,6 +307,11 @@ module _ {B : Type 0} (seen : B → Seen) (faults : B → Faults) (old new : Vol
             once = made-once act unit line request made-in.made made-in.by;
             during = by_while old.file.stopped refl;
             after = rests;
+            items = subst (λ (n : ℕ). KeepsAtRest seen old.file.geometry n opening new.blocks
+                new.file.entries) number
+                (subst (λ (g : Geometry). KeepsAtRest seen g new.number opening new.blocks
+                new.file.entries) made-in.geometry
+                (held-kept seen opening new whole-new held sized));
             faults = follow;
             lasting = λ done. rests (sym held-stopped ∙ goes-on held done);
             refused_read = acted-reads old.file new.file made-in.made made-in.entries

@@ -11,6 +11,7 @@ pub mod Effects
 pub mod Ascending
 pub mod Committed
 pub mod Keeping
+pub mod Kept
 pub mod Lacking
 pub mod RunCommitted
 pub mod Stamps

@@ -23,6 +23,7 @@ use Rattle.vr_history.specs.declared.entry.What.TheVariants.{Asked, Faulted}
 use Rattle.vr_volume.specs.Crashes.{RecoversTo}
 use Rattle.vr_job.specs.Crash.{AreInCommit, HaveDoneCommit}
 use Rattle.vr_job.specs.Faultless.{AreFaultless}
+use Rattle.vr_job.specs.Kept.{KeepsItems}
 use Rattle.vr_job.specs.Lacking.{LacksArea}
 use Rattle.vr_job.specs.ReadFaults.{read_faults}
 
@@ -50,6 +51,12 @@ abbrev pub LeavesAtRest : {B : Type 0} → (B → Seen) → Geometry → ℕ →
 LeavesAtRest seen geometry number opening now entries =
     (state_of geometry opening entries).stopped ≡ None → (image : Image) → Left (seen now) image
     → RecoversTo geometry number (state_of geometry opening entries) [] image
+
+-- And each has, off the places that live units changed, the items of the parts of the state.
+abbrev pub KeepsAtRest : {B : Type 0} → (B → Seen) → Geometry → ℕ → State → B → List Entry → Type 0
+KeepsAtRest seen geometry number opening now entries =
+    (state_of geometry opening entries).stopped ≡ None → (image : Image) → Left (seen now) image
+    → KeepsItems geometry number (state_of geometry opening entries) image
 
 -- Where an entry answers a change of a place that there is no space, the part lacks room for it in the
 -- state and the blocks that the event found.
@@ -90,7 +97,7 @@ FaultsFollow made = IsStop made ⊎ AreFaultless made
 
 -- An event, with the blocks and the history as it left them: it answered one request at most; it
 -- touched no block, or each image at each moment of it is as above; and it leaves the volume at
--- rest. A fault is entered after a
+-- rest, with the items of the state wherever no live unit changed them. A fault is entered after a
 -- request alone that was answered 905. Where a COMMIT was answered 0, its unit is in every image that
 -- a crash may leave from then on. A request is answered 904 only where a read failed in its event, and
 -- 905, so that the volume stops, only where a write or a sync failed in it; and 28 only where its part
@@ -102,6 +109,7 @@ pub record IsEvent {B : Type 0} (seen : B → Seen) (counts : B → Faults) (geo
   pub during : (now ≡ event.blocks) ⊎ Guards (seen event.blocks) (seen now)
       (IsLeftWhile geometry number opening event.entries event.made)
   pub after : LeavesAtRest seen geometry number opening now entries
+  pub items : KeepsAtRest seen geometry number opening now entries
   pub faults : FaultsFollow event.made
   pub lasting : HaveDoneCommit event.made → (image : Image) → Left (seen now) image
       → RecoversTo geometry number (state_of geometry opening entries) [] image

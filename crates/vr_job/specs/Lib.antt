@@ -1,5 +1,6 @@
 pub mod Crash
 pub mod Events
+pub mod Kept
 pub mod Lacking
 pub mod Committed
 pub mod Faultless
