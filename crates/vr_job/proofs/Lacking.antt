@@ -49,6 +49,7 @@ use Rattle.vr_event.specs.declared.act.Act.{Act}
 use Rattle.vr_event.specs.declared.act.Act.TheVariants.{Again, Done}
 use Rattle.vr_job.specs.Events.{LackAreas}
 use Rattle.vr_job.specs.Lacking.{LacksArea}
+use Rattle.vr_job.proofs.Placing.{HasPlace, space-place}
 use Rattle.vr_job.proofs.Stopping.{step-at}
 
 -- ---- the entry of such a request
@@ -276,9 +277,12 @@ module _ {B : Type 0} (seen : B → Seen) (opening : State) (volume : VolumeNow 
 
   area-lacking : volume.file.stopped ≡ None → (unit : UnitOfRecovery) (request : Request)
       (place : List ℕ) (need free : ℕ)
+      → place_changed (case_of volume.file.geometry state unit request) ≡ Some place
       → IsLacking volume.store (seen volume.blocks).cur place request need free
-      → LacksArea volume.file.geometry state unit (seen volume.blocks) request place need free
-  area-lacking going unit request place need free lacking = record {
+      → LacksArea volume.file.geometry state unit (seen volume.blocks) request need free
+  area-lacking going unit request place need free at lacking = record {
+    place = place;
+    place_is = at;
     shape = lacking.part.shape;
     laid = ap (λ (entries : List CatEntry). shape_in volume.file.geometry entries number)
         (sym held.file.now.catalog)
@@ -322,17 +326,15 @@ pub event-lacking : {B : Type 0} (seen : B → Seen) (faults : B → Faults) (op
     → SaysWhatLacks seen opening old new after unit line request
     → LackAreas old.file.geometry (state_now opening old.file) (seen old.blocks) made
 event-lacking {B} seen faults opening old new act after unit line request acted made entries steps
-    whole held lacks entry among asked need free answered place at =
-    subst (λ (r : Request). LacksArea geometry state entry.unit (seen old.blocks) r place need free)
+    whole held lacks entry among asked need free answered =
+    subst (λ (r : Request). LacksArea geometry state entry.unit (seen old.blocks) r need free)
     (sym one.request_is)
     (area-lacking seen opening old whole held
     (held.file.now.stopped ∙ space-going (case_of geometry state entry.unit asked) need free may)
-    entry.unit request place need free
-    (lacks one.entered need free one.reply_is place
-    (subst (λ (u : UnitOfRecovery). place_changed (case_of geometry state u request) ≡ Some place)
-    one.unit_is
-    (subst (λ (r : Request). place_changed (case_of geometry state entry.unit r) ≡ Some place)
-    one.request_is at))))
+    entry.unit request at.0 need free here
+    (lacks one.entered need free one.reply_is at.0
+    (subst (λ (u : UnitOfRecovery). place_changed (case_of geometry state u request) ≡ Some at.0)
+    one.unit_is here)))
   where
     geometry : Geometry
     geometry = old.file.geometry
@@ -349,3 +351,10 @@ event-lacking {B} seen faults opening old new act after unit line request acted 
         (step-at geometry opening old.file.entries entry []
         (subst (λ (them : List Entry). AreSteps geometry opening (old.file.entries ++ them))
         one.made_is steps))).1
+
+    at : HasPlace (case_of geometry state entry.unit asked)
+    at = space-place (case_of geometry state entry.unit asked) need free may
+
+    here : place_changed (case_of geometry state entry.unit request) ≡ Some at.0
+    here = subst (λ (r : Request). place_changed (case_of geometry state entry.unit r) ≡ Some at.0)
+        one.request_is at.1

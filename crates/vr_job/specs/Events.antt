@@ -1,7 +1,7 @@
 -- The events of a run on a volume, one after another: what a crash leaves while each goes on, and once
 -- it is over. The rules are this project's own.
 use Rattle.std.specs.Prelude.{◌≡◌, ◌⊎◌, ◌<◌, ◌≤◌, ◌+◌, ℕ, List, [], ◌∷◌, ◌++◌, None, flat_map}
-use Rattle.std.specs.Prelude.{Contains, Some, length}
+use Rattle.std.specs.Prelude.{Contains, length}
 use Rattle.vr_types.specs.Faults.{Faults}
 use Rattle.vr_types.specs.Image.{Image}
 use Rattle.vr_types.specs.Moments.{Guards}
@@ -13,11 +13,9 @@ use Rattle.vr_types.specs.declared.reply.Refusal.TheVariants.{NoSpace, WriteFaul
 use Rattle.vr_types.specs.declared.reply.Reply.TheVariants.{Refused}
 use Rattle.vr_types.specs.declared.request.Request.{Request}
 use Rattle.vr_types.specs.declared.unit.Unit.{Unit as UnitOfRecovery}
-use Rattle.vr_history.specs.Change.{place_changed}
 use Rattle.vr_history.specs.Legal.{state_of}
 use Rattle.vr_history.specs.Merged.{request_in}
 use Rattle.vr_history.specs.State.{State}
-use Rattle.vr_history.specs.Step.{case_of}
 use Rattle.vr_history.specs.declared.entry.Entry.{Entry}
 use Rattle.vr_history.specs.declared.entry.What.TheVariants.{Asked, Faulted}
 use Rattle.vr_volume.specs.Crashes.{RecoversTo}
@@ -58,14 +56,13 @@ KeepsAtRest seen geometry number opening now entries =
     (state_of geometry opening entries).stopped ≡ None → (image : Image) → Left (seen now) image
     → KeepsItems geometry number (state_of geometry opening entries) image
 
--- Where an entry answers a change of a place that there is no space, the part lacks room for it in the
+-- Where an entry answers a request that there is no space, the part of its file lacks room in the
 -- state and the blocks that the event found.
 abbrev pub LackAreas : Geometry → State → Seen → List Entry → Type 0
 LackAreas geometry state now made = (entry : Entry) → Contains made entry
     → (request : Request) (need free : ℕ)
-    → entry.what ≡ Asked request (Refused (NoSpace need free)) → (place : List ℕ)
-    → place_changed (case_of geometry state entry.unit request) ≡ Some place
-    → LacksArea geometry state entry.unit now request place need free
+    → entry.what ≡ Asked request (Refused (NoSpace need free))
+    → LacksArea geometry state entry.unit now request need free
 
 -- A request is refused since a write failed, and the fault, of its unit and line, stops the volume.
 pub record IsStop (made : List Entry) : Type 0 where

@@ -10,6 +10,7 @@ use Rattle.vr_space.specs.Part.{Knows, Shape, room_of}
 use Rattle.vr_space.specs.declared.room.Room.TheVariants.{NoSpace}
 use Rattle.vr_answer.specs.Here.{base_here}
 use Rattle.vr_history.specs.Case.{new_record}
+use Rattle.vr_history.specs.Change.{place_changed}
 use Rattle.vr_history.specs.RefusedRoom.{free_areas}
 use Rattle.vr_history.specs.State.{BeforeImage, State}
 use Rattle.vr_history.specs.Step.{case_of}
@@ -18,10 +19,13 @@ use Rattle.vr_volume.specs.Laid.{shape_by}
 use Rattle.vr_volume.specs.PutBack.{lengths_kept}
 
 -- The part of the request's file, as the catalog of the state lays it, lacks room for the record that
--- the request gives this place: beside what stands in its blocks, what is kept for the places that live
--- units have logged, and the areas that the state leaves free. So it answers, with its numbers.
+-- the request gives the place that it changes: beside what stands in its blocks, what is kept for the
+-- places that live units have logged, and the areas that the state leaves free. So it answers, with its
+-- numbers.
 pub record LacksArea (geometry : Geometry) (state : State) (unit : UnitOfRecovery) (now : Seen)
-    (request : Request) (place : List ℕ) (need free : ℕ) : Type 0 where
+    (request : Request) (need free : ℕ) : Type 0 where
+  pub place : List ℕ
+  pub place_is : place_changed (case_of geometry state unit request) ≡ Some place
   pub shape : Shape
   pub laid : shape_by geometry (state.contents 0) (base_here request) ≡ Some shape
   pub known : Known
