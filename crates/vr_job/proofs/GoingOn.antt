@@ -37,8 +37,8 @@ use Rattle.vr_worker.proofs.CallerLemmas.{stamped-above}
 use Rattle.vr_worker.specs.Asked.{bound_to}
 use Rattle.vr_job.specs.Committed.{KeepTheCatalog}
 use Rattle.vr_job.specs.Crash.{HaveDoneCommit, IsCommit, IsDoneCommit, IsLeftBy}
-use Rattle.vr_job.specs.Events.{FaultsFollow, HasStopped, IsLeftWhile, IsOfEvents, LeavesAtRest}
-use Rattle.vr_job.specs.Events.{requests_in}
+use Rattle.vr_job.specs.Events.{FaultsFollow, HasStopped, IsLeftWhile, IsOfEvents, KeepsAtRest}
+use Rattle.vr_job.specs.Events.{LeavesAtRest, requests_in}
 use Rattle.vr_job.specs.Faultless.{AreFaultless}
 use Rattle.vr_job.specs.Going.{GoesOn, HasRun, went-then}
 use Rattle.vr_job.specs.Serving.{IsServing, StaysServing}
@@ -46,6 +46,8 @@ use Rattle.vr_job.proofs.Crashing.{held-left, left-more}
 use Rattle.vr_job.proofs.Entering.{step-none}
 use Rattle.vr_job.proofs.Faultless.{NoFault, acted-faultless}
 use Rattle.vr_job.proofs.Keeping.{event-keeps}
+use Rattle.vr_job.proofs.Kept.{AreSized, held-kept}
+use Rattle.vr_job.proofs.Lacking.{SaysWhatLacks, event-lacking}
 use Rattle.vr_job.proofs.ReadFaults.{acted-reads}
 use Rattle.vr_job.proofs.Stopping.{commit-first, commit-went, faults-follow, going-on, stop-of}
 use Rattle.vr_job.proofs.Stopping.{stopped-more}
@@ -229,7 +231,9 @@ module _ {B : Type 0} (seen : B → Seen) (faults : B → Faults) (old new : Vol
         (moments : old.file.stopped ≡ None → Guards (seen old.blocks) (seen new.blocks)
         (IsLeftIn old.store.log.geometry old.number (state_now opening old.file) after unit line
         request old.file new.file))
-        (stays : old.file.stopped ≢ None → new.blocks ≡ old.blocks) where
+        (stays : old.file.stopped ≢ None → new.blocks ≡ old.blocks)
+        (sized : AreSized (seen new.blocks))
+        (lacks : SaysWhatLacks seen opening old new after unit line request) where
       abbrev Left-by : Image → Type 0
       Left-by = IsLeftBy old.file.geometry old.number opening new.file.entries
 
@@ -269,22 +273,24 @@ module _ {B : Type 0} (seen : B → Seen) (faults : B → Faults) (old new : Vol
       follow : FaultsFollow made-in.made
       follow = faults-follow act unit line request made-in.made made-in.by
 
+      -- its entries are steps of the history
+      steps : IsHeld seen opening new
+          → AreSteps old.file.geometry opening (old.file.entries ++ made-in.made)
+      steps held = subst (AreSteps old.file.geometry opening) made-in.entries
+          (subst (λ (g : Geometry). AreSteps g opening new.file.entries) made-in.geometry
+          held.file.legal.steps)
+
       -- it goes on where a COMMIT was answered 0
       goes-on : IsHeld seen opening new → HaveDoneCommit made-in.made → new.file.stopped ≡ None
       goes-on held done = going-on old.file new.file made-in.made made-in.stops follow done
           ∙ run.held.file.now.stopped
-          ∙ commit-went old.file.geometry opening old.file.entries one.0 one.1 steps one.3
+          ∙ commit-went old.file.geometry opening old.file.entries one.0 one.1
+          (subst (λ (es : List Entry). AreSteps old.file.geometry opening
+          (old.file.entries ++ es)) one.2 (steps held)) one.3
         where
           one : (entry : Entry) × (rest : List Entry) × (made-in.made ≡ entry ∷ rest)
               × IsDoneCommit entry.what
           one = commit-first act unit line request made-in.made made-in.by done
-
-          steps : AreSteps old.file.geometry opening (old.file.entries ++ one.0 ∷ one.1)
-          steps = subst (λ (es : List Entry). AreSteps old.file.geometry opening
-              (old.file.entries ++ es)) one.2
-              (subst (AreSteps old.file.geometry opening) made-in.entries
-              (subst (λ (g : Geometry). AreSteps g opening new.file.entries) made-in.geometry
-              held.file.legal.steps))
 
       one-event : IsWhole seen new → IsHeld seen opening new
           → IsOfEvents seen faults old.file.geometry old.number opening first new.blocks
@@ -301,12 +307,19 @@ module _ {B : Type 0} (seen : B → Seen) (faults : B → Faults) (old new : Vol
             once = made-once act unit line request made-in.made made-in.by;
             during = by_while old.file.stopped refl;
             after = rests;
+            items = subst (λ (n : ℕ). KeepsAtRest seen old.file.geometry n opening new.blocks
+                new.file.entries) number
+                (subst (λ (g : Geometry). KeepsAtRest seen g new.number opening new.blocks
+                new.file.entries) made-in.geometry
+                (held-kept seen opening new whole-new held sized));
             faults = follow;
             lasting = λ done. rests (sym held-stopped ∙ goes-on held done);
             refused_read = acted-reads old.file new.file made-in.made made-in.entries
                 (faults old.blocks) (faults new.blocks) act after unit line request acted;
             failed_write = λ stop. acted-rose old.file new.file made-in.made made-in.entries stop
                 (faults old.blocks) (faults new.blocks) act after unit line request acted;
+            lacks = event-lacking seen faults opening old new act after unit line request acted
+                made-in.made made-in.entries (steps held) whole run.held lacks;
           },
           run.events.are,
         );

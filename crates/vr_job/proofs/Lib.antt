@@ -11,6 +11,9 @@ pub mod Effects
 pub mod Ascending
 pub mod Committed
 pub mod Keeping
+pub mod Kept
+pub mod Lacking
+pub mod Placing
 pub mod RunCommitted
 pub mod Stamps
 pub mod Faultless

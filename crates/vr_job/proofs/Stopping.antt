@@ -54,7 +54,7 @@ commit-going geometry state unit is = ⊎_elim
     not-refused refusal same = cc
 
 -- a step in the midst of others
-step-at : (geometry : Geometry) (state : State) (before : List Entry) (entry : Entry)
+pub step-at : (geometry : Geometry) (state : State) (before : List Entry) (entry : Entry)
     (rest : List Entry) → AreSteps geometry state (before ++ entry ∷ rest)
     → Step geometry (state_of geometry state before) entry
 step-at geometry state [] entry rest steps = steps.0
@@ -121,6 +121,8 @@ faults-follow Done unit line request made is = ⊎_elim
       made_are = is.is ∙ ap (λ (rest : List Entry). is.entry ∷ rest) faulted.is;
       failing_is = is.what_is ∙ ap (Asked request) faulted.refused;
       fault_is = faulted.what_is;
+      unit_is = faulted.unit_is ∙ sym is.unit_is;
+      line_is = faulted.line_is ∙ sym is.line_is;
     })) is.follows
 faults-follow (Again given) unit line request made is = inr (⊎_elim
     (λ none. none-faultless made none)

@@ -1,7 +1,7 @@
 -- The events of a run on a volume, one after another: what a crash leaves while each goes on, and once
 -- it is over. The rules are this project's own.
 use Rattle.std.specs.Prelude.{◌≡◌, ◌⊎◌, ◌<◌, ◌≤◌, ◌+◌, ℕ, List, [], ◌∷◌, ◌++◌, None, flat_map}
-use Rattle.std.specs.Prelude.{length}
+use Rattle.std.specs.Prelude.{Contains, length}
 use Rattle.vr_types.specs.Faults.{Faults}
 use Rattle.vr_types.specs.Image.{Image}
 use Rattle.vr_types.specs.Moments.{Guards}
@@ -9,7 +9,7 @@ use Rattle.vr_types.specs.Seen.{Left, Seen}
 use Rattle.vr_types.specs.declared.bound.Bound.{Bound}
 use Rattle.vr_types.specs.declared.fault.DeviceFault.TheVariants.{Write}
 use Rattle.vr_types.specs.declared.geometry.Geometry.{Geometry}
-use Rattle.vr_types.specs.declared.reply.Refusal.TheVariants.{WriteFault}
+use Rattle.vr_types.specs.declared.reply.Refusal.TheVariants.{NoSpace, WriteFault}
 use Rattle.vr_types.specs.declared.reply.Reply.TheVariants.{Refused}
 use Rattle.vr_types.specs.declared.request.Request.{Request}
 use Rattle.vr_types.specs.declared.unit.Unit.{Unit as UnitOfRecovery}
@@ -21,6 +21,8 @@ use Rattle.vr_history.specs.declared.entry.What.TheVariants.{Asked, Faulted}
 use Rattle.vr_volume.specs.Crashes.{RecoversTo}
 use Rattle.vr_job.specs.Crash.{AreInCommit, HaveDoneCommit}
 use Rattle.vr_job.specs.Faultless.{AreFaultless}
+use Rattle.vr_job.specs.Kept.{KeepsItems}
+use Rattle.vr_job.specs.Lacking.{LacksArea}
 use Rattle.vr_job.specs.ReadFaults.{read_faults}
 
 -- An event: the blocks and the history as it began, and the entries that it made.
@@ -48,7 +50,21 @@ LeavesAtRest seen geometry number opening now entries =
     (state_of geometry opening entries).stopped ≡ None → (image : Image) → Left (seen now) image
     → RecoversTo geometry number (state_of geometry opening entries) [] image
 
--- A request is refused since a write failed, and the fault stops the volume.
+-- And each has, off the places that live units changed, the items of the parts of the state.
+abbrev pub KeepsAtRest : {B : Type 0} → (B → Seen) → Geometry → ℕ → State → B → List Entry → Type 0
+KeepsAtRest seen geometry number opening now entries =
+    (state_of geometry opening entries).stopped ≡ None → (image : Image) → Left (seen now) image
+    → KeepsItems geometry number (state_of geometry opening entries) image
+
+-- Where an entry answers a request that there is no space, the part of its file lacks room in the
+-- state and the blocks that the event found.
+abbrev pub LackAreas : Geometry → State → Seen → List Entry → Type 0
+LackAreas geometry state now made = (entry : Entry) → Contains made entry
+    → (request : Request) (need free : ℕ)
+    → entry.what ≡ Asked request (Refused (NoSpace need free))
+    → LacksArea geometry state entry.unit now request need free
+
+-- A request is refused since a write failed, and the fault, of its unit and line, stops the volume.
 pub record IsStop (made : List Entry) : Type 0 where
   pub request : Request
   pub failing : Entry
@@ -56,6 +72,8 @@ pub record IsStop (made : List Entry) : Type 0 where
   pub made_are : made ≡ failing ∷ fault ∷ []
   pub failing_is : failing.what ≡ Asked request (Refused WriteFault)
   pub fault_is : fault.what ≡ Faulted Write
+  pub unit_is : fault.unit ≡ failing.unit
+  pub line_is : fault.line ≡ failing.line
 
 -- The volume stopped in an event of its history, and what a crash may leave of it is left while that
 -- event goes on: an image recovers to what is committed by the history before it, perhaps with the unit
@@ -76,10 +94,11 @@ FaultsFollow made = IsStop made ⊎ AreFaultless made
 
 -- An event, with the blocks and the history as it left them: it answered one request at most; it
 -- touched no block, or each image at each moment of it is as above; and it leaves the volume at
--- rest. A fault is entered after a request alone that was answered 905. Where a COMMIT was answered
--- 0, its unit is in every image that a crash may leave from then on. A request is answered 904 only
--- where a read failed in its event, and 905, so that the volume stops, only where a write or a sync
--- failed in it.
+-- rest, with the items of the state wherever no live unit changed them. A fault is entered after a
+-- request alone that was answered 905. Where a COMMIT was answered 0, its unit is in every image that
+-- a crash may leave from then on. A request is answered 904 only where a read failed in its event, and
+-- 905, so that the volume stops, only where a write or a sync failed in it; and 28 only where its part
+-- lacks room.
 pub record IsEvent {B : Type 0} (seen : B → Seen) (counts : B → Faults) (geometry : Geometry)
     (number : ℕ) (opening : State) (event : Event B) (now : B) (entries : List Entry) : Type 0 where
   pub entries_are : entries ≡ event.entries ++ event.made
@@ -87,11 +106,14 @@ pub record IsEvent {B : Type 0} (seen : B → Seen) (counts : B → Faults) (geo
   pub during : (now ≡ event.blocks) ⊎ Guards (seen event.blocks) (seen now)
       (IsLeftWhile geometry number opening event.entries event.made)
   pub after : LeavesAtRest seen geometry number opening now entries
+  pub items : KeepsAtRest seen geometry number opening now entries
   pub faults : FaultsFollow event.made
   pub lasting : HaveDoneCommit event.made → (image : Image) → Left (seen now) image
       → RecoversTo geometry number (state_of geometry opening entries) [] image
   pub refused_read : (counts event.blocks).reads + read_faults event.made ≤ (counts now).reads
   pub failed_write : IsStop event.made → (counts event.blocks).writes < (counts now).writes
+  pub lacks : LackAreas geometry (state_of geometry opening event.entries) (seen event.blocks)
+      event.made
 
 -- These are the events, the last one first, from these blocks and no history on.
 abbrev pub AreEvents : {B : Type 0} → (B → Seen) → (B → Faults) → Geometry → ℕ → State → B → B

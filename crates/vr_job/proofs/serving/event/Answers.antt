@@ -44,7 +44,9 @@ returns-clause-went g c =
           c.args.request c.act-act.ensures.acted opening first run c.act-act.ensures.number
           c.requires.serving.whole
           (λ going. c.act-act.ensures.moments told opening run.held (may opening run.held) going)
-          c.act-act.ensures.stopped c.act-act.ensures.whole
+          c.act-act.ensures.stopped (λ n block. g.met.B.Blocks.sized new.blocks n block told)
+          (c.act-act.ensures.lacks told opening run.held (may opening run.held))
+          c.act-act.ensures.whole
           (c.act-act.ensures.held told opening run.held (may opening run.held));
     }
   where
