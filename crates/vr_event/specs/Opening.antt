@@ -12,7 +12,6 @@ use Rattle.vr_log.specs.Standing.{LogStands}
 use Rattle.vr_history.specs.State.{Owned}
 use Rattle.vr_volume.specs.CatalogRules.{IsCatalog}
 use Rattle.vr_volume.specs.Laid.{shape_by}
-use Rattle.vr_volume.specs.PutBack.{standing}
 use Rattle.vr_volume.specs.Safe.{IsSafe}
 use Rattle.vr_store.specs.Store.{PartNow, StoreNow, shape_among}
 
@@ -43,11 +42,11 @@ pub record IsPartOpened (geometry : Geometry) (owners : Owners) (contents : ℕ 
   pub holds : (place : List ℕ) (found : Option Item) → MayHold part.shape now.may place found
       → found ≡ item_at (contents (part_no part.shape).0) place
 
--- The volume is safe with the records of these contents committed, and each part that they lay is
--- one of these, in the blocks that these owners give it.
+-- The volume is safe with these contents committed, what was withdrawn too, and each part that they
+-- lay is one of these, in the blocks that these owners give it.
 pub record IsOpened (number : ℕ) (owners : Owners) (log : LogNow) (parts : List PartNow)
     (contents : ℕ → Content) (now : Seen) : Type 0 where
-  pub safe : IsSafe log.geometry number owners log (λ records part. standing (contents part)) now
+  pub safe : IsSafe log.geometry number owners log (λ records part. contents part) now
   pub stands : LogStands log now
   pub forced : IsForced log
   pub each : (part : ℕ) → Ascends (contents part)
