@@ -1,6 +1,5 @@
 -- What the crates above cite: which shapes a catalog lays, and the number of each.
 pub use Rattle.vr_recover.proofs.Shapes.{laid-cases, shape-number}
-
 -- Of what a volume recovers to, contents that the blocks have, with what was withdrawn, once the
 -- before-images are put back: their records are what it recovers to.
 pub use Rattle.vr_recover.proofs.Wholes.{recovers-whole, whole, whole-records}
