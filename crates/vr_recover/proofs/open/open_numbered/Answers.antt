@@ -27,13 +27,18 @@ pub returns-in_err-found-clause-any_moment : goal.returns-in_err-found-clause-an
 returns-in_err-found-clause-any_moment g c told =
     let a = g.B.Blocks.seen c.args.blocks.now in
     let begun : Begun = c.in_ok-begun.begun.value in
+    let b = g.B.Blocks.seen c.start.new.blocks in
+    let d = g.B.Blocks.seen c.open_log.new.blocks in
     let further = subst (λ (one : Begun). (contents : ℕ → Content)
-    → IsWhole one.geometry c.args.number contents (g.B.Blocks.seen c.start.new.blocks).cur
-    → Guards (g.B.Blocks.seen c.start.new.blocks) (g.B.Blocks.seen c.open_log.new.blocks)
-    (KeepsAll one.geometry c.args.number (images_of one.content.records) contents)) c.deref.ensures
-    (λ contents is. c.open_log.ensures.any_moment told c.args.number contents is) in
-    left-then g.B.Blocks.tells begun.geometry c.args.number begun.content a
-    (g.B.Blocks.seen c.start.new.blocks) (g.B.Blocks.seen c.open_log.new.blocks) told
+    → IsWhole one.geometry c.args.number contents b.cur
+    → Guards b d (KeepsAll one.geometry c.args.number (images_of begun.content.records) contents))
+    c.deref.ensures
+    (subst (λ (one : Begun). (contents : ℕ → Content)
+    → IsWhole c.deref.result.now.geometry c.args.number contents b.cur
+    → Guards b d (KeepsAll c.deref.result.now.geometry c.args.number
+    (images_of one.content.records) contents)) c.deref_mut.ensures.value
+    (λ contents is. c.open_log.ensures.any_moment told c.args.number contents is)) in
+    left-then g.B.Blocks.tells begun.geometry c.args.number begun.content a b d told
     (λ image there. g.met.B.Blocks.images_may c.args.blocks.now image told there)
     c.start.ensures.keeps c.in_ok-begun.ensures.allowed (c.in_ok-begun.ensures.header told)
     (c.in_ok-begun.ensures.spelled told)
@@ -91,13 +96,18 @@ pub returns-clause-any_moment : goal.returns-clause-any_moment
 returns-clause-any_moment g c told =
     let a = g.B.Blocks.seen c.args.blocks.now in
     let begun : Begun = c.in_ok-begun.begun.value in
+    let b = g.B.Blocks.seen c.start.new.blocks in
+    let d = g.B.Blocks.seen c.open_log.new.blocks in
     let further = subst (λ (one : Begun). (contents : ℕ → Content)
-    → IsWhole one.geometry c.args.number contents (g.B.Blocks.seen c.start.new.blocks).cur
-    → Guards (g.B.Blocks.seen c.start.new.blocks) (g.B.Blocks.seen c.open_log.new.blocks)
-    (KeepsAll one.geometry c.args.number (images_of one.content.records) contents)) c.deref.ensures
-    (λ contents is. c.open_log.ensures.any_moment told c.args.number contents is) in
-    left-then g.B.Blocks.tells begun.geometry c.args.number begun.content a
-    (g.B.Blocks.seen c.start.new.blocks) (g.B.Blocks.seen c.open_log.new.blocks) told
+    → IsWhole one.geometry c.args.number contents b.cur
+    → Guards b d (KeepsAll one.geometry c.args.number (images_of begun.content.records) contents))
+    c.deref.ensures
+    (subst (λ (one : Begun). (contents : ℕ → Content)
+    → IsWhole c.deref.result.now.geometry c.args.number contents b.cur
+    → Guards b d (KeepsAll c.deref.result.now.geometry c.args.number
+    (images_of one.content.records) contents)) c.deref_mut.ensures.value
+    (λ contents is. c.open_log.ensures.any_moment told c.args.number contents is)) in
+    left-then g.B.Blocks.tells begun.geometry c.args.number begun.content a b d told
     (λ image there. g.met.B.Blocks.images_may c.args.blocks.now image told there)
     c.start.ensures.keeps c.in_ok-begun.ensures.allowed (c.in_ok-begun.ensures.header told)
     (c.in_ok-begun.ensures.spelled told)
