@@ -50,7 +50,6 @@ use Rattle.vr_types.proofs.CallerLemmas.{guards-weaken}
 use Rattle.vr_history.specs.State.{State}
 use Rattle.vr_record_file.specs.Now.{state_now}
 use Rattle.vr_volume.specs.Crashes.{RecoversTo}
-use Rattle.vr_recover.specs.Recovered.{standing_all}
 use Rattle.vr_volume.specs.Safe.{IsSafe}
 use Rattle.vr_event.specs.Volume.{AreServedClusters, IsHeld, IsWhole, OwnLaid, VolumeNow}
 use Rattle.vr_store.proofs.CallerLemmas.{idle-guards}
@@ -393,7 +392,7 @@ module _ (geometry : Geometry) (entries : List CatEntry) (owned : List AnyPart) 
     pub handed-opened : IsOpenedBy number owners log parts contents now
     handed-opened = record {
       safe = by-owners
-          (λ (o : Owners). IsSafe log.geometry number o log (alike (standing_all contents)) now)
+          (λ (o : Owners). IsSafe log.geometry number o log (alike contents) now)
           is.undone.safe;
       stands = is.stands;
       forced = handed.forced;
