@@ -21,3 +21,4 @@ pub mod Recovery
 pub mod Refusals
 pub mod Clearing
 pub mod OpenLemmas
+pub mod Outliving
