@@ -64,27 +64,27 @@ pub fewer-ended : (images : List BeforeImage) (log new : LogNow) (unit : UnitOfR
     → HasFewer images log → HasFewer images new
 fewer-ended images log new unit kind most appended fewer content is part place none = ⊎_elim
     (λ (prefix : IsPrefixOf new content). ⊎_elim
-    (λ (within : prefix.count < length log.records + 1).
-    ap (λ (c : LogContent). oldest (images_of c.records) part place) prefix.is
-    ∙ ap (λ (records : List LogRecord). oldest (images_of records) part place)
-    (ap (take prefix.count) appended.records
-    ∙ take-append-le prefix.count log.records (End unit kind ∷ []) (omega (arith, within)))
-    ∙ fewer (first_of log prefix.count) (inl (record {
-      count = prefix.count;
-      forced = omega (arith, prefix.forced, appended.forced);
-      all = omega (arith, within);
-      is = refl;
-    })) part place none)
-    (λ (past : length log.records + 1 ≤ prefix.count).
-    ap (λ (c : LogContent). oldest (images_of c.records) part place) prefix.is
-    ∙ ap (λ (records : List LogRecord). oldest (images_of records) part place)
-    (take_all prefix.count new.records (omega (arith, past, long)) ∙ appended.records)
-    ∙ without-ended)
-    (cases_lt prefix.count (length log.records + 1)))
+      (λ (within : prefix.count < length log.records + 1).
+      ap (λ (c : LogContent). oldest (images_of c.records) part place) prefix.is
+      ∙ ap (λ (records : List LogRecord). oldest (images_of records) part place)
+      (ap (take prefix.count) appended.records
+      ∙ take-append-le prefix.count log.records (End unit kind ∷ []) (omega (arith, within)))
+      ∙ fewer (first_of log prefix.count) (inl (record {
+        count = prefix.count;
+        forced = omega (arith, prefix.forced, appended.forced);
+        all = omega (arith, within);
+        is = refl;
+      })) part place none)
+      (λ (past : length log.records + 1 ≤ prefix.count).
+      ap (λ (c : LogContent). oldest (images_of c.records) part place) prefix.is
+      ∙ ap (λ (records : List LogRecord). oldest (images_of records) part place)
+      (take_all prefix.count new.records (omega (arith, past, long)) ∙ appended.records)
+      ∙ without-ended)
+      (cases_lt prefix.count (length log.records + 1)))
     (λ (behind : new.behind ≡ Some content). ⊎_elim
-    (λ same. fewer content (inr (sym same ∙ behind)) part place none)
-    (λ gone. absurd (none-some (sym gone ∙ behind)))
-    appended.behind)
+      (λ same. fewer content (inr (sym same ∙ behind)) part place none)
+      (λ gone. absurd (none-some (sym gone ∙ behind)))
+      appended.behind)
     is
   where
     none-some : None ≡ Some content → ⊥

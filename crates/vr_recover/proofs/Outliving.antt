@@ -1,6 +1,6 @@
 -- What is settled as a crash comes is an item of what is opened next; and what a volume is opened
 -- with is one where another crash comes while it is opened.
-use Rattle.std.proofs.Common.{◌≡◌, ◌≢◌, ◌∙◌, ◌<◌, ◌≤◌, ⊎_elim, inl, inr, ℕ, zero, suc, List, Option}
+use Rattle.std.proofs.Common.{◌≡◌, ◌≢◌, ◌∙◌, ◌<◌, ⊎_elim, inl, inr, ℕ, zero, suc, List}
 use Rattle.std.proofs.Common.{Some, None, ap, arith, length, replicate, subst, sym, refl}
 use Rattle.std.proofs.lemmas.Bool.{cases_lt}
 use Rattle.vr_types.specs.Content.{Content, Item, Withdrawn, item_at}
@@ -19,11 +19,10 @@ use Rattle.vr_log.proofs.Unique.{spelled_one, zeros-generation}
 use Rattle.vr_space.specs.Part.{Shape, item_of}
 use Rattle.vr_undo.proofs.CallerLemmas.{stands-item}
 use Rattle.vr_volume.specs.Crashes.{RecoversTo, committed_with}
-use Rattle.vr_volume.specs.Laid.{shape_by}
 use Rattle.vr_volume.specs.PutBack.{images_of, oldest, put_back, standing, standing_of}
 use Rattle.vr_volume.specs.Volume.{Recovers, VolumeStandsFor}
 use Rattle.vr_volume.proofs.Unique.{one_volume}
-use Rattle.vr_recover.specs.Addresses.{HasItem, IsKeptAt, IsSettledAt}
+use Rattle.vr_recover.specs.Addresses.{HasItem, IsSettledIn, IsSettledAt}
 use Rattle.vr_recover.specs.Opening.{HasContents}
 use Rattle.vr_recover.specs.Recovered.{AreBackOf, KeepsAll, item_back, standing_all}
 use Rattle.vr_recover.proofs.Wholes.{recovers-items}
@@ -136,7 +135,7 @@ module _ (geometry : Geometry) (number : ℕ) (contents : ℕ → Content) (now 
 
   pub outlives-opening : (images : List BeforeImage) (before : ℕ → Content)
       → KeepsAll geometry number images before now.cur → (part : ℕ) (place : List ℕ)
-      → IsKeptAt images before part place → HasItem (contents part) place
+      → IsSettledIn images before part place → HasItem (contents part) place
   outlives-opening images before is part place kept =
       let recovers = is.items.recovers in
       ⊎_elim

@@ -21,6 +21,6 @@ IsSettledAt counted state part place = (item_at (committed_with counted state pa
 
 -- In the contents that a volume is opened with, a record is at the place, or an item for which its
 -- log had none of these before-images.
-abbrev pub IsKeptAt : List BeforeImage → (ℕ → Content) → ℕ → List ℕ → Type 0
-IsKeptAt images contents part place = (item_at (standing (contents part)) place ≢ None)
+abbrev pub IsSettledIn : List BeforeImage → (ℕ → Content) → ℕ → List ℕ → Type 0
+IsSettledIn images contents part place = (item_at (standing (contents part)) place ≢ None)
     ⊎ ((oldest images part place ≡ None) × HasItem (contents part) place)

@@ -20,7 +20,7 @@ ghost use Rattle.vr_volume.specs.Laid.{shape_by};
 ghost use Rattle.vr_volume.specs.PutBack.{images_of};
 ghost use Rattle.vr_volume.specs.Safe.{IsSafe};
 ghost use Rattle.vr_volume.specs.Volume.{Recovers, shapes_by};
-ghost use Rattle.vr_recover.specs.Addresses.{HasItem, IsKeptAt, IsSettledAt};
+ghost use Rattle.vr_recover.specs.Addresses.{HasItem, IsSettledIn, IsSettledAt};
 ghost use Rattle.vr_recover.specs.Opening.{HasContents};
 ghost use Rattle.vr_recover.specs.Recovered.{AreBackOf, KeepsAll, standing_all};
 ghost use Rattle.vr_recover.specs.Undone.{IsCovered, IsOpenedPart, IsSettled, alike};
@@ -99,5 +99,5 @@ pub fn items_outlive_crashes<B: Blocks>()
         (contents later : ℕ → Content) (blocks : B)
         → KeepsAll geometry number images contents (B.seen blocks).cur
         → HasContents number geometry later (B.seen blocks) → (part : ℕ) (place : List ℕ)
-        → IsKeptAt images contents part place → HasItem (later part) place }
+        → IsSettledIn images contents part place → HasItem (later part) place }
 {}
