@@ -1,5 +1,5 @@
 -- What a change leaves of the addresses of an entry-sequenced data set.
-use Rattle.std.proofs.Common.{◌≡◌, ℕ, ◌*◌, ◌<◌, Bool, true, false, ◌==◌, List, [], ◌∷◌, ◌++◌}
+use Rattle.std.proofs.Common.{◌≡◌, inl, ℕ, ◌*◌, ◌<◌, Bool, true, false, ◌==◌, List, [], ◌∷◌, ◌++◌}
 use Rattle.std.proofs.Common.{Some, None, refl, sym, ap, ◌∙◌, subst, eq-eqb}
 use Rattle.std.specs.Prelude.{option_map, if◌then◌else◌}
 use Rattle.std.specs.Int.{w32, to_be_bytes}
@@ -8,19 +8,20 @@ use Rattle.std.specs.declared.cmp.Ordering.{Ordering}
 use Rattle.std.specs.declared.cmp.Ordering.TheVariants.{Less, Equal, Greater}
 use Rattle.std.proofs.lemmas.Bool.{false≢true}
 use Rattle.std.proofs.lemmas.List.{append-nil, map-append}
-use Rattle.vr_types.specs.Content.{Content, Item, Placed, found_by, item_at, place_cmp, places_of}
+use Rattle.vr_types.specs.Content.{Ascends, Content, Item, Placed, found_by, item_at, place_cmp, places_of}
 use Rattle.vr_types.specs.Content.{with_item, without_item}
 use Rattle.vr_types.specs.Geometry.{IsAllowed, area_count}
 use Rattle.vr_types.specs.declared.geometry.Geometry.{Geometry}
 use Rattle.vr_history.specs.Address.{last_interval, length_of, next_address}
-use Rattle.vr_history.specs.Addresses.{AreAddressed, AreNext, AreOwned, IsNext}
+use Rattle.vr_history.specs.Addresses.{AreAddressed, AllFollow, AreOwned, Follows}
 use Rattle.vr_history.specs.Change.{Change}
 use Rattle.vr_history.specs.Effects.{placed_in, with_change}
 use Rattle.vr_history.specs.State.{BeforeImage, State}
 use Rattle.vr_history.proofs.AddressNumbers.{number_back}
-use Rattle.vr_history.proofs.Laying.{AreLaid, LiesPast, laid_all, lies_past, next_append, none_laid}
+use Rattle.vr_history.proofs.Laying.{AreLaid, LiesPast, laid_all, lies_past, follow_append, none_laid}
 use Rattle.vr_history.proofs.Outlines.{addressed_outline, length_at, outline, outline_addressed}
-use Rattle.vr_history.proofs.Outlines.{outline_lengths, outline_places, outline_put, out_none}
+use Rattle.vr_history.proofs.Outlines.{one_outline, outline_lengths, outline_places, outline_put}
+use Rattle.vr_history.proofs.Outlines.{out_none}
 use Rattle.vr_history.proofs.Outlines.{put_last}
 use Rattle.vr_history.proofs.Same.{nat_same}
 
@@ -44,10 +45,19 @@ stays_moves geometry content new addressed same = record {
   places = sym (outline_places new) ∙ (ap places_of same ∙ (outline_places content
       ∙ sym (append-nil (places_of content))));
   addressed = outline_addressed geometry [] new
-      (subst (AreNext geometry []) (sym same) (addressed_outline geometry [] content addressed));
+      (subst (AllFollow geometry []) (sym same) (addressed_outline geometry [] content addressed));
   lengths = λ place n is. sym (outline_lengths new place)
       ∙ (ap (λ (c : Content). length_at c place) same ∙ (outline_lengths content place ∙ is));
 }
+
+-- items of the same lengths at the same places are in order too
+pub lengths_addressed : (geometry : Geometry) (content new : Content)
+    → Ascends content → Ascends new
+    → ((place : List ℕ) → length_at new place ≡ length_at content place)
+    → AreAddressed geometry content → AreAddressed geometry new
+lengths_addressed geometry content new ascends ascends' same addressed =
+    (stays_moves geometry content new addressed
+    (one_outline new content ascends' ascends same)).addressed
 
 pub same_moves : (geometry : Geometry) (content : Content) → AreAddressed geometry content
     → Moves geometry content content []
@@ -96,9 +106,9 @@ add_moves geometry content item allowed addressed some within =
     let new : Placed = (place, item) in
     let last : with_item content place item ≡ content ++ new ∷ [] =
     put_last place item content past.past in
-    let is_next : IsNext geometry content new =
+    let follows : Follows geometry content new =
     record {
-      at = refl;
+      at = inl refl;
       ends =
           subst (λ m. last_interval geometry.size m (length_of item) < area_count geometry
           * geometry.area) (sym (number_back n past.fits)) within;
@@ -107,7 +117,7 @@ add_moves geometry content item allowed addressed some within =
     record {
       places = ap places_of last ∙ map-append (λ (placed : Placed). placed.0) content (new ∷ []);
       addressed = subst (AreAddressed geometry) (sym last)
-          (next_append geometry [] content new addressed is_next);
+          (follow_append geometry [] content new addressed follows);
       lengths = λ at m is. ap (λ (c : Content). length_at c at) last
           ∙ length_append content new at m is;
     }

@@ -1,4 +1,5 @@
--- Histories that grow at their end, for those who add entries to one.
+-- Histories that grow at their end, for those who add entries to one; and what the order of
+-- addresses rests on.
 use Rattle.std.proofs.Common.{◌≡◌, ℕ, ◌<◌, List, [], ◌∷◌, ◌++◌, ◌-◌, suc, length, Some, slice_get}
 use Rattle.std.proofs.Common.{refl, ap, ◌∙◌, arith}
 use Rattle.vr_types.specs.declared.geometry.Geometry.{Geometry}
@@ -9,6 +10,15 @@ use Rattle.vr_history.specs.State.{State}
 use Rattle.vr_history.specs.Step.{Step, state_after}
 -- a unit is itself
 pub use Rattle.vr_history.proofs.Same.{unit_self}
+-- the intervals of a volume, and their bytes
+pub use Rattle.vr_history.proofs.Laying.{intervals_of, volume_fits}
+-- a place of four bytes is read as the number that it was made of
+pub use Rattle.vr_history.proofs.AddressNumbers.{number_back}
+-- a content with one item more at the end: its last item, and what its items of an interval take
+pub use Rattle.vr_history.proofs.Laying.{begun_append, last_append}
+-- the order of addresses goes by places and lengths
+pub use Rattle.vr_history.proofs.Outlines.{length_at}
+pub use Rattle.vr_history.proofs.Addressing.{lengths_addressed}
 
 -- stamps rise on, where the new entry's is above the last
 pub stamped-append : (before : ℕ) (entries : List Entry) (entry : Entry) → IsStamped before entries

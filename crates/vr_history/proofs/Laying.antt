@@ -1,5 +1,5 @@
 -- The next address lies past the last item, and below 2^31.
-use Rattle.std.proofs.Common.{◌≡◌, ℕ, ◌+◌, ◌-◌, ◌*◌, ◌/◌, ◌^◌, ◌<◌, ◌≤◌, Bool, true}
+use Rattle.std.proofs.Common.{◌≡◌, ◌⊎◌, inl, inr, ℕ, ◌+◌, ◌-◌, ◌*◌, ◌/◌, ◌^◌, ◌<◌, ◌≤◌, Bool, true}
 use Rattle.std.proofs.Common.{false, cond, ◌&&◌, List, [], ◌∷◌, ◌++◌, map, filter, sum, Some, None}
 use Rattle.std.proofs.Common.{refl, sym, ap, ◌∙◌, subst, arith}
 use Rattle.std.specs.Prelude.{Option, nat_le}
@@ -23,7 +23,7 @@ use Rattle.vr_types.proofs.CallerLemmas.{block_size_least}
 use Rattle.vr_history.specs.Address.{begins_in, intervals_for, is_spanned, last_interval, last_item}
 use Rattle.vr_history.specs.Address.{length_of, lengths_taken, next_address, next_after, number_of}
 use Rattle.vr_history.specs.Address.{room_taken}
-use Rattle.vr_history.specs.Addresses.{AreNext, IsNext}
+use Rattle.vr_history.specs.Addresses.{AllFollow, BeginsLater, Follows, IsLater}
 use Rattle.vr_history.proofs.AddressNumbers.{number_back, places_rise}
 use Rattle.vr_history.proofs.Same.{first_holds, second_holds}
 
@@ -49,19 +49,18 @@ volume_fits geometry allowed =
         (area + 1) in
         omega (arith, nat.mul-add (blocks / (area + 1)) area 1)
 
--- what is taken of an interval, with one item more at the end
-taken_append : (size interval : ℕ) (content : Content) (placed : Placed)
+-- what the items of an interval amount to, with one more at the end
+pub begun_append : (amount : Placed → ℕ) (size interval : ℕ) (content : Content) (placed : Placed)
     → begins_in size interval placed ≡ true
-    → lengths_taken size interval (content ++ placed ∷ []) ≡ lengths_taken size interval content
-    + length_of placed.1
-taken_append size interval content placed begins =
-    let long : Placed → ℕ = λ (item : Placed). length_of item.1 in
+    → sum (map amount (filter (begins_in size interval) (content ++ placed ∷ [])))
+    ≡ sum (map amount (filter (begins_in size interval) content)) + amount placed
+begun_append amount size interval content placed begins =
     let here : Placed → Bool = begins_in size interval in
-    sum-map long (filter here (content ++ placed ∷ []))
-    ∙ (ap (sum_by long) (filter-append here content (placed ∷ [])
+    sum-map amount (filter here (content ++ placed ∷ []))
+    ∙ (ap (sum_by amount) (filter-append here content (placed ∷ [])
     ∙ ap (λ (test : Bool). filter here content ++ cond test (placed ∷ []) []) begins)
-    ∙ (sum_by_push long (filter here content) placed
-    ∙ ap (λ n. n + long placed) (sym (sum-map long (filter here content)))))
+    ∙ (sum_by_push amount (filter here content) placed
+    ∙ ap (λ n. n + amount placed) (sym (sum-map amount (filter here content)))))
 
 -- the items alone take less than they do with their control information
 lengths_within : (items : Content)
@@ -78,7 +77,7 @@ lengths_within (placed ∷ items) =
       sum_by-cons (λ (n : ℕ). n) (length_of placed.1 + 3) longer,
     )
 
-last_append : (content : Content) (placed : Placed)
+pub last_append : (content : Content) (placed : Placed)
     → last_item (content ++ placed ∷ []) ≡ Some placed
 last_append [] placed = refl
 last_append (first ∷ []) placed = refl
@@ -172,35 +171,47 @@ plain_past geometry content new last allowed laid some plain room =
       packed = subst Q (sym back) (omega arith);
     }
 
--- another goes to the start of the next interval
-next_past : (geometry : Geometry) (content : Content) (new : ℕ) (last : Placed)
+-- where an interval begins
+begin_fits : (geometry : Geometry) (interval : ℕ) → IsAllowed geometry
+    → interval ≤ intervals_of geometry → interval * geometry.size < 2 ^ 32
+begin_fits geometry interval allowed within =
+    let whole : interval * geometry.size ≤ intervals_of geometry * geometry.size =
+    mul-le interval geometry.size (intervals_of geometry) geometry.size within (omega arith) in
+    omega (arith, volume_fits geometry allowed)
+
+begin_packed : (geometry : Geometry) (content : Content) (new interval : ℕ) → IsAllowed geometry
+    → 0 < new
+    → let n : ℕ = interval * geometry.size in
+    n < n / geometry.size * geometry.size
+    + (lengths_taken geometry.size (n / geometry.size) content + new)
+begin_packed geometry content new interval allowed some =
+    let size : ℕ = geometry.size in
+    let least : 512 ≤ size = block_size_least size allowed.size in
+    let back : interval * size / size ≡ interval =
+    ap (λ n. n / size) (omega arith) ∙ div-mul-add interval size 0 (omega arith) in
+    let Q : ℕ → Type 0 = λ i. interval * size < i * size + (lengths_taken size i content + new) in
+    subst Q (sym back) (omega arith)
+
+-- another goes to the start of a later interval
+later_past : (geometry : Geometry) (content : Content) (new interval : ℕ) (last : Placed)
     → IsAllowed geometry → IsLastLaid geometry content last → 0 < new
-    → LiesPast geometry content new
-    ((last_interval geometry.size (number_of last.0) (length_of last.1) + 1) * geometry.size)
-next_past geometry content new last allowed laid some =
+    → interval ≤ intervals_of geometry
+    → last_interval geometry.size (number_of last.0) (length_of last.1) < interval
+    → LiesPast geometry content new (interval * geometry.size)
+later_past geometry content new interval last allowed laid some within later =
     let size : ℕ = geometry.size in
     let address : ℕ = number_of last.0 in
-    let interval : ℕ = last_interval size address (length_of last.1) in
     let least : 512 ≤ size = block_size_least size allowed.size in
-    let whole : (interval + 1) * size ≤ intervals_of geometry * size =
-    mul-le (interval + 1) size (intervals_of geometry) size (omega (arith, laid.ends)) (omega arith)
-    in
-    let bytes : intervals_of geometry * size ≤ 2 ^ 31 = volume_fits geometry allowed in
-    let fits : (interval + 1) * size < 2 ^ 32 = omega arith in
     let at_least : 1 ≤ intervals_for size (length_of last.1) = some_interval size (length_of last.1)
     least in
-    let before : (address / size + 1) * size ≤ (interval + 1) * size =
-    mul-le (address / size + 1) size (interval + 1) size (omega arith) (omega arith) in
-    let beyond : address < (interval + 1) * size = omega (arith, above address size (omega arith))
-    in
-    let back : (interval + 1) * size / size ≡ interval + 1 =
-    ap (λ n. n / size) (omega arith) ∙ div-mul-add (interval + 1) size 0 (omega arith) in
-    let Q : ℕ → Type 0 = λ i. (interval + 1) * size < i * size
-    + (lengths_taken size i content + new) in
+    let before : (address / size + 1) * size ≤ interval * size =
+    mul-le (address / size + 1) size interval size (omega arith) (omega arith) in
+    let beyond : address < interval * size = omega (arith, above address size (omega arith)) in
+    let fits : interval * size < 2 ^ 32 = begin_fits geometry interval allowed within in
     record {
       fits = fits;
-      past = all_beyond address ((interval + 1) * size) (places_of content) beyond fits laid.top;
-      packed = subst Q (sym back) (omega arith);
+      past = all_beyond address (interval * size) (places_of content) beyond fits laid.top;
+      packed = begin_packed geometry content new interval allowed some;
     }
   where
     above : (n size : ℕ) → 0 < size → n < (n / size + 1) * size
@@ -262,14 +273,18 @@ lies_past geometry content new allowed laid some = by_last (last_item content) r
             (not_spanned (is_spanned geometry.size (length_of last.1)) (first_holds _ _ test))
             (room_of _ _ (second_holds _ _
             (second_holds (cond (is_spanned geometry.size (length_of last.1)) false true) _ test)))
-        by_test false test = next_past geometry content new last allowed (laid.last last is) some
+        by_test false test =
+            let last_laid : IsLastLaid geometry content last = laid.last last is in
+            later_past geometry content new
+            (last_interval geometry.size (number_of last.0) (length_of last.1) + 1) last allowed
+            last_laid some (omega (arith, last_laid.ends)) (omega arith)
 
 pub all_append : {X : Type 0} (P : X → Type 0) (these : List X) (last : X)
     → AllByRecursion P these → P last → AllByRecursion P (these ++ last ∷ [])
 all_append P [] last all one = (one, tt)
 all_append P (first ∷ these) last all one = (all.0, all_append P these last all.1 one)
 
--- one item more is laid where it stands at the next address
+-- one item more is laid where it follows them
 ascends_append : (places : List (List ℕ)) (place : List ℕ) → IsStrictlySortedBy place_cmp places
     → AllByRecursion (λ other. place_cmp other place ≡ Less) places
     → IsStrictlySortedBy place_cmp (places ++ place ∷ [])
@@ -290,55 +305,88 @@ below_further n (place ∷ places) below = (
   below_further n places below.1,
 )
 
+-- where an item is that follows those of a content
+pub record IsAtPast (geometry : Geometry) (content : Content) (placed : Placed) : Type 0 where
+  pub number : ℕ
+  pub at : placed.0 ≡ to_be_bytes w32 number
+  pub past : LiesPast geometry content (length_of placed.1) number
+
+follows_past : (geometry : Geometry) (content : Content) (placed : Placed) → IsAllowed geometry
+    → AreLaid geometry content → Follows geometry content placed
+    → IsAtPast geometry content placed
+follows_past geometry content placed allowed laid follows = by_place follows.at
+  where
+    new : ℕ
+    new = length_of placed.1
+
+    by_last : (last : Option Placed) → last_item content ≡ last → (interval : ℕ)
+        → interval < intervals_of geometry → IsLater geometry.size last interval
+        → LiesPast geometry content new (interval * geometry.size)
+    by_last None none interval within later = record {
+      fits = begin_fits geometry interval allowed (omega (arith, within));
+      past = subst (λ (c : Content). AllByRecursion
+          (λ place. place_cmp place (to_be_bytes w32 (interval * geometry.size)) ≡ Less)
+          (places_of c)) (sym (none_last content none)) tt;
+      packed = begin_packed geometry content new interval allowed follows.some;
+    }
+    by_last (Some last) is interval within later =
+        later_past geometry content new interval last allowed (laid.last last is) follows.some
+        (omega (arith, within)) later
+
+    by_place : (placed.0 ≡ to_be_bytes w32 (next_address geometry.size content new))
+        ⊎ BeginsLater geometry content placed.0 → IsAtPast geometry content placed
+    by_place (inl next) = record {
+      number = next_address geometry.size content new;
+      at = next;
+      past = lies_past geometry content new allowed laid follows.some;
+    }
+    by_place (inr begins) = record {
+      number = begins.interval * geometry.size;
+      at = begins.at;
+      past = by_last (last_item content) refl begins.interval begins.within begins.later;
+    }
+
 laid_next : (geometry : Geometry) (content : Content) (placed : Placed) → IsAllowed geometry
-    → AreLaid geometry content → IsNext geometry content placed
+    → AreLaid geometry content → Follows geometry content placed
     → AreLaid geometry (content ++ placed ∷ [])
-laid_next geometry content placed allowed laid next =
-    let new : ℕ = length_of placed.1 in
-    let n : ℕ = next_address geometry.size content new in
-    let past : LiesPast geometry content new n = lies_past geometry content new allowed laid
-    next.some in
-    let number : number_of placed.0 ≡ n = ap number_of next.at ∙ number_back n past.fits in
-    let places : places_of (content ++ placed ∷ []) ≡ places_of content ++ placed.0 ∷ [] =
-    map-append (λ (item : Placed). item.0) content (placed ∷ []) in
+laid_next geometry content placed allowed laid follows =
     let P : List ℕ → Type 0 = λ place. AllByRecursion (λ other. place_cmp other place ≡ Less)
     (places_of content) in
     record {
       ascends = subst (IsStrictlySortedBy place_cmp) (sym places)
           (ascends_append (places_of content) placed.0 laid.ascends
-          (subst P (sym next.at) past.past));
+          (subst P (sym here.at) here.past.past));
       last = λ last is. subst (IsLastLaid geometry (content ++ placed ∷ []))
-          (same_some placed last (sym (last_append content placed) ∙ is)) here;
+          (same_some placed last (sym (last_append content placed) ∙ is)) is_last;
     }
   where
-    new : ℕ
-    new = length_of placed.1
+    here : IsAtPast geometry content placed
+    here = follows_past geometry content placed allowed laid follows
 
     n : ℕ
-    n = next_address geometry.size content new
+    n = here.number
 
     size : ℕ
     size = geometry.size
 
+    places : places_of (content ++ placed ∷ []) ≡ places_of content ++ placed.0 ∷ []
+    places = map-append (λ (item : Placed). item.0) content (placed ∷ [])
+
     same_some : (one other : Placed) → Some one ≡ Some other → one ≡ other
     same_some one other is = cc
 
-    here : IsLastLaid geometry (content ++ placed ∷ []) placed
-    here =
-        let past : LiesPast geometry content new n =
-        lies_past geometry content new allowed laid next.some in
-        let number : number_of placed.0 ≡ n = ap number_of next.at ∙ number_back n past.fits in
-        let places : places_of (content ++ placed ∷ []) ≡ places_of content ++ placed.0 ∷ [] =
-        map-append (λ (item : Placed). item.0) content (placed ∷ []) in
+    is_last : IsLastLaid geometry (content ++ placed ∷ []) placed
+    is_last =
+        let number : number_of placed.0 ≡ n = ap number_of here.at ∙ number_back n here.past.fits in
         let begins : begins_in size (n / size) placed ≡ true =
         eq-eqb (number_of placed.0 / size) (n / size) (ap (λ m. m / size) number) in
         let taken : lengths_taken size (n / size) (content ++ placed ∷ []) ≡ lengths_taken size
-        (n / size) content + new = taken_append size (n / size) content placed begins in
+        (n / size) content + length_of placed.1 =
+        begun_append (λ (item : Placed). length_of item.1) size (n / size) content placed begins in
         let within : n < n / size * size + lengths_taken size (n / size) (content ++ placed ∷ []) =
-        omega (arith, past.packed, taken) in
-        let Below : List ℕ → Type 0 = IsBelow n in
-        let itself : Below placed.0 = λ beyond less fits. ap
-        (λ (place : List ℕ). place_cmp place (to_be_bytes w32 beyond)) next.at
+        omega (arith, here.past.packed, taken) in
+        let itself : IsBelow n placed.0 = λ beyond less fits. ap
+        (λ (place : List ℕ). place_cmp place (to_be_bytes w32 beyond)) here.at
         ∙ places_rise n beyond less fits in
         let Top : ℕ → Type 0 = λ m. AllByRecursion (IsBelow m) (places_of (content ++ placed ∷ []))
         in
@@ -347,35 +395,35 @@ laid_next geometry content placed allowed laid next =
         record {
           top = subst Top (sym number) (subst (AllByRecursion (IsBelow n)) (sym places)
               (all_append (IsBelow n) (places_of content) placed.0
-              (below_further n (places_of content) past.past) itself));
+              (below_further n (places_of content) here.past.past) itself));
           packed = subst Packed (sym number) within;
-          ends = next.ends;
+          ends = follows.ends;
         }
 
--- and so are all that stand each at the next address
+-- and so are all that follow one another
 pub laid_all : (geometry : Geometry) (before content : Content) → IsAllowed geometry
-    → AreLaid geometry before → AreNext geometry before content
+    → AreLaid geometry before → AllFollow geometry before content
     → AreLaid geometry (before ++ content)
-laid_all geometry before [] allowed laid next =
+laid_all geometry before [] allowed laid follow =
     subst (AreLaid geometry) (sym (append-nil before)) laid
-laid_all geometry before (placed ∷ content) allowed laid next =
+laid_all geometry before (placed ∷ content) allowed laid follow =
     subst (AreLaid geometry) (append_assoc before (placed ∷ []) content)
     (laid_all geometry (before ++ placed ∷ []) content allowed
-    (laid_next geometry before placed allowed laid next.0) next.1)
+    (laid_next geometry before placed allowed laid follow.0) follow.1)
 
 pub none_laid : (geometry : Geometry) → AreLaid geometry []
 unfolding IsStrictlySortedBy
 none_laid geometry = record { ascends = tt; last = λ placed is. absurd cc }
 
--- the next item comes last
-pub next_append : (geometry : Geometry) (before content : Content) (placed : Placed)
-    → AreNext geometry before content → IsNext geometry (before ++ content) placed
-    → AreNext geometry before (content ++ placed ∷ [])
-next_append geometry before [] placed next this =
-    (subst (λ (c : Content). IsNext geometry c placed) (append-nil before) this, tt)
-next_append geometry before (first ∷ content) placed next this = (
-  next.0,
-  next_append geometry (before ++ first ∷ []) content placed next.1
-      (subst (λ (c : Content). IsNext geometry c placed)
+-- an item that follows comes last
+pub follow_append : (geometry : Geometry) (before content : Content) (placed : Placed)
+    → AllFollow geometry before content → Follows geometry (before ++ content) placed
+    → AllFollow geometry before (content ++ placed ∷ [])
+follow_append geometry before [] placed follow this =
+    (subst (λ (c : Content). Follows geometry c placed) (append-nil before) this, tt)
+follow_append geometry before (first ∷ content) placed follow this = (
+  follow.0,
+  follow_append geometry (before ++ first ∷ []) content placed follow.1
+      (subst (λ (c : Content). Follows geometry c placed)
       (sym (append_assoc before (first ∷ []) content)) this),
 )

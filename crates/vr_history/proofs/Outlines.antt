@@ -1,10 +1,11 @@
 -- What the addresses of a content rest on: the places and the lengths of its items.
-use Rattle.std.proofs.Common.{◌≡◌, ℕ, ◌+◌, ◌-◌, ◌*◌, ◌&&◌, Bool, true, false, cond, not, List, []}
+use Rattle.std.proofs.Common.{◌≡◌, ◌⊎◌, inl, inr, ℕ, ◌+◌, ◌-◌, ◌*◌, ◌&&◌, Bool, true, false, cond, not, List, []}
 use Rattle.std.proofs.Common.{◌∷◌, ◌++◌}
 use Rattle.std.proofs.Common.{map, filter, sum, bytes_eq, Some, None, refl, sym, ap, ◌∙◌, subst}
 use Rattle.std.specs.Prelude.{Option, nat_le, option_map}
 use Rattle.std.specs.Int.{w32, to_be_bytes}
 use Rattle.std.specs.List.{AllByRecursion}
+use Rattle.std.specs.List.Sorted.{IsStrictlySortedBy}
 use Rattle.std.specs.Ordering.{ordering_reverse}
 use Rattle.std.specs.declared.cmp.Ordering.{Ordering}
 use Rattle.std.specs.declared.cmp.Ordering.TheVariants.{Less, Equal, Greater}
@@ -17,8 +18,9 @@ use Rattle.vr_types.specs.Content.{place_cmp, places_of, put_by, with_item, with
 use Rattle.vr_types.specs.declared.geometry.Geometry.{Geometry}
 use Rattle.vr_history.specs.Address.{begins_in, is_spanned, last_interval, last_item, length_of}
 use Rattle.vr_history.specs.Address.{lengths_taken, next_address, next_after, number_of, room_taken}
-use Rattle.vr_history.specs.Addresses.{AreNext}
+use Rattle.vr_history.specs.Addresses.{AllFollow, BeginsLater, IsLater}
 use Rattle.vr_altkey.proofs.CallerLemmas.{all_below, equal_places, item_first, none_below}
+use Rattle.vr_altkey.proofs.CallerLemmas.{same_items}
 
 -- each item with its length alone
 abbrev pub outlined : Placed → Placed
@@ -48,6 +50,35 @@ outline_lengths (placed ∷ content) place =
     by_order Less further = further
     by_order Equal further = refl
     by_order Greater further = further
+
+pub outline_ascends : (content : Content) → Ascends content → Ascends (outline content)
+outline_ascends content ascends =
+    subst (IsStrictlySortedBy place_cmp) (sym (outline_places content)) ascends
+
+outline_item : (content : Content) (place : List ℕ)
+    → item_at (outline content) place ≡ option_map Withdrawn (length_at content place)
+outline_item [] place = refl
+outline_item (placed ∷ content) place =
+    by_order (place_cmp place placed.0) (outline_item content place)
+  where
+    by_order : (order : Ordering)
+        → item_at (outline content) place ≡ option_map Withdrawn (length_at content place)
+        → found_by order (Some (Withdrawn (length_of placed.1))) (item_at (outline content) place) ≡
+        option_map Withdrawn
+        (option_map length_of (found_by order (Some placed.1) (item_at content place)))
+    by_order Less further = further
+    by_order Equal further = refl
+    by_order Greater further = further
+
+-- contents that ascend with items of the same lengths at each place have one outline
+pub one_outline : (content other : Content) → Ascends content → Ascends other
+    → ((place : List ℕ) → length_at content place ≡ length_at other place)
+    → outline content ≡ outline other
+one_outline content other ascends ascends' same =
+    same_items (outline content) (outline other) (outline_ascends content ascends)
+    (outline_ascends other ascends')
+    (λ place. outline_item content place
+    ∙ (ap (option_map Withdrawn) (same place) ∙ sym (outline_item other place)))
 
 -- the next address is that of the outline
 last_outlined : (content : Content) → last_item (outline content) ≡ option_map outlined
@@ -133,34 +164,74 @@ next_outlined size content new =
     ap (next_after size (outline content) new) (last_outlined content)
     ∙ after_outlined size content new (last_item content)
 
+-- an item follows those before it where it follows their outlines
+later_outline : (size interval : ℕ) (last : Option Placed) → IsLater size last interval
+    → IsLater size (option_map outlined last) interval
+later_outline size interval None later = later
+later_outline size interval (Some last) later = later
+
+outline_later : (size interval : ℕ) (last : Option Placed)
+    → IsLater size (option_map outlined last) interval → IsLater size last interval
+outline_later size interval None later = later
+outline_later size interval (Some last) later = later
+
+-- the place of an item of this length after those before it
+abbrev FollowsAt : Geometry → Content → ℕ → List ℕ → Type 0
+FollowsAt geometry before new place = (place ≡ to_be_bytes w32
+    (next_address geometry.size before new)) ⊎ BeginsLater geometry before place
+
+at_outline : (geometry : Geometry) (before : Content) (new : ℕ) (place : List ℕ)
+    → FollowsAt geometry before new place → FollowsAt geometry (outline before) new place
+at_outline geometry before new place (inl next) =
+    inl (next ∙ ap (to_be_bytes w32) (sym (next_outlined geometry.size before new)))
+at_outline geometry before new place (inr begins) = inr (record {
+  interval = begins.interval;
+  within = begins.within;
+  later = subst (λ (last : Option Placed). IsLater geometry.size last begins.interval)
+      (sym (last_outlined before))
+      (later_outline geometry.size begins.interval (last_item before) begins.later);
+  at = begins.at;
+})
+
+outline_at : (geometry : Geometry) (before : Content) (new : ℕ) (place : List ℕ)
+    → FollowsAt geometry (outline before) new place → FollowsAt geometry before new place
+outline_at geometry before new place (inl next) =
+    inl (next ∙ ap (to_be_bytes w32) (next_outlined geometry.size before new))
+outline_at geometry before new place (inr begins) = inr (record {
+  interval = begins.interval;
+  within = begins.within;
+  later = outline_later geometry.size begins.interval (last_item before)
+      (subst (λ (last : Option Placed). IsLater geometry.size last begins.interval)
+      (last_outlined before) begins.later);
+  at = begins.at;
+})
+
 pub addressed_outline : (geometry : Geometry) (before content : Content)
-    → AreNext geometry before content → AreNext geometry (outline before) (outline content)
-addressed_outline geometry before [] next = tt
-addressed_outline geometry before (placed ∷ content) next = (
+    → AllFollow geometry before content → AllFollow geometry (outline before) (outline content)
+addressed_outline geometry before [] follow = tt
+addressed_outline geometry before (placed ∷ content) follow = (
   record {
-    at = next.0.at ∙ ap (to_be_bytes w32)
-        (sym (next_outlined geometry.size before (length_of placed.1)));
-    ends = next.0.ends;
-    some = next.0.some;
+    at = at_outline geometry before (length_of placed.1) placed.0 follow.0.at;
+    ends = follow.0.ends;
+    some = follow.0.some;
   },
-  subst (λ (c : Content). AreNext geometry c (outline content))
+  subst (λ (c : Content). AllFollow geometry c (outline content))
       (map-append outlined before (placed ∷ []))
-      (addressed_outline geometry (before ++ placed ∷ []) content next.1),
+      (addressed_outline geometry (before ++ placed ∷ []) content follow.1),
 )
 
 pub outline_addressed : (geometry : Geometry) (before content : Content)
-    → AreNext geometry (outline before) (outline content) → AreNext geometry before content
-outline_addressed geometry before [] next = tt
-outline_addressed geometry before (placed ∷ content) next = (
+    → AllFollow geometry (outline before) (outline content) → AllFollow geometry before content
+outline_addressed geometry before [] follow = tt
+outline_addressed geometry before (placed ∷ content) follow = (
   record {
-    at = next.0.at ∙ ap (to_be_bytes w32)
-        (next_outlined geometry.size before (length_of placed.1));
-    ends = next.0.ends;
-    some = next.0.some;
+    at = outline_at geometry before (length_of placed.1) placed.0 follow.0.at;
+    ends = follow.0.ends;
+    some = follow.0.some;
   },
   outline_addressed geometry (before ++ placed ∷ []) content
-      (subst (λ (c : Content). AreNext geometry c (outline content))
-      (sym (map-append outlined before (placed ∷ []))) next.1),
+      (subst (λ (c : Content). AllFollow geometry c (outline content))
+      (sym (map-append outlined before (placed ∷ []))) follow.1),
 )
 
 -- an item put in over one of its length changes no outline

@@ -1,8 +1,8 @@
 -- What holds of the addresses of an entry-sequenced data set over a history (DFSMS Using Data Sets,
 -- relative byte addresses): a record keeps its address, also once it is withdrawn. That no address
 -- is given again is this project's own rule.
-use Rattle.std.specs.Prelude.{◌≡◌, ◌<◌, ◌*◌, ℕ, List, [], ◌∷◌, ◌++◌, Option, Some, ◌==◌, All, map}
-use Rattle.std.specs.Prelude.{flat_map, nat_eq, option_map, option_to_list, if◌then◌else◌}
+use Rattle.std.specs.Prelude.{◌≡◌, ◌⊎◌, ◌<◌, ◌*◌, ℕ, List, [], ◌∷◌, ◌++◌, Option, Some, None, ◌==◌}
+use Rattle.std.specs.Prelude.{All, map, flat_map, nat_eq, option_map, option_to_list, if◌then◌else◌}
 use Rattle.std.specs.Int.{w32, to_be_bytes}
 use Rattle.std.specs.List.{IsDistinct}
 use Rattle.vr_catalog.specs.Catalog.{definition_of}
@@ -18,7 +18,8 @@ use Rattle.vr_types.specs.declared.unit.Kind.TheVariants.{Entry as EntrySequence
 use Rattle.vr_history.specs.declared.entry.Entry.{Entry}
 use Rattle.vr_history.specs.declared.entry.What.{What}
 use Rattle.vr_history.specs.declared.entry.What.TheVariants.{Asked, Undone, Claimed, Split, Faulted}
-use Rattle.vr_history.specs.Address.{last_interval, length_of, next_address, number_of}
+use Rattle.vr_history.specs.Address.{last_interval, last_item, length_of, next_address}
+use Rattle.vr_history.specs.Address.{number_of}
 use Rattle.vr_history.specs.Legal.{AreSteps}
 use Rattle.vr_history.specs.Opened.{catalog_of}
 use Rattle.vr_history.specs.State.{Owned, State, opening_state}
@@ -51,21 +52,38 @@ address_in part (Faulted fault) = []
 abbrev pub addresses_given : ℕ → List Entry → List (List ℕ)
 addresses_given part entries = flat_map (λ entry. address_in part entry.what) entries
 
--- an item stands where the next record went after those before it, and ends within the areas
-pub record IsNext (geometry : Geometry) (before : Content) (placed : Placed) : Type 0 where
-  pub at : placed.0 ≡ to_be_bytes w32 (next_address geometry.size before (length_of placed.1))
+-- the interval comes after the one in which the last item ends, if there is one
+abbrev pub IsLater : ℕ → Option Placed → ℕ → Type 0
+IsLater size None interval = Unit {0}
+IsLater size (Some last) interval =
+    last_interval size (number_of last.0) (length_of last.1) < interval
+
+-- an interval of the volume's areas begins at the place, later than those of the items before it
+pub record BeginsLater (geometry : Geometry) (before : Content) (place : List ℕ) : Type 0 where
+  pub interval : ℕ
+  pub within : interval < area_count geometry * geometry.area
+  pub later : IsLater geometry.size (last_item before) interval
+  pub at : place ≡ to_be_bytes w32 (interval * geometry.size)
+
+-- An item stands where the next record went after those before it, or where a later interval
+-- begins, and ends within the areas. Intervals are missing where a crash lost the block of records
+-- whose unit had not ended, and kept a later one. A block is written whole: within an interval the
+-- items follow one another from its start.
+pub record Follows (geometry : Geometry) (before : Content) (placed : Placed) : Type 0 where
+  pub at : (placed.0 ≡ to_be_bytes w32 (next_address geometry.size before (length_of placed.1)))
+      ⊎ BeginsLater geometry before placed.0
   pub ends : last_interval geometry.size (number_of placed.0) (length_of placed.1) < area_count
       geometry * geometry.area
   pub some : 0 < length_of placed.1
 
-abbrev pub AreNext : Geometry → Content → Content → Type 0
-AreNext geometry before [] = Unit {0}
-AreNext geometry before (placed ∷ rest) = IsNext geometry before placed
-    × AreNext geometry (before ++ placed ∷ []) rest
+abbrev pub AllFollow : Geometry → Content → Content → Type 0
+AllFollow geometry before [] = Unit {0}
+AllFollow geometry before (placed ∷ rest) = Follows geometry before placed
+    × AllFollow geometry (before ++ placed ∷ []) rest
 
--- the items of an entry-sequenced data set, each where it went as it was added
+-- the items of an entry-sequenced data set, in the order in which they were added
 abbrev pub AreAddressed : Geometry → Content → Type 0
-AreAddressed geometry content = AreNext geometry [] content
+AreAddressed geometry content = AllFollow geometry [] content
 
 -- each owned area is one of the volume's, and has one part
 pub record AreOwned (geometry : Geometry) (owned : List Owned) : Type 0 where

@@ -92,7 +92,8 @@ pub fn backed_out_changes_nothing()
 /// history are those of the opening and then those that its entries gave, in their order (`kept`);
 /// no two of them are one (`apart`); and what the history leaves is in order again, so that the
 /// volume's next history goes on from there (`in_order`). An empty data set is in order (`empty`).
-/// The catalog has the data set as an entry-sequenced one throughout.
+/// An opening may lack whole intervals before later ones, as a crash can leave the data set. The
+/// catalog has it as an entry-sequenced one throughout.
 pub fn addresses_never_again()
     ensures kept { (geometry : Geometry) (part : ℕ) (contents : ℕ → Content) (owned : List Owned)
         (entries : List Entry)

@@ -2,6 +2,8 @@
 
 -- which shapes a catalog lays, and the number of each
 pub use Rattle.vr_recover.proofs.Shapes.{laid-cases, shape-number}
+-- the order of addresses in what an image is recovered to
+pub use Rattle.vr_recover.proofs.Addressed.{entry-addressed, recovered-addressed}
 -- what is settled as a crash comes is an item of what is opened; and what a volume is opened with is
 -- one where a crash comes while it is opened
 pub use Rattle.vr_recover.proofs.Outliving.{outlives-crash, outlives-opening}

@@ -22,3 +22,5 @@ pub mod Refusals
 pub mod Clearing
 pub mod OpenLemmas
 pub mod Outliving
+pub mod Addressed
+pub mod Logs

@@ -19,3 +19,5 @@ pub use Rattle.vr_volume.proofs.PuttingBack.{left-stands}
 pub use Rattle.vr_volume.proofs.Among.{AreSome, keep-less, kept-among, some-skip}
 -- a record may go back where one of its length is kept
 pub use Rattle.vr_volume.proofs.Befores.{goes-back}
+-- what the blocks of an entry-sequenced part stand for is in the order of addresses
+pub use Rattle.vr_volume.proofs.Addressed.{stands-addressed}

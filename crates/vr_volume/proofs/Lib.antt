@@ -26,4 +26,5 @@ pub mod EndCalls
 pub mod ForceCalls
 pub mod Lasting
 pub mod Crashing
+pub mod Addressed
 pub mod CallerLemmas
