@@ -111,7 +111,7 @@ module _ (geometry : Geometry) (state : State) (unit : UnitOfRecovery) where
   back-keeps None keeps = refl
   back-keeps (Some kept) keeps = change-keeps (change_back state kept) state.contents keeps.0
 
-  entry-keeps : (stamp : ℕ) (what : What)
+  pub entry-keeps : (stamp : ℕ) (what : What)
       → AllByRecursion IsOffCatalog (place_changes geometry state unit what)
       → (after_what geometry state unit stamp what).contents 0
       ≡ state.contents 0

@@ -21,3 +21,4 @@ pub mod Devices
 pub mod Shown
 pub mod Codes
 mod Moved
+mod Addresses
