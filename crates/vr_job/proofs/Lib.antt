@@ -22,3 +22,4 @@ pub mod Shown
 pub mod Codes
 mod Moved
 mod Addresses
+mod Logging

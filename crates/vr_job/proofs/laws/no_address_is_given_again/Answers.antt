@@ -1,6 +1,12 @@
 use Rattle.vr_recover.proofs.CallerLemmas.{outlives-crash, outlives-opening}
-use Rattle.vr_job.proofs.Addresses.{never-given, run-contents}
+use Rattle.vr_job.proofs.Addresses.{never-given, run-contents, settled-then}
 use Rattle.vr_job.proofs.laws.no_address_is_given_again.Goals as goal
+
+pub returns-clause-settles : goal.returns-clause-settles
+returns-clause-settles g c number catalog end entries old ended new run before after both part is
+    place held unlogged counted =
+    settled-then g.D.BlockDevice.tells g.D.BlockDevice.seen g.D.BlockDevice.faults number catalog end
+    entries old ended new run before after both part is place held unlogged counted
 
 pub returns-clause-crash : goal.returns-clause-crash
 returns-clause-crash g c number catalog end entries old ended new run state counted is part place
