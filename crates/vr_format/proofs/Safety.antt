@@ -20,11 +20,12 @@ use Rattle.vr_attach.specs.Laid.{ReachesArea, shape_in}
 use Rattle.vr_attach.specs.Owning.{owner_of}
 use Rattle.vr_log.specs.Content.{Content as LogContent}
 use Rattle.vr_history.specs.State.{BeforeImage}
+use Rattle.vr_undo.proofs.CallerLemmas.{stands-same}
 use Rattle.vr_volume.specs.Laid.{catalog_shape, shape_by}
-use Rattle.vr_volume.specs.PutBack.{standing_of}
+use Rattle.vr_volume.specs.PutBack.{standing, standing_of}
 use Rattle.vr_volume.specs.Safe.{IsImageSafe}
 use Rattle.vr_volume.specs.Volume.{CanPutBack, IsInside, Recovers}
-use Rattle.vr_volume.proofs.Recovering.{image_recovers}
+use Rattle.vr_volume.proofs.CallerLemmas.{image_recovers, recovers-same}
 use Rattle.vr_mount.specs.Areas.{AreFirstOwners, AreOn, AreOwners, BeginsWith, EndsBefore}
 use Rattle.vr_mount.specs.Areas.{catalog_part, part_of}
 use Rattle.vr_mount.specs.Marks.{marked}
@@ -174,13 +175,16 @@ module _ (geometry : Geometry) (number : ℕ) (entries : List CatEntry) (image :
         content = contents part;
         stands = formatted.laid part shape is;
         within = within.within part shape is;
-        each = λ place none. recorded (nat_eq part 0) place;
+        each = λ place none. refl;
       };
       room = part-fits shape image (contents part) (formatted.laid part shape is);
     };
   }
 
   pub formatted-recovers : Recovers geometry number image contents
-  formatted-recovers =
-      image_recovers geometry number (owner_of geometry owned.0) image no_log contents
-      formatted-safe
+  formatted-recovers = recovers-same geometry number image
+      (λ (part : ℕ). standing (contents part)) contents
+      (λ part. sym (stands-same (contents part) (each-by (nat_eq part 0))
+      (recorded (nat_eq part 0))))
+      (image_recovers geometry number (owner_of geometry owned.0) image no_log contents
+      formatted-safe).recovers

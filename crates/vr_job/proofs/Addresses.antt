@@ -69,6 +69,7 @@ areas-above from (Some part ∷ owners) area below = (
 
 areas-once : (from : ℕ) (owners : List (Option PartNo))
     → IsDistinct nat_eq (map (λ (this : Owned). this.area) (owned_from from owners))
+unfolding IsDistinct
 areas-once from [] = tt
 areas-once from (None ∷ owners) = areas-once (from + 1) owners
 areas-once from (Some part ∷ owners) =
@@ -108,30 +109,34 @@ some-item item same = cc
 item-place : (content : Content) (place : List ℕ) → HasItem content place
     → Contains (places_of content) place
 item-place [] place has = absurd (has refl)
-item-place (placed ∷ content) place has = by_test (bytes_eq place placed.0) refl
+item-place (placed ∷ content) place has =
+    by_test (bytes_eq place placed.0) refl (item-place content place)
   where
     by_test : (test : Bool) → bytes_eq place placed.0 ≡ test
+        → (HasItem content place → Contains (places_of content) place)
         → Contains (places_of (placed ∷ content)) place
-    by_test true is = (0, omega arith, sym ((bytes_eq-Decides place placed.0).0 is))
-    by_test false is =
-        let further = item-place content place (λ none. has (item_first placed content place
+    by_test true is further = (0, omega arith, sym ((bytes_eq-Decides place placed.0).0 is))
+    by_test false is further =
+        let there = further (λ none. has (item_first placed content place
         ∙ ap (λ (same : Bool). cond same (Some placed.1) (item_at content place)) is ∙ none)) in
-        (suc further.0, omega (arith, further.1), further.2)
+        (suc there.0, omega (arith, there.1), there.2)
 
 -- and at each of them it has one
 place-item : (content : Content) (place : List ℕ) → Contains (places_of content) place
     → HasItem content place
 place-item [] place there none = absurd (omega (arith, there.1))
-place-item (placed ∷ content) place there none = by_test (bytes_eq place placed.0) refl
+place-item (placed ∷ content) place there none =
+    by_test (bytes_eq place placed.0) refl (place-item content place)
   where
     item-by : (test : Bool) → bytes_eq place placed.0 ≡ test
         → cond test (Some placed.1) (item_at content place) ≡ None
     item-by test is = sym (item_first placed content place
         ∙ ap (λ (same : Bool). cond same (Some placed.1) (item_at content place)) is) ∙ none
 
-    by_test : (test : Bool) → bytes_eq place placed.0 ≡ test → ⊥
-    by_test true is = some-item placed.1 (item-by true is)
-    by_test false is = place-item content place
+    by_test : (test : Bool) → bytes_eq place placed.0 ≡ test
+        → (Contains (places_of content) place → HasItem content place) → ⊥
+    by_test true is further = some-item placed.1 (item-by true is)
+    by_test false is further = further
         (Contains-tail placed.0 (places_of content) place
         (λ same. true≢false (sym ((bytes_eq-Decides place placed.0).1 (sym same)) ∙ is)) there)
         (item-by false is)

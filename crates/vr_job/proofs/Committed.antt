@@ -40,7 +40,7 @@ use Rattle.vr_volume.specs.Committed.{has_commit, kept_by}
 use Rattle.vr_volume.specs.Crashes.{committed_with, is_among, kept_but}
 use Rattle.vr_volume.specs.Volume.{Recovers}
 use Rattle.vr_volume.specs.PutBack.{put_back, standing}
-use Rattle.vr_volume.proofs.Histories.{committed-everywhere}
+use Rattle.vr_volume.proofs.Histories.{committed-everywhere, record-back}
 use Rattle.vr_job.specs.Committed.{HasCommitted, IsOffCatalog, KeepTheCatalog, KeepsCatalog}
 use Rattle.vr_job.proofs.Ascending.{AllAscend, history-ascends}
 use Rattle.vr_job.proofs.Effects.{IsDone, IsEnded, IsMade, done-is, ends, raised, refused-stays}
@@ -470,12 +470,13 @@ module _ (geometry : Geometry) (contents : ℕ → Content) (owned : List Owned)
       ap (λ (them : List BeforeImage).
       record_now (λ (p : ℕ). put_back p them (standing (end.contents p))) part place)
       (sym (kept-same counted end.befores))
+      ∙ record-back part (kept_by (commits-of counted) end.befores) (end.contents part) place
+      (history-ascends geometry opening entries ascend part)
       ∙ committed-everywhere geometry contents owned entries counted (commits-of counted) part steps
       (part-throughout geometry part (is_counted counted entries) (contents 0) has opening contents
       entries refl refl keep)
       (count-alike counted end.befores (all-now geometry opening entries steps tt)
-      (from-one end.befores (all-now geometry opening entries steps tt)))
-      (history-ascends geometry opening entries ascend part) place
+      (from-one end.befores (all-now geometry opening entries steps tt))) place
 
   pub has-committed : (number : ℕ) (catalog : List CatEntry) → catalog ≡ entries_in (contents 0)
       → KeepTheCatalog geometry opening entries → (counted : List UnitOfRecovery) (image : Image)

@@ -174,7 +174,7 @@ module _ (geometry : Geometry) (number : ℕ) (old new : Image) (recovered : ℕ
       same n (λ logged. omega (arith, is.stands.past n (part_no shape).0 own, logged.1)) below
 
   -- it recovers to the same, by the same log and what the blocks had
-  abbrev pub moved-recovers : Recovers geometry number new recovered
+  pub moved-recovers : Recovers geometry number new recovered
   moved-recovers = record {
     log = is.log;
     contents = is.contents;
@@ -203,11 +203,12 @@ module _ (geometry : Geometry) (number : ℕ) (old new : Image) (recovered : ℕ
   }
 
 -- and keeps what it kept
-pub moved-keeps : (geometry : Geometry) (number : ℕ) (old new : Image) (images : List BeforeImage)
-    (contents : ℕ → Content) (is : KeepsAll geometry number images contents old)
+pub moved-keeps : (geometry : Geometry) (number : ℕ) (old new : Image) (were : List BeforeImage)
+    (contents : ℕ → Content) (is : KeepsAll geometry number were contents old)
     → IsAllowed geometry → AreOffLog geometry old new → Spells geometry new is.log
-    → KeepsAll geometry number images contents new
-moved-keeps geometry number old new images contents is allowed same spelled = record {
+    → KeepsAll geometry number were contents new
+unfolding moved-recovers
+moved-keeps geometry number old new were contents is allowed same spelled = record {
   log = is.log;
   items = record {
     recovers = moved-recovers geometry number old new (standing_all contents) is.items.recovers

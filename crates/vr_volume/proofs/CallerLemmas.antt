@@ -11,8 +11,8 @@ pub use Rattle.vr_volume.proofs.Committing.{shape-same}
 pub use Rattle.vr_volume.proofs.PuttingBack.{back-item, back-record, records-ascend}
 pub use Rattle.vr_volume.proofs.Histories.{record-back}
 -- a safe image recovers to the records of what is committed by its log, and has the items of that
--- where nothing is put back
-pub use Rattle.vr_volume.proofs.Recovering.{image_recovers}
+-- where nothing is put back; and one recovers to contents that are the same
+pub use Rattle.vr_volume.proofs.Recovering.{image_recovers, recovers-same}
 -- the record that a call leaves at a place is the one that it gives
 pub use Rattle.vr_volume.proofs.PuttingBack.{left-stands}
 -- each length that is kept of fewer before-images is one that was kept

@@ -17,7 +17,6 @@ use Rattle.vr_space.specs.Owners.{Owners}
 use Rattle.vr_log.specs.Content.{Content as LogContent}
 use Rattle.vr_log.specs.LogNow.{IsLogOf, LogNow}
 use Rattle.vr_log.specs.Standing.{LogStands}
-use Rattle.vr_log.specs.declared.record.LogRecord.{LogRecord}
 use Rattle.vr_history.specs.Committed.{kept_or}
 use Rattle.vr_history.specs.State.{BeforeImage, Logged, State}
 use Rattle.vr_space.specs.Part.{Shape, part_no}

@@ -22,7 +22,7 @@ use Rattle.vr_volume.specs.Laid.{shape_by}
 use Rattle.vr_volume.specs.PutBack.{images_of, oldest, put_back, lengths_kept}
 use Rattle.vr_volume.specs.PutBack.{standing, standing_of}
 use Rattle.vr_volume.specs.Safe.{IsImageSafe, IsItemOf, IsPartIn, IsPartSafe, IsSafe, IsSafeImage}
-use Rattle.vr_volume.specs.Volume.{RecoversItems, shapes_by}
+use Rattle.vr_volume.specs.Volume.{Recovers, RecoversItems, shapes_by}
 use Rattle.vr_volume.proofs.Committing.{backs-by}
 use Rattle.vr_volume.proofs.PuttingBack.{back-record, records-ascend}
 use Rattle.vr_volume.proofs.RecordsLaid.{catalog-stands, shape-stands}
@@ -138,6 +138,21 @@ module _ (geometry : Geometry) (number : ℕ) (owners : Owners) (image : Image) 
     items = λ part place none.
         item-held part (shape_by geometry (committed 0) part) refl place none;
   }
+
+-- A volume recovers to contents that are the same, part by part.
+pub recovers-same : (geometry : Geometry) (number : ℕ) (image : Image)
+    (recovered other : ℕ → Content) → ((part : ℕ) → other part ≡ recovered part)
+    → Recovers geometry number image recovered → Recovers geometry number image other
+recovers-same geometry number image recovered other same is = record {
+  log = is.log;
+  contents = is.contents;
+  stands = is.stands;
+  inside = is.inside;
+  images = is.images;
+  alone = is.alone;
+  room = is.room;
+  back = λ part. same part ∙ is.back part;
+}
 
 -- ---- what a crash may leave
 

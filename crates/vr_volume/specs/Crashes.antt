@@ -1,7 +1,7 @@
 -- What an image recovers to that a crash leaves while units of recovery are under way: the records
 -- of a state of the record file, with the before-images put back of the units that don't count yet.
 -- A unit counts once its commit is in the log. What was withdrawn is no record; but at each place
--- that no unit has logged it stays withdrawn, so that an address that was given is never given
+-- that no unit has logged it stays withdrawn, since an address that was given is not to be given
 -- again (DFSMS Using Data Sets, entry-sequenced data sets). The rules are this project's own.
 use Rattle.std.specs.Prelude.{◌≡◌, ◌≢◌, ℕ, Bool, not, List, All, Some, None, filter}
 use Rattle.std.specs.List.{list_any}

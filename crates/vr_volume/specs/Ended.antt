@@ -20,8 +20,8 @@ abbrev pub ended : LogNow → UnitOfRecovery → EndKind → List LogRecord
 ended log unit kind = log.records ++ End unit kind ∷ []
 
 -- The contents with the end are committed ones, of parts that were laid before; and whatever a
--- crash may leave of them has, off the places of other units, the records of these contents alone.
--- So the blocks that the unit changed were forced.
+-- crash may leave of them has, off the places of other units, the items of these contents alone,
+-- withdrawn or not. So the blocks that the unit changed were forced.
 pub record IsEndOf (geometry : Geometry) (log : LogNow) (committed : List LogRecord → ℕ → Content)
     (unit : UnitOfRecovery) (kind : EndKind) (now : Seen) : Type 0 where
   pub forced : log.forced ≤ length log.records
