@@ -157,7 +157,8 @@ module _ (geometry : Geometry) (state : State) (unit : UnitOfRecovery) (are : Ar
       logged-done request _ (done-is geometry state unit request feedback place bytes)
   logged-entry stamp (Asked request (Refused refusal)) =
       let stays = refused-stays geometry state unit request (Refused refusal) refusal refl in
-      logged-same state _ stays.befores stays.logged are
+      logged-same state (after_what geometry state unit stamp (Asked request (Refused refusal)))
+      stays.befores stays.logged are
   logged-entry stamp (Undone part place) = logged-back (last_kept state unit)
   logged-entry stamp (Claimed part area) = are
   logged-entry stamp (Split part) = are
@@ -187,16 +188,16 @@ module _ (part : ℕ) (place : List ℕ) where
     where
       apart : (b : Bool) → is_image_of part place kept ≡ b → is_log_of kept log ≡ true
           → is_image_of part place kept ≡ false
-      apart false no here = no
-      apart true yes here =
+      apart false is_not here = is_not
+      apart true is_so here =
           let both = second_holds (same_unit kept.unit log.unit) _ here in
           absurd (off.0
           (nat_same log.part kept.part (first_holds (log.part == kept.part) _ both)
-          ∙ nat_same kept.part part (first_holds (kept.part == part) _ yes))
+          ∙ nat_same kept.part part (first_holds (kept.part == part) _ is_so))
           (sym ((bytes_eq-Decides kept.place log.place).0
           (second_holds (log.part == kept.part) _ both))
           ∙ sym ((bytes_eq-Decides place kept.place).0
-          (second_holds (kept.part == part) _ yes))))
+          (second_holds (kept.part == part) _ is_so))))
 
       by_test : (b : Bool) → is_log_of kept log ≡ b
           → (b || list_any (is_log_of kept) logged) ≡ true
