@@ -1,14 +1,14 @@
 -- Over a history each before-image that a unit keeps is of a place that it has logged: so no
 -- before-image is of a place that no live unit has logged, and what is there is settled.
-use Rattle.std.proofs.Common.{◌≡◌, ◌≢◌, ◌∙◌, ◌==◌, ◌&&◌, ◌||◌, ℕ, Bool, true, false, cond, List, []}
-use Rattle.std.proofs.Common.{◌∷◌, ◌++◌, Option, Some, None, ap, bytes_eq, filter, find, inl, inr}
+use Rattle.std.proofs.Common.{◌≡◌, ◌≢◌, ◌∙◌, ◌==◌, ◌||◌, ℕ, Bool, true, false, cond, List, []}
+use Rattle.std.proofs.Common.{◌∷◌, ◌++◌, Option, Some, None, ap, filter, find, inl, inr}
 use Rattle.std.proofs.Common.{not, refl, subst, sym}
 use Rattle.std.specs.List.{AllByRecursion, list_any}
 use Rattle.std.specs.Option.{option_map_or}
 use Rattle.std.proofs.lemmas.Bool.{false≢true}
 use Rattle.std.proofs.lemmas.List.Elements.{recursion_from_All}
 use Rattle.std.proofs.lemmas.Slice.Eq.{bytes_eq-Decides}
-use Rattle.vr_types.specs.Content.{Ascends, Content, Item, Standing, Withdrawn, item_at}
+use Rattle.vr_types.specs.Content.{Ascends, Item, Standing, Withdrawn, item_at}
 use Rattle.vr_types.specs.Locks.{same_unit}
 use Rattle.vr_types.specs.declared.geometry.Geometry.{Geometry}
 use Rattle.vr_types.specs.declared.reply.Reply.TheVariants.{Done, Refused}
@@ -24,12 +24,12 @@ use Rattle.vr_history.specs.declared.entry.Entry.{Entry}
 use Rattle.vr_history.specs.declared.entry.What.{What}
 use Rattle.vr_history.specs.declared.entry.What.TheVariants.{Asked, Undone, Claimed, Split, Faulted}
 use Rattle.vr_history.proofs.Same.{first_holds, nat_same, second_holds, unit_same}
-use Rattle.vr_volume.specs.Crashes.{IsUnlogged, committed_with, is_among, kept_but}
+use Rattle.vr_volume.specs.Crashes.{IsUnlogged, is_among, kept_but}
 use Rattle.vr_volume.specs.PutBack.{is_image_of, oldest, standing_of}
 use Rattle.vr_volume.proofs.CallerLemmas.{back-record}
 use Rattle.vr_recover.specs.Addresses.{HasItem, IsSettledAt}
 use Rattle.vr_job.proofs.Committed.{all-but-last, all-cond, all-left, all-push}
-use Rattle.vr_job.proofs.Effects.{IsDone, IsEnded, IsMade, Stays, any-left, done-is, is_log_at}
+use Rattle.vr_job.proofs.Effects.{IsDone, IsEnded, IsMade, any-left, done-is, is_log_at}
 use Rattle.vr_job.proofs.Effects.{or-right, refused-stays}
 use Rattle.vr_job.proofs.Effects.IsDone.{DoneChange, DoneEnd, DoneNothing}
 use Rattle.vr_job.proofs.Effects.MadeOr.{NoChange, OneChange}

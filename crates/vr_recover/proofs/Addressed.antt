@@ -2,7 +2,7 @@
 -- part: putting before-images back moves no item, and changes the length of none.
 use Rattle.std.proofs.Common.{◌≡◌, ◌⊎◌, inl, inr, ◌==◌, ℕ, Bool, true, false, Option, Some, None, List, [], ◌∷◌}
 use Rattle.std.proofs.Common.{length, refl}
-use Rattle.std.proofs.Common.{sym, ap, subst, ◌∙◌, true≢false, ◌<◌, ◌≤◌}
+use Rattle.std.proofs.Common.{sym, ap, subst, ◌∙◌, true≢false, ◌<◌}
 use Rattle.std.specs.Prelude.{cond}
 use Rattle.std.specs.Option.{option_and_then, option_map}
 use Rattle.vr_types.specs.Content.{Ascends, Content, Item, Standing, Withdrawn, record_of}

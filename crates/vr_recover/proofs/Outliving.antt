@@ -8,7 +8,7 @@ use Rattle.vr_types.specs.declared.geometry.Geometry.{Geometry}
 use Rattle.vr_types.specs.declared.unit.Unit.{Unit as UnitOfRecovery}
 use Rattle.vr_history.specs.State.{BeforeImage, State}
 use Rattle.vr_log.specs.Content.{Content as LogContent}
-use Rattle.vr_space.specs.Part.{Shape, item_of}
+use Rattle.vr_space.specs.Part.{item_of}
 use Rattle.vr_undo.proofs.CallerLemmas.{stands-item}
 use Rattle.vr_volume.specs.Crashes.{RecoversTo, committed_with}
 use Rattle.vr_volume.specs.PutBack.{images_of, oldest, put_back, standing, standing_of}
