@@ -111,7 +111,7 @@ module _ (geometry : Geometry) (state : State) (unit : UnitOfRecovery) where
   back-keeps None keeps = refl
   back-keeps (Some kept) keeps = change-keeps (change_back state kept) state.contents keeps.0
 
-  entry-keeps : (stamp : ℕ) (what : What)
+  pub entry-keeps : (stamp : ℕ) (what : What)
       → AllByRecursion IsOffCatalog (place_changes geometry state unit what)
       → (after_what geometry state unit stamp what).contents 0
       ≡ state.contents 0
@@ -163,17 +163,17 @@ all-left P test (x ∷ xs) are = by_test (test x) (all-left P test xs are.1)
     by_test true rest = (are.0, rest)
     by_test false rest = rest
 
-all-push : {X : Type 0} (P : X → Type 0) (xs : List X) (x : X) → AllByRecursion P xs → P x
+pub all-push : {X : Type 0} (P : X → Type 0) (xs : List X) (x : X) → AllByRecursion P xs → P x
     → AllByRecursion P (xs ++ x ∷ [])
 all-push P [] x are is = (is, tt)
 all-push P (y ∷ xs) x are is = (are.0, all-push P xs x are.1 is)
 
-all-cond : {X : Type 0} (P : X → Type 0) (b : Bool) (xs ys : List X) → AllByRecursion P xs
+pub all-cond : {X : Type 0} (P : X → Type 0) (b : Bool) (xs ys : List X) → AllByRecursion P xs
     → AllByRecursion P ys → AllByRecursion P (cond b xs ys)
 all-cond P true xs ys one other = one
 all-cond P false xs ys one other = other
 
-all-but-last : (P : BeforeImage → Type 0) (unit : UnitOfRecovery) (befores : List BeforeImage)
+pub all-but-last : (P : BeforeImage → Type 0) (unit : UnitOfRecovery) (befores : List BeforeImage)
     → AllByRecursion P befores → AllByRecursion P (without_last unit befores)
 all-but-last P unit [] are = tt
 all-but-last P unit (kept ∷ befores) are =

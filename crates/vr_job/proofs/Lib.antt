@@ -24,3 +24,5 @@ pub mod Devices
 pub mod Shown
 pub mod Codes
 mod Moved
+mod Addresses
+mod Logging

@@ -19,7 +19,7 @@ use Rattle.vr_job.proofs.Committed.{has-committed}
 use Rattle.vr_job.proofs.Keeping.{keep-first}
 
 -- the first entries of legal steps are legal steps
-steps-first : (geometry : Geometry) (state : State) (entries more : List Entry)
+pub steps-first : (geometry : Geometry) (state : State) (entries more : List Entry)
     → AreSteps geometry state (entries ++ more) → AreSteps geometry state entries
 steps-first geometry state [] more steps = tt
 steps-first geometry state (entry ∷ entries) more steps =

@@ -1,18 +1,24 @@
 //! Laws of histories and of what a run leaves, each the contract of a function that does nothing.
-ghost use Rattle.std.specs.Prelude.{◌≡◌, ◌≢◌, ◌≤◌, ◌⊎◌, [], ℕ, List, None};
+ghost use Rattle.std.specs.Prelude.{◌≡◌, ◌≢◌, ◌≤◌, ◌⊎◌, [], ◌++◌, ℕ, Contains, List, None};
+ghost use Rattle.vr_types.specs.Content.{Content};
 ghost use Rattle.vr_types.specs.Image.{Image};
 ghost use Rattle.vr_types.specs.Moments.{Guards};
 ghost use Rattle.vr_types.specs.Position.{unheld};
 ghost use Rattle.vr_types.specs.Seen.{Left};
 ghost use Rattle.vr_types.specs.declared.geometry.Geometry.{Geometry};
+ghost use Rattle.vr_types.specs.declared.unit.Unit.{Unit as UnitOfRecovery};
 ghost use Rattle.vr_catalog.specs.declared.entry.CatEntry.{CatEntry};
+ghost use Rattle.vr_history.specs.Addresses.{IsEntrySequenced, addresses_given};
 ghost use Rattle.vr_history.specs.Legal.{state_of};
 ghost use Rattle.vr_history.specs.Merged.{Numbered};
-ghost use Rattle.vr_history.specs.State.{State};
+ghost use Rattle.vr_history.specs.State.{BeforeImage, State};
 ghost use Rattle.vr_history.specs.Step.{state_after};
 ghost use Rattle.vr_history.specs.declared.entry.Entry.{Entry};
 ghost use Rattle.vr_job_ends.specs.declared.job_end.End.{End};
 ghost use Rattle.vr_job_text.specs.declared.text.Step.{Step};
+ghost use Rattle.vr_recover.specs.Addresses.{HasItem, IsSettledAt, IsSettledIn};
+ghost use Rattle.vr_recover.specs.Recovered.{KeepsAll};
+ghost use Rattle.vr_volume.specs.Crashes.{IsUnlogged, RecoversTo};
 ghost use Rattle.vr_worker.specs.Decks.{IsEntered};
 ghost use Rattle.vr_worker.specs.Steps.{AreGapless};
 ghost use Rattle.vr_job.specs.Committed.{HasCommitted, IsCommittedBy, IsCommittedWhile};
@@ -48,6 +54,48 @@ pub fn leaves_what_is_committed<D: BlockDevice>()
         ≢ None) → (image : Image) → Left (D.seen new) image
         → IsCommittedWhile run.geometry number catalog (opening_of run.contents run.owners)
         (run.stopped stops).before (run.stopped stops).made image }
+{}
+
+/// An entry-sequenced address that was given is never given again, once the unit that added its
+/// record has ended, whatever crashes come. After any first entries of a history each address at
+/// which its opening has an item, or that these entries gave, is settled where no live unit has
+/// logged it (`settles`): it has a record that is committed, or one that was withdrawn. What is
+/// settled in the state to which an image recovers as a crash comes is an item of the next opening
+/// (`crash`: `moments` and `events` of `IsRun` say which states these are). So is, where a crash
+/// comes while a volume is opened, each record of the contents that it is opened with, and what was
+/// withdrawn in them, but where its log had a before-image (`opening`). And no history gives an
+/// address at which its opening has an item, standing or withdrawn (`given`). `crash` and `opening`
+/// hold of each part, `settles` and `given` of one that the catalog has as entry-sequenced.
+pub fn no_address_is_given_again<D: BlockDevice>()
+    ensures settles { (number : ℕ) (catalog : List CatEntry) (end : End) (entries : List Entry)
+        (old ended new : D)
+        → (run : IsRun D.tells D.seen D.faults number catalog end entries old ended new)
+        → (before after : List Entry) → entries ≡ before ++ after → (part : ℕ)
+        → IsEntrySequenced part (opening_of run.contents run.owners) → (place : List ℕ)
+        → HasItem (run.contents part) place ⊎ Contains (addresses_given part before) place
+        → IsUnlogged (state_of run.geometry (opening_of run.contents run.owners) before) part place
+        → (counted : List UnitOfRecovery)
+        → IsSettledAt counted (state_of run.geometry (opening_of run.contents run.owners) before)
+        part place }
+    ensures crash { (number : ℕ) (catalog : List CatEntry) (end : End) (entries : List Entry)
+        (old ended new : D)
+        → (run : IsRun D.tells D.seen D.faults number catalog end entries old ended new)
+        → (state : State) (counted : List UnitOfRecovery)
+        → RecoversTo run.geometry number state counted (D.seen old).cur → (part : ℕ)
+        (place : List ℕ) → IsSettledAt counted state part place → HasItem (run.contents part) place }
+    ensures opening { (number : ℕ) (catalog : List CatEntry) (end : End) (entries : List Entry)
+        (old ended new : D)
+        → (run : IsRun D.tells D.seen D.faults number catalog end entries old ended new)
+        → (images : List BeforeImage) (contents : ℕ → Content)
+        → KeepsAll run.geometry number images contents (D.seen old).cur → (part : ℕ)
+        (place : List ℕ) → IsSettledIn images contents part place
+        → HasItem (run.contents part) place }
+    ensures given { (number : ℕ) (catalog : List CatEntry) (end : End) (entries : List Entry)
+        (old ended new : D)
+        → (run : IsRun D.tells D.seen D.faults number catalog end entries old ended new)
+        → (part : ℕ) → IsEntrySequenced part (opening_of run.contents run.owners)
+        → (place : List ℕ) → HasItem (run.contents part) place
+        → Contains (addresses_given part entries) place → ⊥ }
 {}
 
 /// Where no stamp is left out, each one from 1 up to that of an entry is that of an entry, on one

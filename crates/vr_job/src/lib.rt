@@ -23,7 +23,10 @@ mod shelf_run;
 mod volume_run;
 
 pub use job::run_job;
-pub use laws::{each_stamp_is_taken, leaves_what_is_committed, no_request_moves_another_file};
+pub use laws::{
+    each_stamp_is_taken, leaves_what_is_committed, no_address_is_given_again,
+    no_request_moves_another_file,
+};
 pub use opening::open;
 pub use shelf_run::{ShelfEnd, run_volumes};
 pub use vr_job_ends::{End, JobEnd, Trace};

@@ -2,12 +2,12 @@
 -- part: putting before-images back moves no item, and changes the length of none.
 use Rattle.std.proofs.Common.{◌≡◌, ◌⊎◌, inl, inr, ◌==◌, ℕ, Bool, true, false, Option, Some, None, List, [], ◌∷◌}
 use Rattle.std.proofs.Common.{length, refl}
-use Rattle.std.proofs.Common.{sym, ap, subst, ◌∙◌, true≢false, ◌<◌, ◌≤◌}
+use Rattle.std.proofs.Common.{sym, ap, subst, ◌∙◌, true≢false, ◌<◌}
 use Rattle.std.specs.Prelude.{cond}
 use Rattle.std.specs.Option.{option_and_then, option_map}
 use Rattle.vr_types.specs.Content.{Ascends, Content, Item, Standing, Withdrawn, record_of}
 use Rattle.vr_types.specs.Geometry.{area_count}
-use Rattle.vr_types.specs.Image.{Block, Image, block_at}
+use Rattle.vr_types.specs.Image.{Block, Image}
 use Rattle.vr_types.specs.declared.geometry.Geometry.{Geometry}
 use Rattle.vr_types.specs.declared.unit.AreaNo.{AreaNo}
 use Rattle.vr_types.specs.declared.unit.Kind.{Kind}
@@ -34,7 +34,6 @@ use Rattle.vr_history.specs.Addresses.{AreAddressed}
 use Rattle.vr_history.specs.State.{BeforeImage}
 use Rattle.vr_history.proofs.CallerLemmas.{lengths_addressed}
 use Rattle.vr_log.specs.Content.{Content as LogContent}
-use Rattle.vr_log.proofs.CallerLemmas.{one_log}
 use Rattle.vr_volume.specs.Laid.{shape_by}
 use Rattle.vr_volume.specs.PutBack.{AreAlone, images_of, is_image_of, lengths_kept, oldest}
 use Rattle.vr_volume.specs.Volume.{IsInside, Recovers, shapes_by}
@@ -43,6 +42,7 @@ use Rattle.vr_volume.proofs.CallerLemmas.{AreSome, shape-stands, stands-addresse
 use Rattle.vr_recover.specs.Recovered.{IsBackOf, IsRecovered, item_back, standing_all}
 use Rattle.vr_recover.specs.Undone.{IsKeptAt}
 use Rattle.vr_recover.proofs.KeptLengths.{each-some, image-kept}
+use Rattle.vr_recover.proofs.Logs.{same_log}
 use Rattle.vr_recover.proofs.PuttingBack.{found-passes}
 
 -- ---- lengths
@@ -135,12 +135,11 @@ module _ (part : Numbered) (entries : part.relative ≡ false) (image : Image) (
 -- The contents that an image is recovered to are in the order of addresses, in each entry-sequenced
 -- part that they lay.
 pub recovered-addressed : (geometry : Geometry) (number : ℕ) (contents : ℕ → Content)
-    (image : Image) → 8 ≤ length (block_at image 1)
-    → Recovers geometry number image (standing_all contents)
+    (image : Image) → Recovers geometry number image (standing_all contents)
     → IsRecovered geometry number contents image → (part : ℕ) (numbered : Numbered)
     → shape_by geometry (contents 0) part ≡ Some (NumberedShape numbered) → numbered.relative ≡ false
     → Ascends (contents part) → AreAddressed geometry (contents part)
-recovered-addressed geometry number contents image long recovers recovered part numbered laid entries
+recovered-addressed geometry number contents image recovers recovered part numbered laid entries
     ascends =
     subst (λ (g : Geometry). AreAddressed g (contents part)) inside.1
     (back-addressed numbered entries image (recovers.contents part)
@@ -148,8 +147,8 @@ recovered-addressed geometry number contents image long recovers recovered part 
     (images_of recovered.log.records) alone room (contents part) ascends
     (recovered.items part (NumberedShape numbered) laid))
   where
-    same_log : recovers.log ≡ recovered.log
-    same_log = one_log geometry image recovers.log recovered.log long recovers.stands.log_is
+    logs : recovers.log ≡ recovered.log
+    logs = same_log geometry image recovers.log recovered.log recovers.stands.log_is
         recovered.spelled
 
     found : shapes_by geometry recovers.log recovers.contents part ≡ Some (NumberedShape numbered)
@@ -160,11 +159,11 @@ recovered-addressed geometry number contents image long recovers recovered part 
     inside = recovers.inside part (NumberedShape numbered) found
 
     alone : AreAlone (images_of recovered.log.records)
-    alone = subst (λ (log : LogContent). AreAlone (images_of log.records)) same_log recovers.alone
+    alone = subst (λ (log : LogContent). AreAlone (images_of log.records)) logs recovers.alone
 
     room : KeepsNumbered numbered (lengths_kept (images_of recovered.log.records) part) (IsOf image)
     room = subst (λ (log : LogContent). KeepsNumbered numbered
-        (lengths_kept (images_of log.records) part) (IsOf image)) same_log
+        (lengths_kept (images_of log.records) part) (IsOf image)) logs
         (recovers.room part (NumberedShape numbered) found)
 
 -- ---- by kind
@@ -224,15 +223,14 @@ entry-shape geometry catalog part is =
 -- So it is in each part that the catalog has as an entry-sequenced one: it is empty where it isn't
 -- laid.
 pub entry-addressed : (geometry : Geometry) (number : ℕ) (contents : ℕ → Content)
-    (image : Image) → 8 ≤ length (block_at image 1)
-    → Recovers geometry number image (standing_all contents)
+    (image : Image) → Recovers geometry number image (standing_all contents)
     → IsRecovered geometry number contents image
     → ((part : ℕ) → shape_by geometry (contents 0) part ≡ None → contents part ≡ [])
     → (part : ℕ)
     → option_map (λ (definition : Definition). definition.kind)
     (definition_of (entries_in (contents 0)) part) ≡ Some EntrySequenced
     → Ascends (contents part) → AreAddressed geometry (contents part)
-entry-addressed geometry number contents image long recovers recovered others part kind ascends =
+entry-addressed geometry number contents image recovers recovered others part kind ascends =
     by_shape (entry-shape geometry (entries_in (contents 0)) part kind)
   where
     by_shape : (shape_by geometry (contents 0) part ≡ None)
@@ -240,5 +238,5 @@ entry-addressed geometry number contents image long recovers recovered others pa
         → AreAddressed geometry (contents part)
     by_shape (inl none) = subst (AreAddressed geometry) (sym (others part none)) tt
     by_shape (inr laid) =
-        recovered-addressed geometry number contents image long recovers recovered part
+        recovered-addressed geometry number contents image recovers recovered part
         laid.numbered laid.is laid.entries ascends

@@ -21,4 +21,6 @@ pub mod Recovery
 pub mod Refusals
 pub mod Clearing
 pub mod OpenLemmas
+pub mod Outliving
 pub mod Addressed
+pub mod Logs

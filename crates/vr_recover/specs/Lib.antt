@@ -5,3 +5,4 @@ pub mod Images
 pub mod Unserved
 pub mod Opening
 pub mod Found
+pub mod Addresses

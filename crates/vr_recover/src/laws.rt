@@ -7,18 +7,22 @@ ghost use Rattle.vr_types.specs.Geometry.{IsAllowed};
 ghost use Rattle.vr_types.specs.Fields.{AreZeros};
 ghost use Rattle.vr_types.specs.Image.{Block, Image, block_at};
 ghost use Rattle.vr_types.specs.declared.geometry.Geometry.{Geometry};
+ghost use Rattle.vr_types.specs.declared.unit.Unit.{Unit as UnitOfRecovery};
 ghost use Rattle.vr_space.specs.Part.{Shape, part_no};
+ghost use Rattle.vr_history.specs.State.{BeforeImage, State};
 ghost use Rattle.vr_log.specs.Content.{Content as LogContent};
 ghost use Rattle.vr_log.specs.LogNow.{IsOf, last_index, made};
 ghost use Rattle.vr_log.specs.Records.{bytes_of};
 ghost use Rattle.vr_log.specs.Spells.{Spells};
 ghost use Rattle.vr_log.specs.Standing.{InLog, LogStands};
+ghost use Rattle.vr_volume.specs.Crashes.{RecoversTo};
 ghost use Rattle.vr_volume.specs.Laid.{shape_by};
 ghost use Rattle.vr_volume.specs.PutBack.{images_of};
-ghost use Rattle.vr_recover.specs.Recovered.{standing_all};
 ghost use Rattle.vr_volume.specs.Safe.{IsSafe};
 ghost use Rattle.vr_volume.specs.Volume.{Recovers, shapes_by};
-ghost use Rattle.vr_recover.specs.Recovered.{AreBackOf};
+ghost use Rattle.vr_recover.specs.Addresses.{HasItem, IsSettledIn, IsSettledAt};
+ghost use Rattle.vr_recover.specs.Opening.{HasContents};
+ghost use Rattle.vr_recover.specs.Recovered.{AreBackOf, KeepsAll, standing_all};
 ghost use Rattle.vr_recover.specs.Undone.{IsCovered, IsOpenedPart, IsSettled, alike};
 
 use vr_types::Blocks;
@@ -79,4 +83,21 @@ pub fn cleared_log_stays()
         → AreZeros zeros → 8 ≤ length zeros → 1 + index < length image
         → Spells geometry image content
         → Spells geometry (slice_set image (1 + index) zeros) content }
+{}
+
+/// What is settled as a crash comes is an item of what is opened next, standing or withdrawn: a
+/// record that is committed, or one that was withdrawn and that no live unit has logged (`crash`).
+/// And where another crash comes while a volume is opened, so is a record of the contents that it is
+/// opened with, and of what was withdrawn each item for which its log had no before-image (`opening`).
+pub fn items_outlive_crashes<B: Blocks>()
+    ensures crash { (geometry : Geometry) (number : ℕ) (state : State)
+        (counted : List UnitOfRecovery) (contents : ℕ → Content) (blocks : B)
+        → RecoversTo geometry number state counted (B.seen blocks).cur
+        → HasContents number geometry contents (B.seen blocks) → (part : ℕ) (place : List ℕ)
+        → IsSettledAt counted state part place → HasItem (contents part) place }
+    ensures opening { (geometry : Geometry) (number : ℕ) (images : List BeforeImage)
+        (contents later : ℕ → Content) (blocks : B)
+        → KeepsAll geometry number images contents (B.seen blocks).cur
+        → HasContents number geometry later (B.seen blocks) → (part : ℕ) (place : List ℕ)
+        → IsSettledIn images contents part place → HasItem (later part) place }
 {}
