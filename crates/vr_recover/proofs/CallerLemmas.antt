@@ -5,3 +5,5 @@ pub use Rattle.vr_recover.proofs.Shapes.{laid-cases, shape-number}
 pub use Rattle.vr_recover.proofs.Wholes.{recovers-whole, whole, whole-records}
 -- what stays withdrawn in an image that keeps contents
 pub use Rattle.vr_recover.proofs.Wholes.{keeps-withdrawn}
+-- and in the contents that the image has once it is opened again
+pub use Rattle.vr_recover.proofs.Reopening.{items-again}

@@ -20,4 +20,5 @@ pub mod Agreeing
 pub mod Recovery
 pub mod Refusals
 pub mod Clearing
+pub mod Reopening
 pub mod OpenLemmas
