@@ -12,3 +12,5 @@ pub use Rattle.vr_recover.proofs.Outliving.{outlives-crash, outlives-opening}
 pub use Rattle.vr_recover.proofs.Wholes.{recovers-whole, whole, whole-records}
 -- what stays withdrawn in an image that keeps contents
 pub use Rattle.vr_recover.proofs.Wholes.{keeps-withdrawn}
+-- and in the contents that the image has once it is opened again
+pub use Rattle.vr_recover.proofs.Reopening.{items-again}

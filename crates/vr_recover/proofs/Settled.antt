@@ -32,7 +32,7 @@ use Rattle.vr_space.specs.Rosters.{IsInArea, IsOf as IsOfImage, IsOwnArea, Numbe
 use Rattle.vr_space.specs.Known.{Known}
 use Rattle.vr_space.specs.Numbered.{IsFilled, IsNumberedAtRest, IsNumberedOn, IsRestingArea}
 use Rattle.vr_space.specs.Numbered.{KeepsNumbered, NumberedStaysIn}
-use Rattle.vr_space.proofs.CallerLemmas.{AreIn, IsPartBlock, area-owned, chain-less, content_item}
+use Rattle.vr_space.proofs.CallerLemmas.{AreIn, IsPartBlock, area-owned, chain-less}
 use Rattle.vr_space.proofs.CallerLemmas.{first-owned, head-in, rest-sound, roster-inside}
 use Rattle.vr_space.proofs.CallerLemmas.{numbered-less, way-within}
 use Rattle.vr_history.specs.Committed.{kept_or}

@@ -1,5 +1,3 @@
-use Rattle.std.proofs.Common.{ℕ}
-use Rattle.vr_types.specs.Content.{Content}
 use Rattle.vr_volume.specs.PutBack.{images_of}
 use Rattle.vr_recover.proofs.OpenLemmas.{all-guards, kept-guards}
 use Rattle.vr_recover.proofs.Wholes.{recovers-whole, whole}
