@@ -1,6 +1,6 @@
 -- A request that is answered that there is no space, and what its part lacks.
-use Rattle.std.proofs.Common.{◌≡◌, ◌∙◌, ⊎_elim, ℕ, Bool, true, false, List, [], ◌∷◌, ◌++◌, Option, Some}
-use Rattle.std.proofs.Common.{None, ◌||◌, refl, sym, ap, subst, append_assoc, length}
+use Rattle.std.proofs.Common.{◌≡◌, ◌∙◌, ⊎_elim, ℕ, Bool, true, false, List, [], ◌∷◌, ◌++◌, Option}
+use Rattle.std.proofs.Common.{Some, None, ◌||◌, refl, sym, ap, subst, append_assoc, length}
 use Rattle.std.specs.Prelude.{All, Contains}
 use Rattle.std.specs.Option.{option_and_then, option_map}
 use Rattle.std.proofs.lemmas.List.{append-nil, append_cancel_left}
@@ -57,7 +57,8 @@ use Rattle.vr_job.proofs.Stopping.{step-at}
 -- it is answered that there is no space
 abbrev AnswersNoSpace : What → Type 0
 AnswersNoSpace what =
-    (request : Request) × (need : ℕ) × (free : ℕ) × (what ≡ Asked request (Refused (NoSpace need free)))
+    (request : Request) × (need : ℕ) × (free : ℕ)
+    × (what ≡ Asked request (Refused (NoSpace need free)))
 
 abbrev AnswersElse : Entry → Type 0
 AnswersElse entry = ¬ AnswersNoSpace entry.what
