@@ -42,7 +42,7 @@ use Rattle.vr_undo.proofs.CallerLemmas.{stands-entries}
 use Rattle.vr_volume.specs.PutBack.{images_of, lengths_kept}
 use Rattle.vr_recover.specs.Recovered.{IsRecovered, IsWhole, KeepsAll, standing_all}
 use Rattle.vr_volume.specs.Volume.{Recovers}
-use Rattle.vr_volume.proofs.CallerLemmas.{catalog-whole, keep-less}
+use Rattle.vr_volume.proofs.CallerLemmas.{catalog-whole, keep-less, recovers-same}
 use Rattle.vr_recover.specs.Found.{IsFound, IsPartReady, IsPlanned, areas_kept}
 use Rattle.vr_recover.specs.Opening.{AreOwnersBy, HasNoSplit, InArea, InCatalog, InImages, InLog}
 use Rattle.vr_recover.specs.Opening.{InPart, IsDamaged, IsHandedOut, OwnsAreas, shapes_laid}
@@ -63,7 +63,7 @@ use Rattle.vr_recover.proofs.Keeping.{all-more}
 use Rattle.vr_recover.proofs.Owning.{owners-reached}
 use Rattle.vr_recover.proofs.Recovery.{found-entries, found-recovers, recovered}
 use Rattle.vr_recover.proofs.Shapes.{are-laid}
-use Rattle.vr_recover.proofs.Wholes.{recovers-same, recovers-whole, whole, whole-records}
+use Rattle.vr_recover.proofs.Wholes.{recovers-whole, whole, whole-records}
 
 -- ---- calls that put nothing
 

@@ -29,7 +29,8 @@ use Rattle.vr_recover.specs.Recovered.{AreBackOf, IsRecovered, IsWhole, KeepsAll
 use Rattle.vr_recover.specs.Recovered.{standing_all}
 use Rattle.vr_volume.specs.Volume.{CanPutBack, Recovers, RecoversItems, shapes_by}
 use Rattle.vr_volume.proofs.Alone.{is-there}
-use Rattle.vr_volume.proofs.CallerLemmas.{back-record, left-stands, records-ascend, shape-stands}
+use Rattle.vr_volume.proofs.CallerLemmas.{back-record, left-stands, records-ascend, recovers-same}
+use Rattle.vr_volume.proofs.CallerLemmas.{shape-stands}
 use Rattle.vr_volume.proofs.PuttingBack.{back-ascends, back-item}
 use Rattle.vr_mount.proofs.CallerLemmas.{none-ascend}
 use Rattle.vr_recover.proofs.PuttingBack.{found-passes, from-each}
@@ -154,21 +155,6 @@ module _ (shapes : ℕ → Option Shape) (part : ℕ) where
           ∙ ap shapes (eqb-true image.part part is) ∙ none))
 
 -- ---- the volume
-
--- To the records of other contents it recovers as well, where they are the same.
-pub recovers-same : (geometry : Geometry) (number : ℕ) (image : Image)
-    (recovered other : ℕ → Content) → ((part : ℕ) → other part ≡ recovered part)
-    → Recovers geometry number image recovered → Recovers geometry number image other
-recovers-same geometry number image recovered other same is = record {
-  log = is.log;
-  contents = is.contents;
-  stands = is.stands;
-  inside = is.inside;
-  images = is.images;
-  alone = is.alone;
-  room = is.room;
-  back = λ part. same part ∙ is.back part;
-}
 
 module _ (geometry : Geometry) (number : ℕ) (image : Image) (recovered : ℕ → Content)
     (is : Recovers geometry number image recovered) where
