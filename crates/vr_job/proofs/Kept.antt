@@ -1,20 +1,19 @@
 -- What stays of a volume that is held through a crash.
-use Rattle.std.proofs.Common.{◌≡◌, ◌∙◌, ⊎_elim, ℕ, ◌<◌, ◌≤◌, ◌==◌, ◌&&◌, ◌||◌, Bool, true}
-use Rattle.std.proofs.Common.{false, cond, List, [], ◌∷◌, Option, Some, None, refl, sym, ap, subst}
-use Rattle.std.proofs.Common.{arith, bytes_eq, filter_map, length, map}
-use Rattle.std.specs.List.{AllByRecursion, list_any}
+use Rattle.std.proofs.Common.{◌≡◌, ◌≢◌, ◌∙◌, ⊎_elim, ℕ, ◌<◌, ◌≤◌, ◌==◌, Bool, true, false, cond}
+use Rattle.std.proofs.Common.{List, [], ◌∷◌, Option, Some, None, refl, sym, ap, subst, arith}
+use Rattle.std.proofs.Common.{All, filter_map, length, map}
+use Rattle.std.specs.List.{AllByRecursion}
 use Rattle.std.proofs.lemmas.Bool.{true≢false}
 use Rattle.std.proofs.lemmas.List.{take_all}
+use Rattle.std.proofs.lemmas.List.Elements.{All-cons, All-head, All-nil, All-tail}
 use Rattle.vr_types.specs.Content.{Ascends, Content, item_at}
 use Rattle.vr_types.specs.Image.{Block, Image, block_at}
-use Rattle.vr_types.specs.Locks.{same_unit}
 use Rattle.vr_types.specs.Seen.{Left, Seen}
 use Rattle.vr_types.specs.declared.geometry.Geometry.{Geometry}
 use Rattle.vr_types.specs.declared.unit.Unit.{Unit as UnitOfRecovery}
 use Rattle.vr_altkey.proofs.CallerLemmas.{same_items}
 use Rattle.vr_attach.specs.Laid.{catalog_shape}
 use Rattle.vr_history.specs.State.{BeforeImage, Logged, State}
-use Rattle.vr_history.proofs.CallerLemmas.{unit_self}
 use Rattle.vr_log.specs.Content.{Content as LogContent}
 use Rattle.vr_log.specs.LogNow.{HasLog, IsBehind, IsForced, IsLogOf, IsPrefixOf, LogNow, first_of}
 use Rattle.vr_log.specs.Spells.{Spells}
@@ -30,48 +29,43 @@ use Rattle.vr_store.proofs.Among.{HasShape, among-shape}
 use Rattle.vr_store.proofs.CallerLemmas.{number-at, rested-at}
 use Rattle.vr_undo.specs.Records.{images_in}
 use Rattle.vr_volume.specs.Committed.{logged_of}
+use Rattle.vr_volume.specs.Crashes.{IsUnlogged}
 use Rattle.vr_volume.specs.Laid.{shape_by}
 use Rattle.vr_volume.specs.PutBack.{image_in, images_of, is_image_of, oldest}
+use Rattle.vr_volume.proofs.Alone.{is-there}
 use Rattle.vr_event.specs.Volume.{IsHeld, IsWhole, VolumeNow}
 use Rattle.vr_job.specs.Events.{KeepsAtRest}
-use Rattle.vr_job.specs.Kept.{IsUnlogged, KeepsItems}
+use Rattle.vr_job.specs.Kept.{KeepsItems}
 
 -- ---- places that no unit has logged
 
-either-false : (one other : Bool) → (one || other) ≡ false → (one ≡ false) × (other ≡ false)
-either-false true other none = absurd (true≢false none)
-either-false false other none = (refl, none)
-
 -- a place that no unit has logged has no before-image
 oldest-none : (images : List BeforeImage) (part : ℕ) (place : List ℕ)
-    → ((unit : UnitOfRecovery) → list_any (λ (logged : Logged). same_unit unit logged.unit
-    && (logged.part == part && bytes_eq place logged.place)) (map logged_of images) ≡ false)
+    → All (λ (logged : Logged). logged.part ≡ part → logged.place ≢ place) (map logged_of images)
     → oldest images part place ≡ None
-oldest-none [] part place none = refl
-oldest-none (image ∷ images) part place none =
-    ap (λ (here : Bool). cond here (Some image) (oldest images part place)) other
-    ∙ oldest-none images part place (λ unit. (either-false _ _ (none unit)).1)
+oldest-none [] part place free = refl
+oldest-none (image ∷ images) part place free = by_first (is_image_of part place image) refl
+    (oldest-none images part place (All-tail
+    (λ (logged : Logged). logged.part ≡ part → logged.place ≢ place) (logged_of image)
+    (map logged_of images) free))
   where
-    other : is_image_of part place image ≡ false
-    other = sym (ap (λ (own : Bool). own && is_image_of part place image) (unit_self image.unit))
-        ∙ (either-false _ _ (none image.unit)).0
+    by_first : (here : Bool) → is_image_of part place image ≡ here
+        → oldest images part place ≡ None
+        → cond here (Some image) (oldest images part place) ≡ None
+    by_first true is further =
+        let there = is-there part place image is in
+        absurd (All-head (λ (logged : Logged). logged.part ≡ part → logged.place ≢ place)
+        (logged_of image) (map logged_of images) free there.0 (sym there.1))
+    by_first false is further = further
 
 -- nothing of the catalog is logged, since decks alone log
 catalog-unlogged : (logged : List Logged) (place : List ℕ) → AllByRecursion IsOfDeck logged
-    → (unit : UnitOfRecovery) → list_any (λ (one : Logged). same_unit unit one.unit
-    && (one.part == 0 && bytes_eq place one.place)) logged ≡ false
-catalog-unlogged [] place decks unit = refl
-catalog-unlogged (one ∷ logged) place decks unit =
-    ap (λ (here : Bool). (same_unit unit one.unit && (here && bytes_eq place one.place))
-    || list_any (λ (one : Logged). same_unit unit one.unit
-    && (one.part == 0 && bytes_eq place one.place)) logged) decks.0.1
-    ∙ ap (λ (here : Bool). here || list_any (λ (one : Logged). same_unit unit one.unit
-    && (one.part == 0 && bytes_eq place one.place)) logged) (and-false (same_unit unit one.unit))
-    ∙ catalog-unlogged logged place decks.1 unit
-  where
-    and-false : (own : Bool) → (own && false) ≡ false
-    and-false true = refl
-    and-false false = refl
+    → All (λ (one : Logged). one.part ≡ 0 → one.place ≢ place) logged
+catalog-unlogged [] place decks = All-nil (λ (one : Logged). one.part ≡ 0 → one.place ≢ place)
+catalog-unlogged (one ∷ logged) place decks =
+    All-cons (λ (one : Logged). one.part ≡ 0 → one.place ≢ place) one logged
+    (λ own. absurd (true≢false (sym (sym decks.0.1 ∙ ap (λ (n : ℕ). n == 0) own))))
+    (catalog-unlogged logged place decks.1)
 
 -- ---- the before-images of the log that an image has
 
@@ -145,9 +139,8 @@ module _ (number : ℕ) (store : StoreNow) (state : State) (now : Seen) (set : I
   unlogged-none : (part : ℕ) (place : List ℕ) → IsUnlogged state part place
       → oldest (images_in store.undo) part place ≡ None
   unlogged-none part place unlogged = oldest-none (images_in store.undo) part place
-      (λ unit. subst (λ (logged : List Logged). list_any (λ (one : Logged). same_unit unit one.unit
-      && (one.part == part && bytes_eq place one.place)) logged ≡ false) (sym stored.logged)
-      (unlogged unit))
+      (subst (All (λ (one : Logged). one.part ≡ part → one.place ≢ place)) (sym stored.logged)
+      unlogged)
 
   -- such a place has the item of the state in the image
   item-here : (part : ℕ) (shape : Shape) → shape_by geometry (state.contents 0) part ≡ Some shape

@@ -1,18 +1,14 @@
 -- What stays of a volume through any crash between two events: where no live unit of recovery changed
 -- it, the item of each place, what was withdrawn too. The rules are this project's own.
-use Rattle.std.specs.Prelude.{◌≡◌, ℕ, false, List, Some}
+use Rattle.std.specs.Prelude.{◌≡◌, ℕ, List, Some}
 use Rattle.vr_types.specs.Content.{Ascends, Content, item_at}
 use Rattle.vr_types.specs.Image.{Image}
 use Rattle.vr_types.specs.declared.geometry.Geometry.{Geometry}
-use Rattle.vr_types.specs.declared.unit.Unit.{Unit as UnitOfRecovery}
 use Rattle.vr_space.specs.Part.{Shape}
-use Rattle.vr_history.specs.State.{State, is_logged}
+use Rattle.vr_history.specs.State.{State}
 use Rattle.vr_recover.specs.Recovered.{IsRecovered}
+use Rattle.vr_volume.specs.Crashes.{IsUnlogged}
 use Rattle.vr_volume.specs.Laid.{shape_by}
-
--- no unit has logged the place
-abbrev pub IsUnlogged : State → ℕ → List ℕ → Type 0
-IsUnlogged state part place = (unit : UnitOfRecovery) → is_logged state unit part place ≡ false
 
 -- Whatever contents the image recovers to, as an opening hands them out, they have the item of the
 -- state at each place of a part of its catalog that no live unit changed: the record that stands
