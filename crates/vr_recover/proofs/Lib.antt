@@ -20,7 +20,6 @@ pub mod Agreeing
 pub mod Recovery
 pub mod Refusals
 pub mod Clearing
-pub mod Reopening
 pub mod OpenLemmas
 pub mod Outliving
 pub mod Addressed

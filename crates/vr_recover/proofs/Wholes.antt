@@ -7,7 +7,7 @@ use Rattle.std.specs.List.{filter_map}
 use Rattle.std.specs.Option.{option_and_then, option_map}
 use Rattle.std.proofs.lemmas.Bool.{eqb-true}
 use Rattle.std.proofs.lemmas.List.Elements.{All-head, All-tail}
-use Rattle.vr_types.specs.Content.{Ascends, Content, Standing, Withdrawn, item_at, record_of}
+use Rattle.vr_types.specs.Content.{Ascends, Content, Standing, item_at, record_of}
 use Rattle.vr_types.specs.Image.{Image}
 use Rattle.vr_types.specs.declared.geometry.Geometry.{Geometry}
 use Rattle.vr_types.specs.declared.unit.Unit.{Unit as UnitOfRecovery}
@@ -17,7 +17,6 @@ use Rattle.vr_space.specs.Part.{Shape, item_of, left_by}
 use Rattle.vr_space.proofs.CallerLemmas.{content_item, stands_content}
 use Rattle.vr_history.specs.Committed.{kept_or}
 use Rattle.vr_history.specs.State.{BeforeImage}
-use Rattle.vr_log.specs.Content.{Content as LogContent}
 use Rattle.vr_log.specs.Live.{is_in, live_in}
 use Rattle.vr_log.specs.declared.record.LogRecord.{LogRecord}
 use Rattle.vr_log.specs.declared.record.LogRecord.TheVariants.{Before, End}
@@ -25,7 +24,7 @@ use Rattle.vr_undo.proofs.CallerLemmas.{record-stands, stands-ascends, stands-it
 use Rattle.vr_volume.specs.Laid.{shape_by}
 use Rattle.vr_volume.specs.PutBack.{image_in, images_of, is_image_of, oldest, put_back, standing}
 use Rattle.vr_volume.specs.PutBack.{standing_of}
-use Rattle.vr_recover.specs.Recovered.{AreBackOf, IsRecovered, IsWhole, KeepsAll, item_back}
+use Rattle.vr_recover.specs.Recovered.{AreBackOf, IsRecovered, IsWhole, item_back}
 use Rattle.vr_recover.specs.Recovered.{standing_all}
 use Rattle.vr_volume.specs.Volume.{CanPutBack, Recovers, RecoversItems, shapes_by}
 use Rattle.vr_volume.proofs.Alone.{is-there}
@@ -266,17 +265,3 @@ module _ (geometry : Geometry) (number : ℕ) (image : Image) (contents : ℕ �
 
   pub recovers-items : RecoversItems geometry number is.log contents image
   recovers-items = record { recovers = is; log_is = refl; items = item-same }
-
--- What is withdrawn where the log that was found had nothing to put back is withdrawn in each image
--- that keeps the contents, whose log has nothing to put back there either.
-pub keeps-withdrawn : (geometry : Geometry) (number : ℕ) (found : List BeforeImage)
-    (contents : ℕ → Content) (image : Image) (kept : KeepsAll geometry number found contents image)
-    (part : ℕ) (place : List ℕ) (n : ℕ) → oldest found part place ≡ None
-    → item_at (contents part) place ≡ Some (Withdrawn n)
-    → (oldest (images_of kept.items.recovers.log.records) part place ≡ None)
-    × (item_at (kept.items.recovers.contents part) place ≡ Some (Withdrawn n))
-keeps-withdrawn geometry number found contents image kept part place n none is =
-    let off = kept.fewer part place none in (
-      ap (λ (log : LogContent). oldest (images_of log.records) part place) kept.items.log_is ∙ off,
-      kept.items.items part place off ∙ is,
-    )
