@@ -1,6 +1,6 @@
 //! Which call of a device a question asks.
 
-use crate::device_blocks::blocks_call;
+use crate::device_blocks::{blocks_call, recent_calls};
 use crate::device_calls::device_call;
 use crate::held::{Held, over_file};
 use crate::host::host;
@@ -42,6 +42,7 @@ fn call(alloc: Global, held: &mut Held, verb: &str, rest: &str, out: &mut Answer
     match verb {
         "read" | "write" | "sync" => device_call(alloc, held, verb, rest, out),
         "get" | "put" | "force" => blocks_call(alloc, held, verb, rest, out),
+        "recent" => recent_calls(alloc, held, rest, out),
         _ => Err(Stop::Line),
     }
 }

@@ -1,7 +1,7 @@
 //! Cases of the base crates, of devices, of the lock table, and of sources and sinks, from one text
 //! table: worked rows, outside examples, faults, scripts of calls, the images that a crash leaves,
 //! and plain, slow programs beside them. It stands on `vr_types`, `vr_text`, `vr_seqset`, `vr_ci`,
-//! `vr_device`, `vr_locks`, `vr_outside` and `vr_case_table`. Each line of its input has a
+//! `vr_device`, `vr_recent`, `vr_locks`, `vr_outside` and `vr_case_table`. Each line of its input has a
 //! question, ` -> ` and the answer that is wanted. It asks the public calls, prints each line whose
 //! answer differs, and at the end how many lines there were and how many differ; the status is 1
 //! where one differs. What it promises is that it is safe and ends: what the answers show is

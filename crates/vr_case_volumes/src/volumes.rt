@@ -40,15 +40,17 @@ pub fn first_volume(alloc: Global, shape: Geometry) -> Result<MemoryDevice, Stop
     }
 }
 
-/// A new volume of this number whose one cluster has this name and records of 8 bytes to this many.
+/// A new volume of this number whose one cluster has this name and kind, and records of at most this
+/// many bytes.
 pub fn volume_of(
     alloc: Global,
     shape: Geometry,
     number: u32,
     name: &str,
+    kind: Kind,
     maximum: u32,
 ) -> Result<MemoryDevice, Stop> {
-    let entry = cluster(alloc, name, maximum)?;
+    let entry = cluster(alloc, name, kind, maximum)?;
     let mut device = new_device(alloc, shape)?;
     match format_as(alloc, &mut device, shape, number, &entry) {
         Ok(()) => Ok(device),
@@ -74,19 +76,28 @@ fn format_as(
     }
 }
 
-/// The entry of part 1, a key-sequenced cluster with KEYS(8 0), whose first area is area 1.
-pub fn cluster(alloc: Global, name: &str, maximum: u32) -> Result<CatEntry, Stop> {
+/// The length of the keys of a cluster of this kind.
+fn key_length(kind: Kind) -> u16 {
+    match kind {
+        Kind::Keyed => 8,
+        Kind::Entry | Kind::Relative => 0,
+    }
+}
+
+/// The entry of part 1, a cluster of this kind whose first area is area 1: a key-sequenced one has
+/// KEYS(8 0), and the records of a relative one have all as many bytes.
+pub fn cluster(alloc: Global, name: &str, kind: Kind, maximum: u32) -> Result<CatEntry, Stop> {
     let name = dataset_name(alloc, name).ok().ok_or(Stop::Case)?;
     Ok(CatEntry {
         name,
         entry_kind: EntryKind::Cluster,
-        kind: Some(Kind::Keyed),
+        kind: Some(kind),
         spanned: false,
         unique: false,
         built: false,
         part: PartNo(1),
         related: None,
-        key_length: 8,
+        key_length: key_length(kind),
         key_offset: 0,
         average: maximum,
         maximum,
@@ -117,10 +128,16 @@ pub const FIRST_MAXIMUM: u32 = 80;
 /// The most bytes of a record of the clusters of other volumes.
 pub const MAXIMUM: u32 = 120;
 
-/// New volumes 0, 1 and 2 of a shape, with VRM.FIRST, VRM.ONE and VRM.TWO.
-pub fn three_volumes(alloc: Global, shape: Geometry) -> Result<Vec<MemoryDevice>, Stop> {
+/// New volumes 0, 1 and 2 of a shape, with VRM.FIRST, which is key-sequenced, and VRM.ONE and VRM.TWO
+/// of these kinds.
+pub fn three_volumes(
+    alloc: Global,
+    shape: Geometry,
+    one: Kind,
+    two: Kind,
+) -> Result<Vec<MemoryDevice>, Stop> {
     let first = first_volume(alloc, shape)?;
-    let one = volume_of(alloc, shape, 1, "VRM.ONE", MAXIMUM)?;
-    let two = volume_of(alloc, shape, 2, "VRM.TWO", MAXIMUM)?;
+    let one = volume_of(alloc, shape, 1, "VRM.ONE", one, MAXIMUM)?;
+    let two = volume_of(alloc, shape, 2, "VRM.TWO", two, MAXIMUM)?;
     Ok(vec![in alloc; first, one, two]?)
 }

@@ -20,3 +20,4 @@ pub mod WriteFaults
 pub mod Devices
 pub mod Shown
 pub mod Codes
+mod Moved

@@ -12,3 +12,4 @@ pub mod VolumeRun
 pub mod Shelf
 pub mod ShelfRun
 pub mod Done
+pub mod Moved

@@ -1,17 +1,22 @@
-//! Laws of what a run leaves of its volumes, each the contract of a function that does nothing.
+//! Laws of histories and of what a run leaves, each the contract of a function that does nothing.
 ghost use Rattle.std.specs.Prelude.{◌≡◌, ◌≢◌, ◌≤◌, ◌⊎◌, [], ℕ, List, None};
 ghost use Rattle.vr_types.specs.Image.{Image};
 ghost use Rattle.vr_types.specs.Moments.{Guards};
+ghost use Rattle.vr_types.specs.Position.{unheld};
 ghost use Rattle.vr_types.specs.Seen.{Left};
+ghost use Rattle.vr_types.specs.declared.geometry.Geometry.{Geometry};
 ghost use Rattle.vr_catalog.specs.declared.entry.CatEntry.{CatEntry};
 ghost use Rattle.vr_history.specs.Legal.{state_of};
 ghost use Rattle.vr_history.specs.Merged.{Numbered};
+ghost use Rattle.vr_history.specs.State.{State};
+ghost use Rattle.vr_history.specs.Step.{state_after};
 ghost use Rattle.vr_history.specs.declared.entry.Entry.{Entry};
 ghost use Rattle.vr_job_ends.specs.declared.job_end.End.{End};
 ghost use Rattle.vr_job_text.specs.declared.text.Step.{Step};
 ghost use Rattle.vr_worker.specs.Decks.{IsEntered};
 ghost use Rattle.vr_worker.specs.Steps.{AreGapless};
 ghost use Rattle.vr_job.specs.Committed.{HasCommitted, IsCommittedBy, IsCommittedWhile};
+ghost use Rattle.vr_job.specs.Moved.{AreElsewhere, Ends, IsOn};
 ghost use Rattle.vr_job.specs.VolumeRun.{IsRun, opening_of};
 
 use vr_device::BlockDevice;
@@ -52,4 +57,23 @@ pub fn each_stamp_is_taken()
         → (this : Numbered) → IsEntered histories this → (stamp : ℕ) → 1 ≤ stamp
         → stamp ≤ this.entry.stamp
         → (other : Numbered) × IsEntered histories other × (other.entry.stamp ≡ stamp) }
+{}
+
+/// No position of one file is moved by a request of another, of the same deck or another one,
+/// whatever its reply, nor by what else is entered: neither where the file stands nor what it holds
+/// for update changes (`others`). The end of a unit moves no file either: what the files of its
+/// deck hold goes, and where they stand stays (`ends`). So a file stands where it stood through all
+/// entries that are no request on it (`through`).
+pub fn no_request_moves_another_file()
+    ensures others { (geometry : Geometry) (state : State) (entry : Entry) (deck slot : ℕ)
+        → (IsOn deck slot entry → ⊥) → (Ends deck entry → ⊥)
+        → (state_after geometry state entry).positions deck slot ≡ state.positions deck slot }
+    ensures ends { (geometry : Geometry) (state : State) (entry : Entry) (deck slot : ℕ)
+        → Ends deck entry
+        → (state_after geometry state entry).positions deck slot
+        ≡ unheld (state.positions deck slot) }
+    ensures through { (geometry : Geometry) (state : State) (entries : List Entry) (deck slot : ℕ)
+        → AreElsewhere deck slot entries
+        → ((state_of geometry state entries).positions deck slot).stand
+        ≡ (state.positions deck slot).stand }
 {}

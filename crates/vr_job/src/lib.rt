@@ -8,7 +8,8 @@
 //! legal from its opening; and that each image that a crash may leave of a volume at each moment is one
 //! that might be left before, or recovers to what is committed by the first entries of its history,
 //! perhaps with the unit that is in its commit. A law says so of each record, by `committed` of the
-//! history (`leaves_what_is_committed`), and another that stamps are used up by entries alone.
+//! history (`leaves_what_is_committed`), another that stamps are used up by entries alone, and a third
+//! that no request moves another file than its own.
 #![tactic(auto)]
 
 mod done;
@@ -22,7 +23,7 @@ mod shelf_run;
 mod volume_run;
 
 pub use job::run_job;
-pub use laws::{each_stamp_is_taken, leaves_what_is_committed};
+pub use laws::{each_stamp_is_taken, leaves_what_is_committed, no_request_moves_another_file};
 pub use opening::open;
 pub use shelf_run::{ShelfEnd, run_volumes};
 pub use vr_job_ends::{End, JobEnd, Trace};

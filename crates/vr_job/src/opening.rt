@@ -27,14 +27,12 @@ use vr_trace::EndLine;
 use vr_types::Blocks;
 
 /// The rule by which the line of a job shows what isn't served: 2 at the first block of a log that
-/// can't be gone on with, 19 there where it has before-images of the catalog's own part, and 17 at the
-/// head of a catalog that isn't served.
+/// can't be gone on with, and 17 at the head of a catalog that isn't served.
 fn unserved_rule(cause: Unserved) -> u32
     ensures { result ≡ ends.unserved_rule cause }
 {
     match cause {
         Unserved::LogAtItsEnd | Unserved::LogWithoutRoom => 2,
-        Unserved::CatalogImage => 19,
         Unserved::OtherKind | Unserved::LongRecord => 17,
     }
 }
@@ -165,7 +163,7 @@ fn made<B: Blocks>(alloc: Global, blocks: B, number: u32, found: Box<Ready>) -> 
 /// Opens the volume of this number, on this many blocks, for a run of the decks of a job. `Err` says
 /// how the job ends and hands the blocks back: `Damaged` or `Version` where they are those of no
 /// volume of that number (the block that breaks a rule and the rule, or the version that block 0
-/// states), or have what isn't served (the block that has it, with the rule 2, 17 or 19), and then
+/// states), or have what isn't served (the block that has it, with the rule 2 or 17), and then
 /// nothing was put; `DeviceFault` where the device failed; `NoMemory` where memory ran out.
 pub fn open<B: Blocks + Drop>(
     alloc: Global,

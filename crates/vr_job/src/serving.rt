@@ -13,10 +13,11 @@ ghost use Rattle.vr_job.specs.Serving.{IsServing, StaysServing, is_done, unit_of
 use std::alloc::Global;
 use std::marker::Model;
 use vr_catalog::Catalog;
-use vr_device::{BlockDevice, Direct};
+use vr_device::BlockDevice;
 use vr_event::{Act, Volume};
 use vr_history::History;
 use vr_part::AnyPart;
+use vr_recent::Recent;
 use vr_space::Part;
 use vr_types::{Blocks, OutOfMemory, SharedRequest, Unit};
 use vr_worker::{Cataloged, RunNo, Served};
@@ -141,7 +142,7 @@ fn serve<B: Blocks, P: Part>(
 #[derive(Drop)]
 pub(crate) struct Serving<D: BlockDevice> {
     alloc: Global,
-    volume: Volume<Direct<D>, AnyPart>,
+    volume: Volume<Recent<D>, AnyPart>,
 }
 
 impl<D: BlockDevice> Model for Serving<D> {
@@ -157,7 +158,7 @@ impl<D: BlockDevice> Model for Serving<D> {
 
 impl<D: BlockDevice> Serving<D> {
     /// A volume with no history yet, ready to serve.
-    pub(crate) fn new(alloc: Global, volume: Volume<Direct<D>, AnyPart>) -> Serving<D>
+    pub(crate) fn new(alloc: Global, volume: Volume<Recent<D>, AnyPart>) -> Serving<D>
         requires whole { IsWhole D.seen volume }
         requires holds { IsTrue D.tells → Holds D.seen volume }
         requires begins { volume.file.entries ≡ [] }
@@ -167,7 +168,7 @@ impl<D: BlockDevice> Serving<D> {
     }
 
     /// The volume alone.
-    pub(crate) fn into_volume(self) -> Volume<Direct<D>, AnyPart>
+    pub(crate) fn into_volume(self) -> Volume<Recent<D>, AnyPart>
         ensures volume { result ≡ self }
         ensures whole { IsWhole D.seen result }
     {

@@ -8,10 +8,11 @@ ghost use Rattle.vr_job.specs.VolumeRun.{IsClosed, IsNotOpen, IsOpen};
 use crate::opening::open;
 use crate::serving::Serving;
 use std::alloc::Global;
-use vr_device::{BlockDevice, Direct, direct};
+use vr_device::BlockDevice;
 use vr_event::Volume;
 use vr_history::History;
 use vr_part::AnyPart;
+use vr_recent::{Recent, recent};
 use vr_trace::EndLine;
 use vr_types::Failed;
 
@@ -26,10 +27,10 @@ pub(crate) struct Closed<D: BlockDevice> {
 /// Opens the volume of this number on this many blocks.
 fn open_blocks<D: BlockDevice>(
     alloc: Global,
-    blocks: Direct<D>,
+    blocks: Recent<D>,
     count: u32,
     number: u32,
-) -> Result<Volume<Direct<D>, AnyPart>, (D, EndLine)>
+) -> Result<Volume<Recent<D>, AnyPart>, (D, EndLine)>
     requires { (D.seen blocks).count ≡ count }
     ensures open { IfOk result (IsOpen D.tells D.seen D.faults number blocks) }
     ensures not_open { IfErr result (λ back.
@@ -53,7 +54,7 @@ pub(crate) fn open_one<D: BlockDevice>(
         IsNotOpen D.tells D.seen D.faults number device back.0 back.1) }
 {
     let count = device.blocks();
-    match direct(alloc, device) {
+    match recent(alloc, device) {
         Ok(blocks) => {
             let volume = open_blocks(alloc, blocks, count, number)?;
             Ok(Serving::new(alloc, volume))

@@ -38,6 +38,7 @@ fn answer_further<R: Threads + Wait + Sync>(
 ) -> Answer {
     match verb {
         "shelf" => shelf::shelf(alloc, desk, rest, out),
+        "format" => shelf::format(alloc, desk, rest, out),
         "keep" => shelf::keep(alloc, desk, rest, out),
         "calls" => shelf::calls(desk, out),
         "stop" => shelf::stop(desk, rest, out),

@@ -4,7 +4,9 @@ use crate::answers::{Answer, Stop, long_number, number, say, say_number};
 use crate::desk::Desk;
 use crate::escapes::bytes_of;
 use std::alloc::Global;
+use vr_case_volumes::format_spelled;
 use vr_device::{BlockDevice, MemoryDevice, memory_device};
+use vr_format::FormatNo;
 
 /// The most bytes of a device.
 const LIMIT: u64 = 1 << 24;
@@ -77,6 +79,18 @@ pub fn new_shelf(
     let mut shelf = Vec::new(alloc);
     shelf.push(device)?;
     Ok(shelf)
+}
+
+/// Formats the device N as volume N with the entries that the line spells:
+/// `format N LOG AREA / NAME KIND PART KEY OFFSET AVERAGE MAXIMUM / ..`.
+pub fn format(alloc: Global, desk: &mut Desk, rest: &str, out: &mut String) -> Answer {
+    let (at, _) = rest.split_once(' ').ok_or(Stop::Line)?;
+    let device = desk.device(number(at)? as usize)?;
+    match format_spelled(alloc, device, rest)? {
+        Ok(()) => say(out, "ok"),
+        Err(FormatNo::Memory) => Err(Stop::Memory),
+        Err(_) => say(out, "no"),
+    }
 }
 
 /// How many calls each device was called with so far: `calls`.

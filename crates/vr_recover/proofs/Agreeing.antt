@@ -1,13 +1,11 @@
 -- What a volume that recovers has in common with what is found as it is opened, and why what is
 -- shown refuses it.
-use Rattle.std.proofs.Common.{◌≡◌, ◌≢◌, ⊎_elim, ℕ, ◌+◌, ◌<◌, ◌≤◌, Bool, true, false}
-use Rattle.std.proofs.Common.{List, [], ◌∷◌, Some, length, refl, sym, ap, subst, ◌∙◌}
-use Rattle.std.proofs.Common.{cond, get_or}
+use Rattle.std.proofs.Common.{◌≡◌, ⊎_elim, ℕ, ◌+◌, ◌<◌, ◌≤◌}
+use Rattle.std.proofs.Common.{List, ◌∷◌, Some, length, refl, sym, ap, subst, ◌∙◌}
+use Rattle.std.proofs.Common.{get_or}
 use Rattle.std.specs.Prelude.{All, IfSome, nat_eq, slice_get}
 use Rattle.std.specs.List.{IsDistinct}
 use Rattle.std.specs.Option.{option_and_then}
-use Rattle.std.proofs.lemmas.Bool.{ne_eqb, true≢false}
-use Rattle.std.proofs.lemmas.List.Elements.{All-head, All-tail}
 use Rattle.std.proofs.lemmas.Option.{slice_get-get_or}
 use Rattle.vr_types.specs.Content.{Content, record_of}
 use Rattle.vr_types.specs.Geometry.{IsAllowed, area_count, head_block}
@@ -32,11 +30,10 @@ use Rattle.vr_mount.proofs.Headers.{one_shape}
 use Rattle.vr_part.specs.Attached.{IsAnyShown}
 use Rattle.vr_space.specs.Part.{HasRoom, IsPlaceOf, IsRecordOf, KeyedShape, NumberedShape, Shape}
 use Rattle.vr_space.specs.Part.{Stands, StandsFor, part_no}
-use Rattle.vr_volume.specs.PutBack.{AreAlone, images_of, lengths_kept, put_back, standing}
+use Rattle.vr_volume.specs.PutBack.{AreAlone, images_of, lengths_kept}
 use Rattle.vr_volume.specs.Volume.{CanPutBack, IsInside, Recovers, catalog_back, shapes_by}
-use Rattle.vr_volume.proofs.CallerLemmas.{catalog-whole, shape-stands}
-use Rattle.vr_recover.specs.Found.{AreEntriesOf, AreOff, AtAreas, AtCatalog, AtPart, HasRoomOf}
-use Rattle.vr_recover.specs.Found.{IsAreaNo, IsMountShown, MayGoBack, Misspelled}
+use Rattle.vr_recover.specs.Found.{AreEntriesOf, AtAreas, AtCatalog, AtImages, AtPart, HasRoomOf}
+use Rattle.vr_recover.specs.Found.{IsAreaNo, IsMountShown, MayGoBack, Misspelled, catalog_by}
 use Rattle.vr_recover.specs.Opening.{IsNoVolume, IsTaken, IsVolume, shapes_laid}
 use Rattle.vr_recover.specs.Undone.{FitsPart, IsCovered}
 use Rattle.vr_recover.proofs.Shapes.{entry-laid, laid-number, laid-there, shape-laid}
@@ -67,57 +64,36 @@ volume-here number geometry now allowed header other recovered is =
     one_shape other geometry number number is.allowed allowed
     (sym is.recovers.stands.header ∙ header)
 
--- ---- before-images that aren't the catalog's
-
-pub off-back : (images : List BeforeImage) (content : Content) → AreOff images
-    → put_back 0 images content ≡ content
-off-back [] content off = refl
-off-back (image ∷ images) content off =
-    by (nat_eq image.part 0)
-    (ne_eqb image.part 0 (All-head (λ (i : BeforeImage). i.part ≢ 0) image images off))
-    (off-back images content (All-tail (λ (i : BeforeImage). i.part ≢ 0) image images off))
-  where
-    by : (b : Bool) → b ≡ false → put_back 0 images content ≡ content
-        → cond b (Rattle.vr_altkey.specs.Placing.placed_in image.place image.old
-        (put_back 0 images content)) (put_back 0 images content) ≡ content
-    by true is rest = absurd (true≢false is)
-    by false is rest = rest
-
 -- ---- what recovers has the same log, the same catalog and the same parts
 
 module _ (geometry : Geometry) (number : ℕ) (image : Image) (recovered : ℕ → Content)
     (is : Recovers geometry number image recovered) (content : LogContent)
-    (long : 8 ≤ length (block_at image 1)) (spelled : Spells geometry image content)
-    (off : AreOff (images_of content.records)) where
+    (long : 8 ≤ length (block_at image 1)) (spelled : Spells geometry image content) where
   pub log-same : is.log ≡ content
   log-same = one_log geometry image is.log content long is.stands.log_is spelled
 
   images-same : images_of is.log.records ≡ images_of content.records
   images-same = ap (λ (l : LogContent). images_of l.records) log-same
 
-  catalog-same : catalog_back is.log is.contents ≡ standing (is.contents 0)
-  catalog-same = ap (λ (images : List BeforeImage). put_back 0 images (standing (is.contents 0)))
-      images-same
-      ∙ off-back (images_of content.records) (standing (is.contents 0)) off
+  abbrev images : List BeforeImage
+  images = images_of content.records
+
+  catalog-same : catalog_back is.log is.contents ≡ catalog_by images (is.contents 0)
+  catalog-same = ap (λ (images : List BeforeImage). catalog_by images (is.contents 0)) images-same
 
   pub catalog-stands : StandsFor (catalog_shape geometry) image (is.contents 0)
   catalog-stands = is.stands.laid 0 (catalog_shape geometry) refl
 
-  pub catalog-rules : IsCatalog geometry (is.contents 0)
-  catalog-rules = catalog-whole geometry (is.contents 0)
-      (subst (IsCatalog geometry) catalog-same is.stands.catalog)
+  pub catalog-rules : IsCatalog geometry (catalog_by images (is.contents 0))
+  catalog-rules = subst (IsCatalog geometry) catalog-same is.stands.catalog
 
-  pub misspelled-none : (IsCatalog geometry (is.contents 0) → ⊥) → ⊥
-  misspelled-none none = none catalog-rules
-
-  module _ (entries : List CatEntry) (are : AreEntriesOf geometry image entries) where
-    pub entries-same : entries ≡ entries_in (is.contents 0)
+  module _ (entries : List CatEntry) (are : AreEntriesOf geometry images image entries) where
+    pub entries-same : entries ≡ entries_in (catalog_by images (is.contents 0))
     entries-same = (are (is.contents 0) catalog-stands).0
 
     pub shapes-same : (part : ℕ) → shapes_by geometry is.log is.contents part
         ≡ shape_in geometry entries part
     shapes-same part = ap (λ (c : Content). shape_by geometry c part) catalog-same
-        ∙ shape-stands geometry (is.contents 0) part
         ∙ ap (λ (es : List CatEntry). shape_in geometry es part) (sym entries-same)
 
     pub is-laid : (part : ℕ) (shape : Shape) → shape_in geometry entries part ≡ Some shape
@@ -204,26 +180,44 @@ module _ (geometry : Geometry) (number : ℕ) (image : Image) (recovered : ℕ �
           (lengths_kept images (part_no shape).0) image) images-same
           (is.room (part_no shape).0 shape (is-laid (part_no shape).0 shape (laid-at j e within)))
 
+  -- each before-image of the catalog's own part may be put back
+  own-fits : All (FitsPart (catalog_shape geometry)) images
+  own-fits k d below = fit (get_or images k d) (subst
+      (All (CanPutBack (shapes_by geometry is.log is.contents))) images-same is.images k d below)
+    where
+      fit : (one : BeforeImage) → CanPutBack (shapes_by geometry is.log is.contents) one
+          → FitsPart (catalog_shape geometry) one
+      fit one can mine =
+          let same : can.shape ≡ catalog_shape geometry =
+          some-shape can.shape (catalog_shape geometry)
+          (sym can.laid ∙ ap (shapes_by geometry is.log is.contents) mine) in
+          record {
+            place = subst (λ (s : Shape). IsPlaceOf s one.place) same can.place;
+            old = subst (λ (s : Shape). IfSome (option_and_then record_of one.old)
+                (IsRecordOf s one.place)) same can.old;
+          }
+
   -- ---- what is shown of the parts
 
   pub mount-none : (block rule : ℕ) (now : Seen) → now.cur ≡ image
-      → IsMountShown geometry now block rule → ⊥
+      → IsMountShown geometry images now block rule → ⊥
   mount-none block rule now same (AtCatalog shown) =
       part_damaged (keyed_part geometry 0 0 catalog_definition) 0 (area_count geometry) image block
       shown.rule (subst (λ (i : Image). Rattle.vr_attach.specs.Damage.IsDamagedAt
       (keyed_part geometry 0 0 catalog_definition) 0 (area_count geometry) i block shown.rule) same
       shown.damaged) (is.contents 0, catalog-stands)
+  mount-none block rule now same (AtImages stands shown) = shown.damaged own-fits
   mount-none block rule now same (Misspelled shown) =
       shown.damaged (is.contents 0)
       (subst (λ (i : Image). StandsFor (catalog_shape geometry) i (is.contents 0)) (sym same)
       catalog-stands) catalog-rules
   mount-none block rule now same (AtAreas shown) =
       area-none shown.entries
-      (subst (λ (i : Image). AreEntriesOf geometry i shown.entries) same shown.are.entries_are)
+      (subst (λ (i : Image). AreEntriesOf geometry images i shown.entries) same shown.are.entries_are)
       block rule shown.shown
   mount-none block rule now same (AtPart shown) =
       let entries = shown.entries in
-      let are = subst (λ (i : Image). AreEntriesOf geometry i entries) same
+      let are = subst (λ (i : Image). AreEntriesOf geometry images i entries) same
       shown.are.entries_are in
       let one = shown.shown in
       let laid : shape_in geometry entries one.entry.part.0 ≡ Some one.shape =

@@ -20,6 +20,7 @@ use Rattle.vr_catalog.specs.declared.entry.CatEntry.{CatEntry}
 use Rattle.vr_attach.specs.Laid.{catalog_shape, keyed_shape, numbered_part, shape_by_kind, shape_of}
 use Rattle.vr_attach.specs.declared.part_no.PartNo2.{PartNo2}
 use Rattle.vr_attach.specs.declared.part_no.PartNo2.TheVariants as whys
+use Rattle.vr_history.specs.State.{BeforeImage}
 use Rattle.vr_log.specs.LogNow.{IsOf}
 use Rattle.vr_mount.specs.Areas.{BeginsWith, IsBelow}
 use Rattle.vr_part.specs.Any.{known_any, shape_any}
@@ -207,9 +208,10 @@ shown-then geometry entries now old answer same =
     (λ block rule shown. entry-then geometry entries now old block rule same shown) answer
 
 -- so is what is shown of its records
-pub catalog-then : (geometry : Geometry) (now old : Seen) (block rule : ℕ) → now.cur ≡ old.cur
-    → IsCatalogShown geometry now block rule → IsCatalogShown geometry old block rule
-catalog-then geometry now old block rule same shown = record {
+pub catalog-then : (geometry : Geometry) (images : List BeforeImage) (now old : Seen)
+    (block rule : ℕ) → now.cur ≡ old.cur → IsCatalogShown geometry images now block rule
+    → IsCatalogShown geometry images old block rule
+catalog-then geometry images now old block rule same shown = record {
   block_is = shown.block_is;
   rule_is = shown.rule_is;
   damaged = λ content stands. shown.damaged content
@@ -234,15 +236,15 @@ not-if b P both is holds = true≢false (sym (both.1 holds) ∙ is)
 
 -- ---- the whole
 
-module _ (geometry : Geometry) (old : Seen) (entries : List CatEntry)
-    (are : AreEntriesOf geometry old.cur entries)
+module _ (geometry : Geometry) (images : List BeforeImage) (old : Seen)
+    (entries : List CatEntry) (are : AreEntriesOf geometry images old.cur entries)
     (distinct : IsDistinct nat_eq (0 ∷ parts_in entries))
     (stands : Stands (catalog_shape geometry) old.cur) where
-  entries-then : AreEntries geometry old entries
+  entries-then : AreEntries geometry images old entries
   entries-then = record { entries_are = are; distinct = distinct }
 
   unserved-then : (block : ℕ) (cause : Unserved) → IsEntryNo geometry entries block cause
-      → IsCatalogUnserved geometry old block cause
+      → IsCatalogUnserved geometry images old block cause
   unserved-then block cause shown =
       let of = are stands.0 stands.1 in
       record {
@@ -255,9 +257,9 @@ module _ (geometry : Geometry) (old : Seen) (entries : List CatEntry)
 
   areas-then : (answer : OpenNo)
       → ShowsBoth (IsAreaNo geometry entries) (IsEntryNo geometry entries) answer
-      → ShowsBoth (IsMountShown geometry old) (IsCatalogUnserved geometry old) answer
-  areas-then answer = shows-both (IsAreaNo geometry entries) (IsMountShown geometry old)
-      (IsEntryNo geometry entries) (IsCatalogUnserved geometry old)
+      → ShowsBoth (IsMountShown geometry images old) (IsCatalogUnserved geometry images old) answer
+  areas-then answer = shows-both (IsAreaNo geometry entries) (IsMountShown geometry images old)
+      (IsEntryNo geometry entries) (IsCatalogUnserved geometry images old)
       (λ block rule shown. AtAreas (record {
         entries = entries;
         are = entries-then;
@@ -266,9 +268,9 @@ module _ (geometry : Geometry) (old : Seen) (entries : List CatEntry)
 
   parts-then : (later : Seen) (answer : OpenNo) → later.cur ≡ old.cur
       → ShowsOnly (IsEntryShown geometry entries later) answer
-      → ShowsBoth (IsMountShown geometry old) (IsCatalogUnserved geometry old) answer
+      → ShowsBoth (IsMountShown geometry images old) (IsCatalogUnserved geometry images old) answer
   parts-then later answer same shown = shows-also (IsEntryShown geometry entries old)
-      (IsMountShown geometry old) (IsCatalogUnserved geometry old)
+      (IsMountShown geometry images old) (IsCatalogUnserved geometry images old)
       (λ block rule of. AtPart (record {
         entries = entries;
         are = entries-then;
@@ -276,22 +278,23 @@ module _ (geometry : Geometry) (old : Seen) (entries : List CatEntry)
         shown = of;
       })) answer (shown-then geometry entries later old answer same shown)
 
-pub areas-shown : (geometry : Geometry) (old : Seen) (entries asked : List CatEntry)
-    (answer : OpenNo) → asked ≡ entries → AreEntriesOf geometry old.cur entries
+pub areas-shown : (geometry : Geometry) (images : List BeforeImage) (old : Seen)
+    (entries asked : List CatEntry) (answer : OpenNo) → asked ≡ entries
+    → AreEntriesOf geometry images old.cur entries
     → IsDistinct nat_eq (0 ∷ parts_in entries) → Stands (catalog_shape geometry) old.cur
     → ShowsBoth (IsAreaNo geometry asked) (IsEntryNo geometry asked) answer
-    → ShowsBoth (IsMountShown geometry old) (IsCatalogUnserved geometry old) answer
-areas-shown geometry old entries asked answer is are distinct stands shown =
-    areas-then geometry old entries are distinct stands answer
+    → ShowsBoth (IsMountShown geometry images old) (IsCatalogUnserved geometry images old) answer
+areas-shown geometry images old entries asked answer is are distinct stands shown =
+    areas-then geometry images old entries are distinct stands answer
     (subst (λ (es : List CatEntry). ShowsBoth (IsAreaNo geometry es) (IsEntryNo geometry es) answer)
     is shown)
 
-pub parts-shown : (geometry : Geometry) (old later : Seen) (entries asked : List CatEntry)
-    (answer : OpenNo) → asked ≡ entries → later.cur ≡ old.cur
-    → AreEntriesOf geometry old.cur entries → IsDistinct nat_eq (0 ∷ parts_in entries)
+pub parts-shown : (geometry : Geometry) (images : List BeforeImage) (old later : Seen)
+    (entries asked : List CatEntry) (answer : OpenNo) → asked ≡ entries → later.cur ≡ old.cur
+    → AreEntriesOf geometry images old.cur entries → IsDistinct nat_eq (0 ∷ parts_in entries)
     → Stands (catalog_shape geometry) old.cur
     → ShowsOnly (IsEntryShown geometry asked later) answer
-    → ShowsBoth (IsMountShown geometry old) (IsCatalogUnserved geometry old) answer
-parts-shown geometry old later entries asked answer is same are distinct stands shown =
-    parts-then geometry old entries are distinct stands later answer same
+    → ShowsBoth (IsMountShown geometry images old) (IsCatalogUnserved geometry images old) answer
+parts-shown geometry images old later entries asked answer is same are distinct stands shown =
+    parts-then geometry images old entries are distinct stands later answer same
     (subst (λ (es : List CatEntry). ShowsOnly (IsEntryShown geometry es later) answer) is shown)

@@ -86,8 +86,9 @@ module _ (geometry : Geometry) (content : LogContent) (a b : Seen) (allowed : Is
   off-now n out below = call.content n out
 
   -- the catalog's entries are what they were
-  pub entries-still : (entries : List CatEntry) → AreEntriesOf geometry a.cur entries
-      → AreEntriesOf geometry b.cur entries
+  pub entries-still : (entries : List CatEntry)
+      → AreEntriesOf geometry (images_of content.records) a.cur entries
+      → AreEntriesOf geometry (images_of content.records) b.cur entries
   entries-still entries are one stands = are one
       (keyed-same (keyed_part geometry 0 0 catalog_definition) b.cur a.cur
       (λ n here. sym (off-now n
@@ -217,16 +218,16 @@ module _ (geometry : Geometry) (content : LogContent) (entries : List CatEntry)
   module _ (now : Seen) (of : IsOf geometry now)
       (forced : AllForced now.count now.cur now.may) (long : 8 ≤ length (block_at now.cur 1))
       (spelled : Spells geometry now.cur content)
-      (are : AreEntriesOf geometry now.cur entries)
+      (are : AreEntriesOf geometry images now.cur entries)
       (number : ℕ) (recovered : ℕ → Content)
       (is : Recovers geometry number now.cur recovered) (owners : Owners)
       (own : OwnParts geometry entries owners now.cur) where
     logs : is.log ≡ content
-    logs = log-same geometry number now.cur recovered is content long spelled planned.off
+    logs = log-same geometry number now.cur recovered is content long spelled
 
     same-shapes : (part : ℕ) → shapes_by geometry is.log is.contents part
         ≡ shape_in geometry entries part
-    same-shapes = shapes-same geometry number now.cur recovered is content long spelled planned.off
+    same-shapes = shapes-same geometry number now.cur recovered is content long spelled
         entries are
 
     stays-by : (part : ℕ) (shape : Shape)
@@ -265,7 +266,7 @@ module _ (geometry : Geometry) (content : LogContent) (entries : List CatEntry)
   module _ (now : Seen) (of : IsOf geometry now)
       (forced : AllForced now.count now.cur now.may) (long : 8 ≤ length (block_at now.cur 1))
       (spelled : Spells geometry now.cur content)
-      (are : AreEntriesOf geometry now.cur entries) (number : ℕ) (contents : ℕ → Content)
+      (are : AreEntriesOf geometry images now.cur entries) (number : ℕ) (contents : ℕ → Content)
       (is : Recovers geometry number now.cur (standing_all contents)) (owners : Owners)
       (own : OwnParts geometry entries owners now.cur) where
     log-is : is.log ≡ content
@@ -350,7 +351,7 @@ module _ (geometry : Geometry) (content : LogContent) (entries : List CatEntry)
   then-guards number contents is = cleared-guards geometry content a b cleared.allowed cleared.of
       cleared.forced cleared.long cleared.found.spelled cleared.call number contents is
 
-  then-entries : AreEntriesOf geometry b.cur entries
+  then-entries : AreEntriesOf geometry (images_of content.records) b.cur entries
   then-entries = entries-still geometry content a b cleared.allowed cleared.of cleared.forced
       cleared.long cleared.found.spelled cleared.call entries cleared.found.entries_are
 
@@ -361,7 +362,7 @@ module _ (geometry : Geometry) (content : LogContent) (entries : List CatEntry)
         → shape_in geometry entries part ≡ Some shape
     laid-in part shape laid =
         sym (shapes-same geometry number a.cur (standing_all contents) is content cleared.long
-        cleared.found.spelled planned.off entries cleared.found.entries_are part)
+        cleared.found.spelled entries cleared.found.entries_are part)
         ∙ sym (ap (λ (c : Content). shape_by geometry c part) (is.back 0))
         ∙ shape-stands geometry (contents 0) part ∙ laid
 

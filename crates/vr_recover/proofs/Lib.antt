@@ -14,6 +14,8 @@ pub mod Taking
 pub mod Numbering
 pub mod Owning
 pub mod Shown
+pub mod CatalogBack
+pub mod Mounting
 pub mod Agreeing
 pub mod Recovery
 pub mod Refusals

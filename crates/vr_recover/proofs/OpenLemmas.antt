@@ -45,14 +45,14 @@ use Rattle.vr_recover.specs.Found.{IsFound, IsPartReady, IsPlanned, areas_kept}
 use Rattle.vr_recover.specs.Opening.{AreOwnersBy, HasNoSplit, InArea, InCatalog, InImages, InLog}
 use Rattle.vr_recover.specs.Opening.{InPart, IsDamaged, IsHandedOut, OwnsAreas, shapes_laid}
 use Rattle.vr_recover.specs.Opening.{IsNoVolume, IsOpened, IsPartShown, IsRefused, OfCatalog, OfEntry}
-use Rattle.vr_recover.specs.Opening.{IsShownOf, IsVolume, Twice}
+use Rattle.vr_recover.specs.Opening.{IsShownOf, IsShownPast, IsVolume, PastLog, Twice}
 use Rattle.vr_recover.specs.Undone.{IsLaidPastLog, IsReady, IsUndone}
 use Rattle.vr_recover.specs.declared.open_no.OpenNo.{OpenNo}
 use Rattle.vr_recover.specs.declared.open_no.OpenNo.TheVariants as nos
 use Rattle.vr_recover.specs.declared.open_no.OpenNo.TheVariants.{Damaged, Version, Read, Write, Memory}
 use Rattle.vr_recover.specs.declared.open_no.Unserved.{Unserved}
-use Rattle.vr_recover.specs.Images.{CannotGoBack}
-use Rattle.vr_recover.specs.Unserved.{ByCatalog, ByImage, ByLog, IsUnservedOf}
+use Rattle.vr_recover.specs.Images.{CannotGoBack, catalog_by}
+use Rattle.vr_recover.specs.Unserved.{ByCatalog, ByLog, IsUnservedOf}
 use Rattle.vr_recover.proofs.Adding.{part-at}
 use Rattle.vr_recover.proofs.Agreeing.{volume-here}
 use Rattle.vr_recover.proofs.Attaching.{entry-then}
@@ -93,13 +93,54 @@ module _ (a b : Seen) (count : b.count ≡ a.count) (size : b.size ≡ a.size) (
   none-then number none geometry contents is =
       none geometry contents (volume-before number geometry contents is)
 
-  part-before : (geometry : Geometry) (block rule : ℕ) → IsPartShown geometry b block rule
-      → IsPartShown geometry a block rule
-  part-before geometry block rule (OfCatalog shown) = OfCatalog (subst (λ (i : Image). IsRuleShown
-      (keyed_part geometry 0 0 catalog_definition) 0 (area_count geometry) i block rule) cur shown)
-  part-before geometry block rule (OfEntry content stands shown) = OfEntry content
-      (subst (λ (i : Image). StandsFor (catalog_shape geometry) i content) cur stands)
-      (entry-then geometry (entries_in content) b a block rule cur shown)
+  stands-then : (geometry : Geometry) (one : Content)
+      → StandsFor (catalog_shape geometry) a.cur one
+      → StandsFor (catalog_shape geometry) b.cur one
+  stands-then geometry one =
+      subst (λ (i : Image). StandsFor (catalog_shape geometry) i one) (sym cur)
+
+  stands-before : (geometry : Geometry) (one : Content)
+      → StandsFor (catalog_shape geometry) b.cur one
+      → StandsFor (catalog_shape geometry) a.cur one
+  stands-before geometry one =
+      subst (λ (i : Image). StandsFor (catalog_shape geometry) i one) cur
+
+  part-before : (geometry : Geometry) (images : List BeforeImage) (block rule : ℕ)
+      → IsPartShown geometry images b block rule → IsPartShown geometry images a block rule
+  part-before geometry images block rule (OfCatalog shown) = OfCatalog (subst (λ (i : Image).
+      IsRuleShown (keyed_part geometry 0 0 catalog_definition) 0 (area_count geometry) i block rule)
+      cur shown)
+  part-before geometry images block rule (OfEntry content stands shown) = OfEntry content
+      (stands-before geometry content stands)
+      (entry-then geometry (entries_in (catalog_by images content)) b a block rule cur shown)
+
+  past-before : (geometry : Geometry) (images : List BeforeImage) (block rule : ℕ)
+      → IsShownPast geometry images b block rule → IsShownPast geometry images a block rule
+  past-before geometry images block rule (InPart shown) =
+      InPart (part-before geometry images block rule shown)
+  past-before geometry images block rule (InCatalog shown) = InCatalog (record {
+    block_is = shown.block_is;
+    rule_is = shown.rule_is;
+    damaged = λ one stands. shown.damaged one (stands-then geometry one stands);
+  })
+  past-before geometry images block rule (InArea shown) = InArea (record {
+    block_is = shown.block_is;
+    rule_is = shown.rule_is;
+    damaged = λ one stands. shown.damaged one (stands-then geometry one stands);
+  })
+  past-before geometry images block rule (Twice shown) = Twice (record {
+    block_is = shown.block_is;
+    rule_is = shown.rule_is;
+    damaged = λ one stands. shown.damaged one (stands-then geometry one stands);
+  })
+  past-before geometry images block rule (InImages shown) = InImages (record {
+    block_is = shown.block_is;
+    rule_is = shown.rule_is;
+    catalog = shown.catalog;
+    stands = stands-before geometry shown.catalog shown.stands;
+    damaged = subst (λ (i : Image). CannotGoBack images
+        (shapes_laid geometry (entries_in (catalog_by images shown.catalog))) i) cur shown.damaged;
+  })
 
   shown-before : (geometry : Geometry) (block rule : ℕ) → IsShownOf geometry b block rule
       → IsShownOf geometry a block rule
@@ -108,39 +149,9 @@ module _ (a b : Seen) (count : b.count ≡ a.count) (size : b.size ≡ a.size) (
     damaged = subst (λ (i : Image). Rattle.vr_log.specs.Damage.IsDamagedAt geometry i block) cur
         shown.damaged;
   })
-  shown-before geometry block rule (InPart shown) = InPart (part-before geometry block rule shown)
-  shown-before geometry block rule (InCatalog shown) = InCatalog (record {
-    block_is = shown.block_is;
-    rule_is = shown.rule_is;
-    damaged = λ one stands. shown.damaged one (subst (λ (i : Image).
-        Rattle.vr_space.specs.Part.StandsFor (Rattle.vr_attach.specs.Laid.catalog_shape geometry) i
-        one) (sym cur) stands);
-  })
-  shown-before geometry block rule (InArea shown) = InArea (record {
-    block_is = shown.block_is;
-    rule_is = shown.rule_is;
-    damaged = λ one stands. shown.damaged one (subst (λ (i : Image).
-        Rattle.vr_space.specs.Part.StandsFor (Rattle.vr_attach.specs.Laid.catalog_shape geometry) i
-        one) (sym cur) stands);
-  })
-  shown-before geometry block rule (Twice shown) = Twice (record {
-    block_is = shown.block_is;
-    rule_is = shown.rule_is;
-    damaged = λ one stands. shown.damaged one (subst (λ (i : Image).
-        Rattle.vr_space.specs.Part.StandsFor (Rattle.vr_attach.specs.Laid.catalog_shape geometry) i
-        one) (sym cur) stands);
-  })
-  shown-before geometry block rule (InImages shown) = InImages (record {
-    block_is = shown.block_is;
-    rule_is = shown.rule_is;
-    log = shown.log;
-    spelled = subst (λ (i : Image). Spells geometry i shown.log) cur shown.spelled;
-    catalog = shown.catalog;
-    stands = subst (λ (i : Image). StandsFor (catalog_shape geometry) i shown.catalog) cur
-        shown.stands;
-    damaged = subst (λ (i : Image). CannotGoBack (images_of shown.log.records)
-        (shapes_laid geometry (entries_in shown.catalog)) i) cur shown.damaged;
-  })
+  shown-before geometry block rule (PastLog log spelled shown) = PastLog log
+      (subst (λ (i : Image). Spells geometry i log) cur spelled)
+      (past-before geometry (images_of log.records) block rule shown)
 
   has-before : (geometry : Geometry) (block : ℕ) (cause : Unserved)
       → IsUnservedOf geometry b block cause → IsUnservedOf geometry a block cause
@@ -150,18 +161,10 @@ module _ (a b : Seen) (count : b.count ≡ a.count) (size : b.size ≡ a.size) (
     block_is = has.block_is;
     is = has.is;
   })
-  has-before geometry block cause (ByImage has) = ByImage (record {
-    content = has.content;
-    spelled = subst (λ (i : Image). Spells geometry i has.content) cur has.spelled;
-    block_is = has.block_is;
-    cause_is = has.cause_is;
-    is = has.is;
-  })
-  has-before geometry block cause (ByCatalog log spelled off has) = ByCatalog log
-      (subst (λ (i : Image). Spells geometry i log) cur spelled) off (record {
+  has-before geometry block cause (ByCatalog log spelled has) = ByCatalog log
+      (subst (λ (i : Image). Spells geometry i log) cur spelled) (record {
         content = has.content;
-        stands = subst (λ (i : Image). StandsFor (catalog_shape geometry) i has.content) cur
-            has.stands;
+        stands = stands-before geometry has.content has.stands;
         rules = has.rules;
         block_is = has.block_is;
         is = has.is;

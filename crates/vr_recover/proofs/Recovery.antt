@@ -10,23 +10,19 @@ use Rattle.vr_types.specs.declared.geometry.Geometry.{Geometry}
 use Rattle.vr_types.specs.declared.unit.PartNo.{PartNo}
 use Rattle.vr_catalog.specs.Catalog.{entries_in}
 use Rattle.vr_catalog.specs.declared.entry.CatEntry.{CatEntry}
-use Rattle.vr_attach.specs.CatalogRules.{IsCatalog}
-use Rattle.vr_attach.specs.Laid.{catalog_shape, shape_by, shape_in}
+use Rattle.vr_attach.specs.Laid.{catalog_shape, shape_in}
 use Rattle.vr_attach.specs.Owning.{owner_of}
 use Rattle.vr_history.specs.State.{BeforeImage}
 use Rattle.vr_log.specs.Content.{Content as LogContent}
 use Rattle.vr_log.specs.Spells.{Spells}
 use Rattle.vr_log.specs.Standing.{InLog}
 use Rattle.vr_space.specs.Part.{HasRoom, Shape, Stands, StandsFor, part_no}
-use Rattle.vr_undo.proofs.CallerLemmas.{stands-entries}
 use Rattle.vr_volume.specs.PutBack.{images_of, lengths_kept, put_back, standing}
-use Rattle.vr_volume.specs.Volume.{CanPutBack, Recovers, catalog_back, shapes_by}
-use Rattle.vr_volume.proofs.CallerLemmas.{catalog-stands as rules-stand, shape-stands}
+use Rattle.vr_volume.specs.Volume.{CanPutBack, Recovers, shapes_by}
 use Rattle.vr_mount.proofs.CallerLemmas.{AreSame, OwnParts, areas-own, rooms-same, stands-same}
 use Rattle.vr_mount.proofs.CallerLemmas.{stays-same}
-use Rattle.vr_recover.specs.Found.{HasRoomOf, IsFound, IsPlanned}
+use Rattle.vr_recover.specs.Found.{HasRoomOf, IsFound, IsPlanned, catalog_by}
 use Rattle.vr_recover.specs.Undone.{FitsPart, HasPart}
-use Rattle.vr_recover.proofs.Agreeing.{off-back}
 use Rattle.vr_recover.proofs.Numbering.{inside-of}
 use Rattle.vr_recover.proofs.Shapes.{laid-number, laid-there, shape-laid}
 
@@ -95,17 +91,12 @@ module _ (geometry : Geometry) (content : LogContent) (entries : List CatEntry)
     catalog-stands : StandsFor (catalog_shape geometry) image (contents 0)
     catalog-stands = held-stands 0 (shape_in geometry entries 0) refl (catalog_shape geometry) refl
 
-    catalog-same : catalog_back content contents ≡ standing (contents 0)
-    catalog-same = off-back images (standing (contents 0)) planned.off
-
-    entries-same : entries ≡ entries_in (contents 0)
+    entries-same : entries ≡ entries_in (catalog_by images (contents 0))
     entries-same = (found.entries_are (contents 0) catalog-stands).0
 
     laid-same : (part : ℕ) → shapes_by geometry content contents part
         ≡ shape_in geometry entries part
-    laid-same part = ap (λ (c : Content). shape_by geometry c part) catalog-same
-        ∙ shape-stands geometry (contents 0) part
-        ∙ ap (λ (es : List CatEntry). shape_in geometry es part) (sym entries-same)
+    laid-same part = ap (λ (es : List CatEntry). shape_in geometry es part) (sym entries-same)
 
     can-at : (one : BeforeImage) (at : ℕ) (shape : Shape) → slice_get shapes at ≡ Some shape
         → one.part ≡ (part_no shape).0 → FitsPart shape one
@@ -146,9 +137,7 @@ module _ (geometry : Geometry) (content : LogContent) (entries : List CatEntry)
       stands = record {
         header = found.header;
         log_is = found.spelled;
-        catalog = subst (IsCatalog geometry) (sym catalog-same)
-            (rules-stand geometry (contents 0)
-            (found.entries_are (contents 0) catalog-stands).1);
+        catalog = (found.entries_are (contents 0) catalog-stands).1;
         owners = owner_of geometry owners;
         past = found-own.past;
         laid = λ part shape is. held-stands part (shape_in geometry entries part) refl shape
@@ -167,8 +156,7 @@ module _ (geometry : Geometry) (content : LogContent) (entries : List CatEntry)
 
     -- to contents of which the catalog's has these entries
     pub found-entries : entries ≡ entries_in (recovered 0)
-    found-entries = entries-same ∙ sym (stands-entries (contents 0))
-        ∙ ap entries_in (sym catalog-same)
+    found-entries = entries-same
 
 -- ---- where only blocks of the log changed
 

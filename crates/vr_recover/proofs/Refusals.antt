@@ -1,5 +1,5 @@
 -- What is shown as a volume is opened refuses it.
-use Rattle.std.proofs.Common.{◌≡◌, ⊎_elim, inr, ℕ, ◌<◌, ◌≤◌, Bool, true, false}
+use Rattle.std.proofs.Common.{◌≡◌, ⊎_elim, inl, inr, ℕ, ◌<◌, ◌≤◌, Bool, true, false}
 use Rattle.std.proofs.Common.{List, [], ◌∷◌, Option, Some, None, length, refl, sym, ap, subst, ◌∙◌}
 use Rattle.std.proofs.Common.{arith, cond, get_or}
 use Rattle.std.specs.Prelude.{All, nat_eq, slice_get}
@@ -31,21 +31,20 @@ use Rattle.vr_mount.specs.Header.{IsHeaderOf}
 use Rattle.vr_space.specs.Part.{IsOn, IsPlaceOf, Shape, Stands, StandsFor, part_no}
 use Rattle.vr_volume.specs.PutBack.{image_in, images_of, length_in, length_of}
 use Rattle.vr_volume.specs.Volume.{Recovers}
-use Rattle.vr_recover.specs.Found.{AreEntriesOf, AreOff, AtAreas, AtCatalog, AtPart}
+use Rattle.vr_recover.specs.Found.{AreEntriesOf, AtAreas, AtCatalog, AtImages, AtPart}
 use Rattle.vr_recover.specs.Found.{AllStand, AreItsPlaces, IsBackNo, IsLogNo, MayAdd}
 use Rattle.vr_recover.specs.Found.{IsMountShown, Misspelled, ShowsBoth, ShowsOnly}
-use Rattle.vr_recover.specs.Images.{CannotGoBack}
-use Rattle.vr_recover.specs.Opening.{InArea, InCatalog, InImages, InLog, InPart, IsDamaged, IsLogShown}
-use Rattle.vr_recover.specs.Opening.{IsEntryShown, IsRefused, IsShownOf, OfCatalog, OfEntry, Twice}
+use Rattle.vr_recover.specs.Images.{CannotGoBack, catalog_by}
+use Rattle.vr_recover.specs.Opening.{InArea, InCatalog, InImages, InLog, InPart, IsDamaged, IsLogShown, PastLog}
+use Rattle.vr_recover.specs.Opening.{IsEntryShown, IsRefused, IsShownOf, IsShownPast, OfCatalog, OfEntry, Twice}
 use Rattle.vr_recover.specs.Opening.{shapes_laid}
-use Rattle.vr_recover.specs.Unserved.{ByCatalog, ByImage, ByLog, IsCatalogUnserved, IsLogUnserved}
+use Rattle.vr_recover.specs.Unserved.{ByCatalog, ByLog, IsCatalogUnserved, IsLogUnserved}
 use Rattle.vr_recover.specs.Unserved.{IsUnserved, IsUnservedOf}
 use Rattle.vr_recover.specs.Undone.{FitsPart}
 use Rattle.vr_recover.specs.declared.open_no.OpenNo.{OpenNo}
 use Rattle.vr_recover.specs.declared.open_no.OpenNo.TheVariants as nos
 use Rattle.vr_recover.specs.declared.open_no.OpenNo.TheVariants.{Damaged, Version, Read, Write, Memory}
 use Rattle.vr_recover.specs.declared.open_no.Unserved.{Unserved}
-use Rattle.vr_recover.specs.declared.open_no.Unserved.TheVariants.{CatalogImage}
 use Rattle.vr_recover.proofs.Attaching.{shows-both}
 use Rattle.vr_recover.proofs.Agreeing.{goes-back, has-rooms, mount-none, no-volume}
 use Rattle.vr_recover.proofs.Numbering.{on-of}
@@ -106,36 +105,41 @@ module _ (number : ℕ) (geometry : Geometry) (now : Seen) (allowed : IsAllowed 
   log-refused long Write shown = tt
   log-refused long Memory shown = tt
 
-  -- before-images of the catalog's own part
-  pub image-refused : (content : LogContent) → Spells geometry now.cur content
-      → (AreOff (images_of content.records) → ⊥)
-      → IsRefused number now (nos.Unserved 1 CatalogImage)
-  image-refused content spelled on = unserved-of 1 CatalogImage (ByImage (record {
-    content = content;
-    spelled = spelled;
-    block_is = refl;
-    cause_is = refl;
-    is = on;
-  }))
-
   module _ (content : LogContent) (long : 8 ≤ length (block_at now.cur 1))
-      (spelled : Spells geometry now.cur content) (off : AreOff (images_of content.records)) where
+      (spelled : Spells geometry now.cur content) where
+    abbrev images : List BeforeImage
+    images = images_of content.records
+
+    past-of : (block rule : ℕ)
+        → ((recovered : ℕ → Content) → Recovers geometry number now.cur recovered → ⊥)
+        → IsShownPast geometry images now block rule → IsDamaged number now block rule
+    past-of block rule none shown = damaged-of block rule none (PastLog content spelled shown)
+
     -- ---- by its parts
 
-    none-of : (block rule : ℕ) → IsMountShown geometry now block rule
+    none-of : (block rule : ℕ) → IsMountShown geometry images now block rule
         → (recovered : ℕ → Content) → Recovers geometry number now.cur recovered → ⊥
     none-of block rule shown recovered is =
-        mount-none geometry number now.cur recovered is content long spelled off block rule now
+        mount-none geometry number now.cur recovered is content long spelled block rule now
         refl shown
 
-    entries-as : (entries : List CatEntry) → AreEntriesOf geometry now.cur entries
-        → (one : Content) → StandsFor (Rattle.vr_attach.specs.Laid.catalog_shape geometry) now.cur
-        one → entries_in one ≡ entries
+    entries-as : (entries : List CatEntry) → AreEntriesOf geometry images now.cur entries
+        → (one : Content) → StandsFor (catalog_shape geometry) now.cur one
+        → entries_in (catalog_by images one) ≡ entries
     entries-as entries are one stands = sym (are one stands).0
 
-    shown-as : (block rule : ℕ) → IsMountShown geometry now block rule
-        → IsShownOf geometry now block rule
+    shown-as : (block rule : ℕ) → IsMountShown geometry images now block rule
+        → IsShownPast geometry images now block rule
     shown-as block rule (AtCatalog shown) = InPart (OfCatalog shown)
+    shown-as block rule (AtImages stands shown) = InImages (record {
+      block_is = shown.block_is;
+      rule_is = shown.rule_is;
+      catalog = stands.0;
+      stands = stands.1;
+      damaged = inl (λ back. shown.damaged (All-head
+          (λ (shape : Shape). All (FitsPart shape) images) (catalog_shape geometry)
+          (filter_map (shape_of geometry) (entries_in (catalog_by images stands.0))) back.fits));
+    })
     shown-as block rule (Misspelled shown) = InCatalog shown
     shown-as block rule (AtAreas shown) = ⊎_elim
         (λ past. InArea (record {
@@ -157,46 +161,45 @@ module _ (number : ℕ) (geometry : Geometry) (now : Seen) (allowed : IsAllowed 
         (shown.are.entries_are shown.stands.0 shown.stands.1).0 shown.shown))
 
     pub mount-refused : (answer : OpenNo)
-        → ShowsBoth (IsMountShown geometry now) (IsCatalogUnserved geometry now) answer
+        → ShowsBoth (IsMountShown geometry images now) (IsCatalogUnserved geometry images now)
+        answer
         → IsRefused number now answer
     mount-refused (Damaged block rule) shown =
-        damaged-of block rule (none-of block rule shown) (shown-as block rule shown)
+        past-of block rule (none-of block rule shown) (shown-as block rule shown)
     mount-refused (Version found) shown = absurd shown
     mount-refused (nos.Unserved block cause) shown =
-        unserved-of block cause (ByCatalog content spelled off shown)
+        unserved-of block cause (ByCatalog content spelled shown)
     mount-refused Read shown = tt
     mount-refused Write shown = tt
     mount-refused Memory shown = tt
 
     -- ---- by its before-images
 
-    module _ (entries : List CatEntry) (are : AreEntriesOf geometry now.cur entries)
+    module _ (entries : List CatEntry) (are : AreEntriesOf geometry images now.cur entries)
         (distinct : IsDistinct nat_eq (0 ∷ parts_in entries))
         (stands : Stands (catalog_shape geometry) now.cur) (shapes : List Shape)
         (laid : shapes ≡ shapes_laid geometry entries) where
       back-none : (block rule : ℕ)
-          → IsBackNo (images_of content.records) shapes now.cur block rule
+          → IsBackNo images shapes now.cur block rule
           → (recovered : ℕ → Content) → Recovers geometry number now.cur recovered → ⊥
       back-none block rule shown recovered is = ⊎_elim
-          (λ back. back (goes-back geometry number now.cur recovered is content long spelled off
+          (λ back. back (goes-back geometry number now.cur recovered is content long spelled
           entries are distinct shapes laid))
-          (λ room. room (has-rooms geometry number now.cur recovered is content long spelled off
+          (λ room. room (has-rooms geometry number now.cur recovered is content long spelled
           entries are distinct shapes laid))
           shown.2
 
       pub back-refused : (answer : OpenNo)
-          → ShowsOnly (IsBackNo (images_of content.records) shapes now.cur) answer
+          → ShowsOnly (IsBackNo images shapes now.cur) answer
           → IsRefused number now answer
       back-refused (Damaged block rule) shown =
-          damaged-of block rule (back-none block rule shown)
+          past-of block rule (back-none block rule shown)
           (InImages (record {
             block_is = shown.0;
             rule_is = shown.1;
-            log = content;
-            spelled = spelled;
             catalog = stands.0;
             stands = stands.1;
-            damaged = subst (λ (ss : List Shape). CannotGoBack (images_of content.records) ss now.cur)
+            damaged = subst (λ (ss : List Shape). CannotGoBack images ss now.cur)
                 (laid ∙ ap (shapes_laid geometry) (are stands.0 stands.1).0) shown.2;
           }))
       back-refused (Version found) shown = absurd shown
@@ -285,8 +288,3 @@ log-long geometry now allowed of left sized =
       of.size,
       block_size_least geometry.size allowed.size,
     )
-
-pub off-live : (records all : List LogRecord) → records ≡ all → AreOff (images_of all)
-    → AreOff (images_of records)
-off-live records all same off =
-    subst (λ (rs : List LogRecord). AreOff (images_of rs)) (sym same) off

@@ -37,8 +37,9 @@ use Rattle.vr_part.specs.Any.{known_any, shape_any}
 use Rattle.vr_part.specs.Attached.{IsAttachedWith}
 use Rattle.vr_part.specs.declared.any.AnyPart.{AnyPart}
 use Rattle.vr_part.specs.declared.any.AnyPart.TheVariants.{Keyed}
-use Rattle.vr_volume.specs.PutBack.{AreAlone, images_of, lengths_kept, oldest}
-pub use Rattle.vr_recover.specs.Images.{AreOff, CannotGoBack, HasRoomOf, MayGoBack}
+use Rattle.vr_volume.specs.PutBack.{AreAlone, images_of, lengths_kept, oldest, put_back}
+pub use Rattle.vr_recover.specs.Images.{CannotGoBack, HasRoomOf, IsNamed, MayGoBack, catalog_by}
+pub use Rattle.vr_recover.specs.Images.{name_in, named}
 use Rattle.vr_recover.specs.Opening.{AreOwnersBy, HasNoSplit, IsCatalogShown, IsEntryShown}
 use Rattle.vr_recover.specs.Opening.{IsHeldBy, OwnsAreas, shapes_laid}
 use Rattle.vr_recover.specs.Undone.{FitsPart, HasPart, HaveOwnNumbers, IsReady}
@@ -141,11 +142,19 @@ pub record AreAdded (geometry : Geometry) (entries : List CatEntry) (at : ℕ)
   pub alone : (part : PartNo) (area : ℕ) → IsLaidIn geometry entries part.0 area
       → (HasPart (map shape_any parts) part.0 → ⊥) → owned_count part owners ≡ 1
 
--- the entries of whatever the catalog's blocks stand for, which is a catalog's content
-abbrev pub AreEntriesOf : Geometry → Image → List CatEntry → Type 0
-AreEntriesOf geometry image entries = (content : Content)
+-- the entries of whatever the catalog's blocks stand for, once these before-images are put back in
+-- it: which is a catalog's content
+abbrev pub AreEntriesOf : Geometry → List BeforeImage → Image → List CatEntry → Type 0
+AreEntriesOf geometry images image entries = (content : Content)
     → StandsFor (catalog_shape geometry) image content
-    → (entries ≡ entries_in content) × IsCatalog geometry content
+    → (entries ≡ entries_in (catalog_by images content))
+    × IsCatalog geometry (catalog_by images content)
+
+-- the same of a content with these records, each at its name
+abbrev pub AreEntriesBack : Geometry → List BeforeImage → List (List ℕ) → List CatEntry → Type 0
+AreEntriesBack geometry images records entries =
+    (entries ≡ entries_in (put_back 0 images (named records)))
+    × IsCatalog geometry (put_back 0 images (named records))
 
 -- the entries by the catalog's records
 abbrev pub AreEntriesBy : Geometry → List (List ℕ) → List CatEntry → Type 0
@@ -157,6 +166,26 @@ pub record IsNoneBy (geometry : Geometry) (records : List (List ℕ)) (block rul
   pub block_is : block ≡ head_block geometry 0
   pub rule_is : rule ≡ 17
   pub damaged : (content : Content) → bytes_of content ≡ records → IsCatalog geometry content → ⊥
+
+-- records that are those of no catalog, once these before-images are put back, are shown at its head
+pub record IsNoneBack (geometry : Geometry) (images : List BeforeImage) (records : List (List ℕ))
+    (block rule : ℕ) : Type 0 where
+  pub block_is : block ≡ head_block geometry 0
+  pub rule_is : rule ≡ 17
+  pub damaged : IsCatalog geometry (put_back 0 images (named records)) → ⊥
+
+-- before-images of the catalog's own part that can't be put back are shown at the first block of the
+-- log
+pub record IsOwnBackNo (geometry : Geometry) (images : List BeforeImage) (block rule : ℕ) : Type 0
+  where
+    pub block_is : block ≡ 1
+    pub rule_is : rule ≡ 19
+    pub damaged : All (FitsPart (catalog_shape geometry)) images → ⊥
+
+-- what is shown of the catalog's records, with the before-images
+abbrev pub IsBackShown : Geometry → List BeforeImage → List (List ℕ) → ℕ → ℕ → Type 0
+IsBackShown geometry images records block rule = IsOwnBackNo geometry images block rule
+    ⊎ IsNoneBack geometry images records block rule
 
 -- entries that name an area that the volume hasn't, or one twice, are shown at the catalog's head
 abbrev pub IsAreaNo : Geometry → List CatEntry → ℕ → ℕ → Type 0
@@ -180,30 +209,37 @@ pub record IsMounted (geometry : Geometry) (entries : List CatEntry) (parts : Li
   pub clusters : All IsServedCluster entries
 
 -- These are the catalog's entries, and no part number comes twice in them.
-pub record AreEntries (geometry : Geometry) (now : Seen) (entries : List CatEntry) : Type 0 where
-  pub entries_are : AreEntriesOf geometry now.cur entries
+pub record AreEntries (geometry : Geometry) (images : List BeforeImage) (now : Seen)
+    (entries : List CatEntry) : Type 0 where
+  pub entries_are : AreEntriesOf geometry images now.cur entries
   pub distinct : IsDistinct nat_eq (0 ∷ parts_in entries)
 
 -- entries of the catalog that lay a part in an area that isn't there, or in one twice
-pub record IsAreaOf (geometry : Geometry) (now : Seen) (block rule : ℕ) : Type 0 where
+pub record IsAreaOf (geometry : Geometry) (images : List BeforeImage) (now : Seen)
+    (block rule : ℕ) : Type 0 where
   pub entries : List CatEntry
-  pub are : AreEntries geometry now entries
+  pub are : AreEntries geometry images now entries
   pub shown : IsAreaNo geometry entries block rule
 
 -- the part of an entry of the catalog, where each is on blocks of the volume
-pub record IsLaidShown (geometry : Geometry) (now : Seen) (block rule : ℕ) : Type 0 where
+pub record IsLaidShown (geometry : Geometry) (images : List BeforeImage) (now : Seen)
+    (block rule : ℕ) : Type 0 where
   pub entries : List CatEntry
-  pub are : AreEntries geometry now entries
+  pub are : AreEntries geometry images now entries
   pub stands : Stands (catalog_shape geometry) now.cur
   pub shown : IsEntryShown geometry entries now block rule
 
 -- what is shown while the parts are attached
-pub data IsMountShown (geometry : Geometry) (now : Seen) (block rule : ℕ) : Type 0 where
+pub data IsMountShown (geometry : Geometry) (images : List BeforeImage) (now : Seen)
+    (block rule : ℕ) : Type 0 where
   AtCatalog : IsRuleShown (keyed_part geometry 0 0 catalog_definition) 0 (area_count geometry)
-      now.cur block rule → IsMountShown geometry now block rule
-  Misspelled : IsCatalogShown geometry now block rule → IsMountShown geometry now block rule
-  AtAreas : IsAreaOf geometry now block rule → IsMountShown geometry now block rule
-  AtPart : IsLaidShown geometry now block rule → IsMountShown geometry now block rule
+      now.cur block rule → IsMountShown geometry images now block rule
+  AtImages : Stands (catalog_shape geometry) now.cur → IsOwnBackNo geometry images block rule
+      → IsMountShown geometry images now block rule
+  Misspelled : IsCatalogShown geometry images now block rule
+      → IsMountShown geometry images now block rule
+  AtAreas : IsAreaOf geometry images now block rule → IsMountShown geometry images now block rule
+  AtPart : IsLaidShown geometry images now block rule → IsMountShown geometry images now block rule
 
 -- ---- the before-images
 
@@ -220,24 +256,23 @@ IsBackNo images shapes image block rule = (block ≡ 1) × (rule ≡ 19)
 -- ---- all of it
 
 -- What was found, whatever the blocks have: parts of these shapes are laid by these entries, and the
--- before-images of the log, of which none is the catalog's, may be put back into them.
+-- before-images of the log may be put back into them.
 pub record IsPlanned (geometry : Geometry) (content : LogContent) (entries : List CatEntry)
     (shapes : List Shape) : Type 0 where
   pub shapes_are : shapes ≡ shapes_laid geometry entries
   pub may : MayAdd geometry entries
   pub apart : AreApart (shape_in geometry entries)
   pub clusters : All IsServedCluster entries
-  pub off : AreOff (images_of content.records)
   pub back : MayGoBack (images_of content.records) shapes
 
--- And by what the blocks have: the header, the log, the catalog, the parts with their room, and whose
--- each area is.
+-- And by what the blocks have: the header, the log, the catalog with its before-images put back, the
+-- parts with their room, and whose each area is.
 pub record IsFound (geometry : Geometry) (number : ℕ) (content : LogContent)
     (entries : List CatEntry) (shapes : List Shape) (owners : List (Option PartNo))
     (image : Image) : Type 0 where
   pub header : block_at image 0 ≡ header_block geometry number
   pub spelled : Spells geometry image content
-  pub entries_are : AreEntriesOf geometry image entries
+  pub entries_are : AreEntriesOf geometry (images_of content.records) image entries
   pub stand : AllStand shapes image
   pub rooms : All (HasRoomOf (images_of content.records) image) shapes
   pub owned : AreOwners geometry entries image owners

@@ -17,6 +17,7 @@ use Rattle.vr_attach.specs.CatalogRules.{IsCatalog}
 use Rattle.vr_attach.specs.Laid.{AreApart, HasArea, IsReachedElsewhere, catalog_shape, keyed_part}
 use Rattle.vr_attach.specs.Laid.{shape_by, shape_in, shape_of}
 use Rattle.vr_attach.specs.Owning.{owner_of}
+use Rattle.vr_history.specs.State.{BeforeImage}
 use Rattle.vr_keyed.specs.Attached.{IsRuleShown}
 use Rattle.vr_log.specs.Content.{Content as LogContent}
 use Rattle.vr_log.specs.Damage.{IsDamagedAt}
@@ -31,7 +32,7 @@ use Rattle.vr_part.specs.declared.any.AnyPart.{AnyPart}
 use Rattle.vr_volume.specs.PutBack.{images_of}
 use Rattle.vr_recover.specs.Recovered.{standing_all}
 use Rattle.vr_volume.specs.Volume.{Recovers}
-use Rattle.vr_recover.specs.Images.{CannotGoBack}
+use Rattle.vr_recover.specs.Images.{CannotGoBack, catalog_by}
 pub use Rattle.vr_recover.specs.Recovered.{IsRecovered}
 use Rattle.vr_recover.specs.Undone.{IsLaidPastLog, IsReady, IsUndone}
 use Rattle.vr_recover.specs.Unserved.{IsServedCluster, IsUnserved}
@@ -88,61 +89,79 @@ pub record IsEntryShown (geometry : Geometry) (entries : List CatEntry) (now : S
       now.cur block rule
 
 -- rules 3 to 14: the first block of a part that breaks a rule, and the least that it breaks: of the
--- catalog's own part, or of one that is laid by a content for which the catalog's blocks stand
-pub data IsPartShown (geometry : Geometry) (now : Seen) (block rule : ℕ) : Type 0 where
+-- catalog's own part, or of one that is laid by a content for which the catalog's blocks stand, once
+-- these before-images are put back in it
+pub data IsPartShown (geometry : Geometry) (images : List BeforeImage) (now : Seen)
+    (block rule : ℕ) : Type 0 where
   OfCatalog : IsRuleShown (keyed_part geometry 0 0 catalog_definition) 0 (area_count geometry)
-      now.cur block rule → IsPartShown geometry now block rule
+      now.cur block rule → IsPartShown geometry images now block rule
   OfEntry : (content : Content) → StandsFor (catalog_shape geometry) now.cur content
-      → IsEntryShown geometry (entries_in content) now block rule
-      → IsPartShown geometry now block rule
+      → IsEntryShown geometry (entries_in (catalog_by images content)) now block rule
+      → IsPartShown geometry images now block rule
 
--- a content of the catalog breaks a rule that all contents keep
-abbrev pub IsNoneOf : Geometry → Seen → (Content → Type 0) → Type 0
-IsNoneOf geometry now Keeps = (content : Content)
-    → StandsFor (catalog_shape geometry) now.cur content → Keeps content → ⊥
+-- what the catalog's blocks stand for, once these before-images are put back in it, breaks a rule
+-- that all catalogs keep
+abbrev pub IsNoneOf : Geometry → List BeforeImage → Seen → (Content → Type 0) → Type 0
+IsNoneOf geometry images now Keeps = (content : Content)
+    → StandsFor (catalog_shape geometry) now.cur content → Keeps (catalog_by images content) → ⊥
 
 -- rules 17 and 18 are shown as 17, at the head of the catalog: what it has isn't a catalog
-pub record IsCatalogShown (geometry : Geometry) (now : Seen) (block rule : ℕ) : Type 0 where
+pub record IsCatalogShown (geometry : Geometry) (images : List BeforeImage) (now : Seen)
+    (block rule : ℕ) : Type 0 where
   pub block_is : block ≡ head_block geometry 0
   pub rule_is : rule ≡ 17
-  pub damaged : IsNoneOf geometry now (IsCatalog geometry)
+  pub damaged : IsNoneOf geometry images now (IsCatalog geometry)
 
 -- rule 3 at the head of the catalog, which names an area that the volume hasn't
-pub record IsAreaShown (geometry : Geometry) (now : Seen) (block rule : ℕ) : Type 0 where
+pub record IsAreaShown (geometry : Geometry) (images : List BeforeImage) (now : Seen)
+    (block rule : ℕ) : Type 0 where
   pub block_is : block ≡ head_block geometry 0
   pub rule_is : rule ≡ 3
-  pub damaged : IsNoneOf geometry now (λ content. AreOn geometry (entries_in content))
+  pub damaged : IsNoneOf geometry images now (λ content. AreOn geometry (entries_in content))
 
 -- rule 4 at the head of the catalog, which names an area twice
-pub record IsTwiceShown (geometry : Geometry) (now : Seen) (block rule : ℕ) : Type 0 where
+pub record IsTwiceShown (geometry : Geometry) (images : List BeforeImage) (now : Seen)
+    (block rule : ℕ) : Type 0 where
   pub block_is : block ≡ head_block geometry 0
   pub rule_is : rule ≡ 4
-  pub damaged : IsNoneOf geometry now (λ content. AreApart (shape_by geometry content))
+  pub damaged : IsNoneOf geometry images now (λ content. AreApart (shape_by geometry content))
 
 -- the shapes of the parts that a catalog lays, its own first
 abbrev pub shapes_laid : Geometry → List CatEntry → List Shape
 shapes_laid geometry entries = catalog_shape geometry ∷ filter_map (shape_of geometry) entries
 
--- rule 19 at the first block of the log: the before-images that it has of live units can't be put back
--- into the parts that the catalog's blocks lay
-pub record IsImageShown (geometry : Geometry) (now : Seen) (block rule : ℕ) : Type 0 where
+-- rule 19 at the first block of the log: these before-images can't be put back into the parts that the
+-- catalog's blocks lay, once they are put back in it
+pub record IsImageShown (geometry : Geometry) (images : List BeforeImage) (now : Seen)
+    (block rule : ℕ) : Type 0 where
   pub block_is : block ≡ 1
   pub rule_is : rule ≡ 19
-  pub log : LogContent
-  pub spelled : Spells geometry now.cur log
   pub catalog : Content
   pub stands : StandsFor (catalog_shape geometry) now.cur catalog
-  pub damaged : CannotGoBack (images_of log.records) (shapes_laid geometry (entries_in catalog))
-      now.cur
+  pub damaged : CannotGoBack images
+      (shapes_laid geometry (entries_in (catalog_by images catalog))) now.cur
 
--- what is shown of a volume whose header is in order
+-- what is shown of a volume whose header is in order, and whose log has these before-images of live
+-- units
+pub data IsShownPast (geometry : Geometry) (images : List BeforeImage) (now : Seen)
+    (block rule : ℕ) : Type 0 where
+  InPart : IsPartShown geometry images now block rule
+      → IsShownPast geometry images now block rule
+  InCatalog : IsCatalogShown geometry images now block rule
+      → IsShownPast geometry images now block rule
+  InArea : IsAreaShown geometry images now block rule
+      → IsShownPast geometry images now block rule
+  Twice : IsTwiceShown geometry images now block rule
+      → IsShownPast geometry images now block rule
+  InImages : IsImageShown geometry images now block rule
+      → IsShownPast geometry images now block rule
+
+-- what is shown of a volume whose header is in order: its log, or something by what the log has
 pub data IsShownOf (geometry : Geometry) (now : Seen) (block rule : ℕ) : Type 0 where
   InLog : IsLogShown geometry now block rule → IsShownOf geometry now block rule
-  InPart : IsPartShown geometry now block rule → IsShownOf geometry now block rule
-  InCatalog : IsCatalogShown geometry now block rule → IsShownOf geometry now block rule
-  InArea : IsAreaShown geometry now block rule → IsShownOf geometry now block rule
-  Twice : IsTwiceShown geometry now block rule → IsShownOf geometry now block rule
-  InImages : IsImageShown geometry now block rule → IsShownOf geometry now block rule
+  PastLog : (log : LogContent) → Spells geometry now.cur log
+      → IsShownPast geometry (images_of log.records) now block rule
+      → IsShownOf geometry now block rule
 
 -- ---- why a volume is not opened
 

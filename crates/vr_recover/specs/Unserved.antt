@@ -14,15 +14,16 @@ use Rattle.vr_catalog.specs.declared.entry.CatEntry.{CatEntry}
 use Rattle.vr_catalog.specs.declared.entry.EntryKind.TheVariants.{Cluster}
 use Rattle.vr_attach.specs.CatalogRules.{IsCatalog}
 use Rattle.vr_attach.specs.Laid.{catalog_shape}
+use Rattle.vr_history.specs.State.{BeforeImage}
 use Rattle.vr_log.specs.Content.{Content as LogContent}
 use Rattle.vr_log.specs.Live.{used_by}
 use Rattle.vr_log.specs.Spells.{Spells}
 use Rattle.vr_mount.specs.Header.{IsHeaderOf}
 use Rattle.vr_volume.specs.PutBack.{images_of}
-use Rattle.vr_recover.specs.Images.{AreOff}
+use Rattle.vr_recover.specs.Images.{catalog_by}
 use Rattle.vr_recover.specs.declared.open_no.Unserved.{Unserved}
 use Rattle.vr_recover.specs.declared.open_no.Unserved.TheVariants.{LogAtItsEnd, LogWithoutRoom}
-use Rattle.vr_recover.specs.declared.open_no.Unserved.TheVariants.{CatalogImage, OtherKind, LongRecord}
+use Rattle.vr_recover.specs.declared.open_no.Unserved.TheVariants.{OtherKind, LongRecord}
 
 -- ---- what is served
 
@@ -41,7 +42,6 @@ IsPlain geometry entry = IfSome (cluster_definition entry.entry_kind entry)
 abbrev pub IsLogCause : Geometry → LogContent → Unserved → Type 0
 IsLogCause geometry content LogAtItsEnd = 2 ^ 63 ≤ content.generation
 IsLogCause geometry content LogWithoutRoom = log_size geometry < used_by content.records
-IsLogCause geometry content CatalogImage = ⊥
 IsLogCause geometry content OtherKind = ⊥
 IsLogCause geometry content LongRecord = ⊥
 
@@ -49,7 +49,6 @@ IsLogCause geometry content LongRecord = ⊥
 abbrev pub IsEntryCause : Geometry → List CatEntry → Unserved → Type 0
 IsEntryCause geometry entries LogAtItsEnd = ⊥
 IsEntryCause geometry entries LogWithoutRoom = ⊥
-IsEntryCause geometry entries CatalogImage = ⊥
 IsEntryCause geometry entries OtherKind = All IsServedCluster entries → ⊥
 IsEntryCause geometry entries LongRecord = All (IsPlain geometry) entries → ⊥
 
@@ -61,31 +60,23 @@ pub record IsLogUnserved (geometry : Geometry) (now : Seen) (block : ℕ) (cause
     pub block_is : block ≡ 1
     pub is : IsLogCause geometry content cause
 
--- The log has a before-image of the catalog's own part, and is shown at its first block.
-pub record IsImageUnserved (geometry : Geometry) (now : Seen) (block : ℕ) (cause : Unserved) : Type 0
-  where
-    pub content : LogContent
-    pub spelled : Spells geometry now.cur content
-    pub block_is : block ≡ 1
-    pub cause_is : cause ≡ CatalogImage
-    pub is : AreOff (images_of content.records) → ⊥
-
--- The catalog's blocks stand for a catalog with such entries, and it is shown at its head.
-pub record IsCatalogUnserved (geometry : Geometry) (now : Seen) (block : ℕ) (cause : Unserved)
-    : Type 0 where
+-- The catalog's blocks stand for a catalog with such entries, once these before-images are put back
+-- in it, and it is shown at its head.
+pub record IsCatalogUnserved (geometry : Geometry) (images : List BeforeImage) (now : Seen)
+    (block : ℕ) (cause : Unserved) : Type 0 where
   pub content : Content
   pub stands : StandsFor (catalog_shape geometry) now.cur content
-  pub rules : IsCatalog geometry content
+  pub rules : IsCatalog geometry (catalog_by images content)
   pub block_is : block ≡ head_block geometry 0
-  pub is : IsEntryCause geometry (entries_in content) cause
+  pub is : IsEntryCause geometry (entries_in (catalog_by images content)) cause
 
 -- what isn't served of a volume whose header is in order
 pub data IsUnservedOf (geometry : Geometry) (now : Seen) (block : ℕ) (cause : Unserved) : Type 0 where
   ByLog : IsLogUnserved geometry now block cause → IsUnservedOf geometry now block cause
-  ByImage : IsImageUnserved geometry now block cause → IsUnservedOf geometry now block cause
-  -- none of the catalog's records is put back, so that its blocks have what it recovers to
-  ByCatalog : (log : LogContent) → Spells geometry now.cur log → AreOff (images_of log.records)
-      → IsCatalogUnserved geometry now block cause → IsUnservedOf geometry now block cause
+  -- by the catalog that counts: with the before-images put back that the log has of live units
+  ByCatalog : (log : LogContent) → Spells geometry now.cur log
+      → IsCatalogUnserved geometry (images_of log.records) now block cause
+      → IsUnservedOf geometry now block cause
 
 -- Block 0 is the header of a volume of this number, which has what isn't served.
 pub record IsUnserved (number : ℕ) (now : Seen) (block : ℕ) (cause : Unserved) : Type 0 where

@@ -25,9 +25,9 @@ ghost use Rattle.vr_recover.specs.OpenNo.{HasOpenCause, IsSilentNo};
 ghost use Rattle.vr_recover.specs.Opening.{AreOwnersBy, HasNoSplit, IsRefused};
 
 use crate::begun::Begun;
-use crate::imaging::{are_off, keep_all, may_go_back};
+use crate::imaging::{keep_all, may_go_back};
 use crate::mounted::mount;
-use crate::open_no::{OpenNo, Unserved};
+use crate::open_no::{OpenNo, cannot_go_back};
 use crate::rooming::have_room;
 use std::alloc::Global;
 use vr_catalog::Catalog;
@@ -43,13 +43,6 @@ pub(crate) struct Found {
     pub(crate) catalog: Box<Catalog>,
     pub(crate) undo: Box<Undo>,
     pub(crate) space: Space,
-}
-
-/// What is answered where before-images can't be put back: the first block of the log.
-fn cannot_go_back() -> OpenNo
-    ensures { result ≡ OpenNo.Damaged 1 19 }
-{
-    OpenNo::Damaged { block: 1, rule: 19 }
 }
 
 /// The before-images that a log has of live units, each the only one of its place. `records` are
@@ -137,7 +130,8 @@ fn images_to_undo<B: Blocks>(
     Ok(undo)
 }
 
-/// Finds what a volume of this shape has, whose log was read. There is no part yet.
+/// Finds what a volume of this shape has, whose log was read, by the catalog with its before-images put
+/// back. There is no part yet.
 pub(crate) fn find<B: Blocks>(
     alloc: Global,
     blocks: &mut B,
@@ -171,13 +165,7 @@ pub(crate) fn find<B: Blocks>(
     ensures keeps { Keeps B.tells (B.seen blocks.old) (B.seen blocks.new) }
     ensures cause { HasOpenCause (B.faults blocks.old) (B.faults blocks.new) result }
 {
-    if !are_off(&begun.log, begun.content.records()) {
-        return Err(OpenNo::Unserved {
-            block: 1,
-            cause: Unserved::CatalogImage,
-        });
-    }
-    let mounted = mount(alloc, blocks, geometry, parts)?;
+    let mounted = mount(alloc, blocks, geometry, begun, parts)?;
     let undo = images_to_undo(alloc, blocks, begun, parts)?;
     Ok(Found {
         catalog: mounted.catalog,

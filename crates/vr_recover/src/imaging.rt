@@ -1,5 +1,5 @@
 //! The before-images that a log has of live units: whether they may be put back, and room for them.
-ghost use Rattle.std.specs.Prelude.{◌≡◌, ◌≢◌, ◌↔◌, [], IsTrue, IfSome, All, None, false, map};
+ghost use Rattle.std.specs.Prelude.{◌≡◌, ◌↔◌, [], IsTrue, IfSome, All, None, false, map};
 ghost use Rattle.std.specs.List.{filter_map};
 ghost use Rattle.std.specs.Option.{option_copied};
 ghost use Rattle.std.specs.Prelude.{◌++◌, ◌∷◌, OnOk};
@@ -7,7 +7,7 @@ ghost use Rattle.vr_part.specs.Any.{shape_any};
 ghost use Rattle.vr_log.specs.Live.{live_in};
 ghost use Rattle.vr_undo.specs.Records.{has_at, images_in};
 ghost use Rattle.vr_volume.specs.PutBack.{AreAlone, image_in, images_of, is_image_of, oldest};
-ghost use Rattle.vr_recover.specs.Found.{AreOff, MayGoBack};
+ghost use Rattle.vr_recover.specs.Found.{MayGoBack};
 ghost use Rattle.vr_recover.specs.Undone.{FitsPart};
 
 use crate::fitting::{are_covered, bytes_of, may_put_back};
@@ -15,33 +15,6 @@ use vr_log::{LogRecord, UndoLog};
 use vr_part::AnyPart;
 use vr_types::{OutOfMemory, PartNo, Place, Unit};
 use vr_undo::Undo;
-
-/// Whether a record of the log is no before-image of the catalog's part, of a unit that is live.
-fn is_off(log: &UndoLog, rec: &LogRecord) -> bool
-    requires { log.now.broken ≡ false }
-    ensures { IsTrue result ↔ IfSome (image_in (live_in log.now.records) rec.now)
-        (λ image. image.part ≢ 0) }
-{
-    match rec {
-        LogRecord::Before { unit, part, .. } => part.0 != 0 || !log.is_live(*unit),
-        LogRecord::End { .. } => true,
-    }
-}
-
-/// Whether none of the before-images that the log has of live units is of the catalog's part.
-/// `records` are those of the log.
-pub(crate) fn are_off(log: &UndoLog, records: &[LogRecord]) -> bool
-    requires sound { log.now.broken ≡ false }
-    requires records { records.now ≡ log.now.records }
-    ensures { IsTrue result ↔ AreOff (images_of log.now.records) }
-{
-    for rec in records {
-        if !is_off(log, rec) {
-            return false;
-        }
-    }
-    true
-}
 
 /// Whether a record of the log is no before-image of this place, of a unit that is live.
 fn is_elsewhere(log: &UndoLog, part: PartNo, place: &Place, rec: &LogRecord) -> bool

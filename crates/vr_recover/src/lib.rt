@@ -3,13 +3,15 @@
 //! (vr_mount), the log (vr_log) and what the blocks of a volume stand for (vr_volume).
 //!
 //! It promises that what is opened is a volume, that it has then what its blocks recovered to, with
-//! what was withdrawn where its address is, and when each answer comes. And that while
+//! what was withdrawn where its address is, and when each answer comes; the catalog that counts is the
+//! one with its before-images put back. And that while
 //! before-images are put back and units of recovery are ended the blocks recover to what was
 //! committed, in every image of every moment.
 #![tactic(auto)]
 
 mod backing_out;
 mod begun;
+mod catalog_back;
 mod finding;
 mod fitting;
 mod imaging;

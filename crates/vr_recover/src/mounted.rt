@@ -1,5 +1,6 @@
 //! The catalog of a volume that is opened, and the parts that it lays.
-ghost use Rattle.std.specs.Prelude.{◌≡◌, ◌∷◌, [], All, IsTrue, IfOk, IfErr, None, OnOk, map, nat_eq};
+ghost use Rattle.std.specs.Prelude.{◌≡◌, ◌∷◌, [], All, IsTrue, IfOk, IfErr, None, OnOk, false, map};
+ghost use Rattle.std.specs.Prelude.{nat_eq};
 ghost use Rattle.std.specs.List.{IsDistinct};
 ghost use Rattle.vr_types.specs.Blocks.{Keeps};
 ghost use Rattle.vr_types.specs.Geometry.{IsAllowed, area_count, head_block};
@@ -13,13 +14,16 @@ ghost use Rattle.vr_space.specs.Part.{IsOn, KeyedShape, Stands};
 ghost use Rattle.vr_log.specs.LogNow.{IsOf};
 ghost use Rattle.vr_mount.specs.Areas.{AreOn};
 ghost use Rattle.vr_mount.specs.Listing.{AreRecords};
+ghost use Rattle.vr_volume.specs.PutBack.{images_of};
 ghost use Rattle.vr_recover.specs.Found.{
   AllStand,
+  AreEntriesBack,
   AreEntriesBy,
   AreEntriesOf,
   AreKnown,
   HasLength,
   IsAreaNo,
+  IsBackShown,
   IsEntryNo,
   IsFirstAlone,
   IsMounted,
@@ -30,12 +34,15 @@ ghost use Rattle.vr_recover.specs.Found.{
   ShowsOnly,
 };
 ghost use Rattle.vr_recover.specs.OpenNo.{HasOpenCause, IsOwnNo, IsSilentNo};
-ghost use Rattle.vr_recover.specs.Opening.{AreOwnersBy, HasNoSplit, IsCatalogShown, IsEntryShown};
+ghost use Rattle.vr_recover.specs.Opening.{AreOwnersBy, HasNoSplit, IsEntryShown};
 ghost use Rattle.vr_recover.specs.Opening.{shapes_laid};
 ghost use Rattle.vr_recover.specs.Unserved.{IsCatalogUnserved, IsPlain, IsServedCluster};
 
+use crate::begun::Begun;
+use crate::catalog_back::put_images;
+use crate::fitting::may_put_back;
 use crate::laid::{add, add_entries};
-use crate::open_no::{OpenNo, Unserved};
+use crate::open_no::{OpenNo, Unserved, cannot_go_back};
 use crate::served::{are_plain, are_served};
 use std::alloc::Global;
 use vr_catalog::Catalog;
@@ -115,31 +122,33 @@ fn entries_by(alloc: Global, geometry: &Geometry, records: &[Bytes]) -> Result<B
     }
 }
 
-/// The catalog, read from its part.
-fn read_entries<B: Blocks>(
+/// The catalog whose records these are, once the before-images of its part are put back that the log has
+/// of live units. Its own part is the first of the parts.
+fn entries_back(
     alloc: Global,
-    blocks: &mut B,
     geometry: &Geometry,
-    part: &mut Keyed,
+    begun: &Begun,
+    parts: &[AnyPart],
+    records: &mut Vec<Bytes>,
 ) -> Result<Box<Catalog>, OpenNo>
     requires allowed { IsAllowed geometry.now }
-    requires on { IsOn (KeyedShape part.old.part) (B.seen blocks.old) }
-    requires part { part.old.part ≡ part_of geometry.now 0 0 definition_of_catalog }
-    requires stands { IsTrue B.tells → Stands (KeyedShape part.old.part) (B.seen blocks.old).cur }
-    requires split { part.old.split ≡ None }
-    requires met { part.old.met ≡ [] }
-    ensures entries { IsTrue B.tells → IfOk result (λ catalog.
-        AreEntriesOf geometry.now (B.seen blocks.old).cur catalog.value) }
+    requires sound { begun.now.log.broken ≡ false }
+    requires log { begun.now.content.records ≡ begun.now.log.records }
+    requires first { IsFirstAlone geometry.now parts.now }
+    ensures entries { IfOk result (λ catalog. AreEntriesBack geometry.now
+        (images_of begun.now.content.records) records.old.items catalog.value) }
     ensures parts { IfOk result (λ catalog. IsDistinct nat_eq (0 ∷ parts_in catalog.value)) }
     ensures lengths { IfOk result (λ catalog. All HasLength catalog.value) }
-    ensures damaged { IsTrue B.tells
-        → IfErr result (ShowsOnly (IsCatalogShown geometry.now (B.seen blocks.old))) }
-    ensures same { part.new ≡ part.old }
-    ensures keeps { Keeps B.tells (B.seen blocks.old) (B.seen blocks.new) }
-    ensures cause { HasOpenCause (B.faults blocks.old) (B.faults blocks.new) result }
+    ensures damaged { IfErr result (ShowsOnly (IsBackShown geometry.now
+        (images_of begun.now.content.records) records.old.items)) }
+    ensures own { IfErr result IsOwnNo }
 {
-    let records = list(alloc, blocks, part)?;
-    entries_by(alloc, geometry, &records)
+    let all = begun.content.records();
+    if !may_put_back(&parts[0], &begun.log, all) {
+        return Err(cannot_go_back());
+    }
+    put_images(alloc, &begun.log, all, records)?;
+    entries_by(alloc, geometry, records)
 }
 
 /// The catalog's own part, as its blocks stand.
@@ -164,32 +173,61 @@ fn attach_own<B: Blocks>(
     Ok(own)
 }
 
-/// The catalog, read from its own part, which is the first of the parts.
-fn read_catalog<B: Blocks>(
+/// The records of the catalog, as the blocks of its own part have them, which is the first of the parts.
+fn read_records<B: Blocks>(
     alloc: Global,
     blocks: &mut B,
     geometry: &Geometry,
     parts: &mut Vec<AnyPart>,
-) -> Result<Box<Catalog>, OpenNo>
+) -> Result<Vec<Bytes>, OpenNo>
     requires allowed { IsAllowed geometry.now }
     requires shape { IsOf geometry.now (B.seen blocks.old) }
     requires parts { parts.old.items ≡ [] }
     ensures first { OnOk result (IsFirstAlone geometry.now parts.new.items) }
     ensures stands { IsTrue B.tells → OnOk result
         (Stands (catalog_shape geometry.now) (B.seen blocks.old).cur) }
-    ensures entries { IsTrue B.tells → IfOk result (λ catalog.
-        AreEntriesOf geometry.now (B.seen blocks.old).cur catalog.value) }
-    ensures distinct { IfOk result (λ catalog. IsDistinct nat_eq (0 ∷ parts_in catalog.value)) }
-    ensures lengths { IfOk result (λ catalog. All HasLength catalog.value) }
-    ensures damaged { IsTrue B.tells
-        → IfErr result (ShowsOnly (IsMountShown geometry.now (B.seen blocks.old))) }
+    ensures records { IsTrue B.tells → IfOk result (λ records.
+        AreRecords (catalog_shape geometry.now) (B.seen blocks.old).cur records.items) }
+    ensures damaged { IsTrue B.tells → IfErr result (ShowsOnly (IsRuleShown
+        (part_of geometry.now 0 0 definition_of_catalog) 0 (area_count geometry.now)
+        (B.seen blocks.old).cur)) }
     ensures keeps { Keeps B.tells (B.seen blocks.old) (B.seen blocks.new) }
     ensures cause { HasOpenCause (B.faults blocks.old) (B.faults blocks.new) result }
 {
     let mut own = attach_own(alloc, blocks, geometry)?;
-    let catalog = read_entries(alloc, blocks, geometry, &mut own)?;
+    let records = list(alloc, blocks, &mut own)?;
     add(parts, AnyPart::Keyed(own))?;
-    Ok(catalog)
+    Ok(records)
+}
+
+/// The catalog, read from its own part, which is the first of the parts, with the before-images put back
+/// that the log has of live units.
+fn read_catalog<B: Blocks>(
+    alloc: Global,
+    blocks: &mut B,
+    geometry: &Geometry,
+    begun: &Begun,
+    parts: &mut Vec<AnyPart>,
+) -> Result<Box<Catalog>, OpenNo>
+    requires allowed { IsAllowed geometry.now }
+    requires shape { IsOf geometry.now (B.seen blocks.old) }
+    requires sound { begun.now.log.broken ≡ false }
+    requires log { begun.now.content.records ≡ begun.now.log.records }
+    requires parts { parts.old.items ≡ [] }
+    ensures first { OnOk result (IsFirstAlone geometry.now parts.new.items) }
+    ensures stands { IsTrue B.tells → OnOk result
+        (Stands (catalog_shape geometry.now) (B.seen blocks.old).cur) }
+    ensures entries { IsTrue B.tells → IfOk result (λ catalog. AreEntriesOf geometry.now
+        (images_of begun.now.content.records) (B.seen blocks.old).cur catalog.value) }
+    ensures distinct { IfOk result (λ catalog. IsDistinct nat_eq (0 ∷ parts_in catalog.value)) }
+    ensures lengths { IfOk result (λ catalog. All HasLength catalog.value) }
+    ensures damaged { IsTrue B.tells → IfErr result (ShowsOnly (IsMountShown geometry.now
+        (images_of begun.now.content.records) (B.seen blocks.old))) }
+    ensures keeps { Keeps B.tells (B.seen blocks.old) (B.seen blocks.new) }
+    ensures cause { HasOpenCause (B.faults blocks.old) (B.faults blocks.new) result }
+{
+    let mut records = read_records(alloc, blocks, geometry, parts)?;
+    entries_back(alloc, geometry, begun, parts, &mut records)
 }
 
 /// What is answered of a catalog that isn't served: its head.
@@ -278,32 +316,37 @@ fn lay<B: Blocks>(
     Ok(space)
 }
 
-/// Attaches the catalog's own part, reads the catalog from it, and attaches each part that it lays,
-/// where all of them are served. There is no part yet.
+/// Attaches the catalog's own part, reads the catalog from it, with the before-images put back that the
+/// log has of live units, and attaches each part that it lays, where all of them are served. There is
+/// no part yet.
 pub(crate) fn mount<B: Blocks>(
     alloc: Global,
     blocks: &mut B,
     geometry: &Geometry,
+    begun: &Begun,
     parts: &mut Vec<AnyPart>,
 ) -> Result<Mounted, OpenNo>
     requires allowed { IsAllowed geometry.now }
     requires shape { IsOf geometry.now (B.seen blocks.old) }
+    requires sound { begun.now.log.broken ≡ false }
+    requires log { begun.now.content.records ≡ begun.now.log.records }
     requires parts { parts.old.items ≡ [] }
     ensures mounted { IfOk result (λ mounted. IsMounted geometry.now mounted.catalog.value
         parts.new.items mounted.space) }
-    ensures entries { IsTrue B.tells → IfOk result (λ mounted.
-        AreEntriesOf geometry.now (B.seen blocks.old).cur mounted.catalog.value) }
+    ensures entries { IsTrue B.tells → IfOk result (λ mounted. AreEntriesOf geometry.now
+        (images_of begun.now.content.records) (B.seen blocks.old).cur mounted.catalog.value) }
     ensures known { IsTrue B.tells
         → OnOk result (AreKnown parts.new.items (B.seen blocks.old).cur) }
     ensures stand { IsTrue B.tells
         → OnOk result (AllStand (map shape_any parts.new.items) (B.seen blocks.old).cur) }
-    ensures damaged { IsTrue B.tells
-        → IfErr result (ShowsBoth (IsMountShown geometry.now (B.seen blocks.old))
-        (IsCatalogUnserved geometry.now (B.seen blocks.old))) }
+    ensures damaged { IsTrue B.tells → IfErr result (ShowsBoth
+        (IsMountShown geometry.now (images_of begun.now.content.records) (B.seen blocks.old))
+        (IsCatalogUnserved geometry.now (images_of begun.now.content.records)
+        (B.seen blocks.old))) }
     ensures keeps { Keeps B.tells (B.seen blocks.old) (B.seen blocks.new) }
     ensures cause { HasOpenCause (B.faults blocks.old) (B.faults blocks.new) result }
 {
-    let catalog = read_catalog(alloc, blocks, geometry, parts)?;
+    let catalog = read_catalog(alloc, blocks, geometry, begun, parts)?;
     check_areas(geometry, &catalog)?;
     let space = lay(alloc, blocks, geometry, &catalog, parts)?;
     Ok(Mounted { catalog, space })

@@ -1,4 +1,6 @@
 //! Why a volume is not opened.
+ghost use Rattle.std.specs.Prelude.{◌≡◌};
+
 use vr_attach::PartNo2;
 use vr_types::{DeviceFault, OutOfMemory};
 
@@ -10,8 +12,6 @@ pub enum Unserved {
     LogAtItsEnd,
     /// The log has no room for the ends of its units of recovery.
     LogWithoutRoom,
-    /// The log has a before-image of the catalog's own part, of a unit that is live.
-    CatalogImage,
     /// The catalog has an entry that is no cluster: an alternate index or a path.
     OtherKind,
     /// The catalog has a cluster whose longest record has no room in an interval of its own.
@@ -38,6 +38,13 @@ pub enum OpenNo {
     Write,
     /// There is no memory.
     Memory,
+}
+
+/// What is answered where before-images can't be put back: the first block of the log.
+pub(crate) fn cannot_go_back() -> OpenNo
+    ensures { result ≡ OpenNo.Damaged 1 19 }
+{
+    OpenNo::Damaged { block: 1, rule: 19 }
 }
 
 impl From<DeviceFault> for OpenNo {

@@ -32,6 +32,15 @@ impl From<OutOfMemory> for Stop {
     }
 }
 
+impl From<vr_case_volumes::Stop> for Stop {
+    fn from(stop: vr_case_volumes::Stop) -> Stop {
+        match stop {
+            vr_case_volumes::Stop::Memory => Stop::Memory,
+            vr_case_volumes::Stop::Case => Stop::Line,
+        }
+    }
+}
+
 /// What a verb answers: what is wanted of a line is compared with what it wrote.
 pub type Answer = Result<(), Stop>;
 

@@ -4,6 +4,7 @@ use crate::answers::{Answer, Stop, say, say_bytes, say_formatted, say_number};
 use crate::desk::Desk;
 use crate::words::{number, numbers, parted};
 use std::alloc::Global;
+use vr_case_volumes::format_spelled;
 use vr_device::{BlockDevice, MemoryDevice, memory_device};
 use vr_format::{FormatNo, format_volume};
 use vr_types::OutOfMemory;
@@ -62,6 +63,12 @@ pub fn format(alloc: Global, desk: &mut Desk, rest: &str, out: &mut String) -> A
         return Err(Stop::Line);
     };
     let result = format_device(alloc, desk.device()?, *number, *log, *area)?;
+    say_formatted(out, result)
+}
+
+/// Formats the device with the entries that the line spells.
+pub fn entries(alloc: Global, desk: &mut Desk, rest: &str, out: &mut String) -> Answer {
+    let result = format_spelled(alloc, desk.device()?, rest)?;
     say_formatted(out, result)
 }
 

@@ -8,7 +8,6 @@
 
 mod answers;
 mod desk;
-mod entries;
 mod formatting;
 mod opening;
 mod plain;

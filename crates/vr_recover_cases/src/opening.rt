@@ -114,7 +114,6 @@ fn cause_word(cause: Unserved) -> &'static str {
     match cause {
         Unserved::LogAtItsEnd => "LogAtItsEnd",
         Unserved::LogWithoutRoom => "LogWithoutRoom",
-        Unserved::CatalogImage => "CatalogImage",
         Unserved::OtherKind => "OtherKind",
         Unserved::LongRecord => "LongRecord",
     }

@@ -3,7 +3,7 @@
 use crate::answers::{Answer, Stop};
 use crate::desk::Desk;
 use crate::words::parted;
-use crate::{entries, formatting, opening, plain, shapes};
+use crate::{formatting, opening, plain, shapes};
 use std::alloc::Global;
 
 /// Writes the answer to a line. `desk` has what the lines before it left.
@@ -12,7 +12,7 @@ pub fn answer(alloc: Global, desk: &mut Desk, line: &str, out: &mut String) -> A
     match verb {
         "device" => formatting::device(alloc, desk, rest, out),
         "format" => formatting::format(alloc, desk, rest, out),
-        "entries" => entries::entries(alloc, desk, rest, out),
+        "entries" => formatting::entries(alloc, desk, rest, out),
         "show" => formatting::show(alloc, desk, rest, out),
         "calls" => formatting::calls(desk, out),
         "faults" => formatting::faults(alloc, rest, out),

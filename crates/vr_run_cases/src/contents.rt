@@ -1,16 +1,16 @@
-//! The records of a file as a plain, slow program keeps them: a list in the order of the keys. It
-//! shares nothing with the code that runs jobs.
+//! The records of a file as a plain, slow program keeps them: a list in the order of their places.
+//! It shares nothing with the code that runs jobs.
 
 use std::alloc::{AllocError, Global};
 
-/// A record with its key.
+/// A record with its place.
 #[derive(Drop)]
 struct Record {
-    key: Vec<u8>,
+    place: Vec<u8>,
     bytes: Vec<u8>,
 }
 
-/// The records of a file, in the order of their keys.
+/// The records of a file, in the order of their places.
 #[derive(Drop)]
 pub struct Contents {
     records: Vec<Record>,
@@ -24,55 +24,61 @@ impl Contents {
         }
     }
 
-    /// The bytes of the record with a key.
-    pub fn get(&self, key: &[u8]) -> Option<&[u8]> {
+    /// The bytes of the record at a place.
+    pub fn get(&self, place: &[u8]) -> Option<&[u8]> {
         for record in &self.records {
-            if record.key.as_slice() == key {
+            if record.place.as_slice() == place {
                 return Some(record.bytes.as_slice());
             }
         }
         None
     }
 
-    /// Whether a record has a key.
-    pub fn has(&self, key: &[u8]) -> bool {
-        self.get(key).is_some()
+    /// Whether a record is at a place.
+    pub fn has(&self, place: &[u8]) -> bool {
+        self.get(place).is_some()
     }
 
-    /// How many records have a key below this one.
-    fn below(&self, key: &[u8]) -> usize {
+    /// The last record with its place.
+    pub fn last(&self) -> Option<(&[u8], &[u8])> {
+        let record = self.records.last()?;
+        Some((record.place.as_slice(), record.bytes.as_slice()))
+    }
+
+    /// How many records are at a place below this one.
+    fn below(&self, place: &[u8]) -> usize {
         let mut count = 0;
         for (at, record) in self.records.iter().enumerate() {
-            if record.key.as_slice() < key {
+            if record.place.as_slice() < place {
                 count = at + 1;
             }
         }
         count
     }
 
-    /// Adds a record whose key no record has.
-    pub fn add(&mut self, alloc: Global, key: &[u8], bytes: &[u8]) -> Result<(), AllocError> {
-        let at = self.below(key).min(self.records.len());
+    /// Adds a record where none is.
+    pub fn add(&mut self, alloc: Global, place: &[u8], bytes: &[u8]) -> Result<(), AllocError> {
+        let at = self.below(place).min(self.records.len());
         let record = Record {
-            key: key.to_vec(alloc)?,
+            place: place.to_vec(alloc)?,
             bytes: bytes.to_vec(alloc)?,
         };
         self.records.insert(at, record)?;
         Ok(())
     }
 
-    /// Takes the record with a key away.
-    pub fn remove(&mut self, key: &[u8]) {
-        let at = self.below(key);
-        if at < self.records.len() && self.has(key) {
+    /// Takes the record at a place away.
+    pub fn remove(&mut self, place: &[u8]) {
+        let at = self.below(place);
+        if at < self.records.len() && self.has(place) {
             self.records.remove(at);
         }
     }
 
-    /// Makes the record with a key this one.
-    pub fn set(&mut self, alloc: Global, key: &[u8], bytes: &[u8]) -> Result<(), AllocError> {
-        self.remove(key);
-        self.add(alloc, key, bytes)
+    /// Makes the record at a place this one.
+    pub fn set(&mut self, alloc: Global, place: &[u8], bytes: &[u8]) -> Result<(), AllocError> {
+        self.remove(place);
+        self.add(alloc, place, bytes)
     }
 
     /// The same records.
@@ -86,7 +92,7 @@ impl Contents {
 
     fn copy_into(&self, alloc: Global, copy: &mut Contents) -> Result<(), AllocError> {
         for record in &self.records {
-            copy.add(alloc, record.key.as_slice(), record.bytes.as_slice())?;
+            copy.add(alloc, record.place.as_slice(), record.bytes.as_slice())?;
         }
         Ok(())
     }
@@ -98,7 +104,7 @@ impl Contents {
 
     /// Whether each record is one of the others.
     fn is_in(&self, other: &Contents) -> bool {
-        self.records.iter().all(|record| other.get(record.key.as_slice())
+        self.records.iter().all(|record| other.get(record.place.as_slice())
             == Some(record.bytes.as_slice()))
     }
 }

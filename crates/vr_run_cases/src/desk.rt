@@ -1,4 +1,4 @@
-//! What the lines before left: the device of a volume, and its shape.
+//! What the lines before left: the device of a volume, its shape, and the entries of its catalog.
 
 use crate::answers::Stop;
 use vr_device::MemoryDevice;
@@ -18,6 +18,8 @@ pub struct Shape {
 pub struct Desk {
     device: Option<MemoryDevice>,
     shape: Option<Shape>,
+    /// The entries with which it was formatted as a line spells them, where it does.
+    entries: Option<String>,
 }
 
 impl Desk {
@@ -26,6 +28,7 @@ impl Desk {
         Desk {
             device: None,
             shape: None,
+            entries: None,
         }
     }
 
@@ -34,14 +37,23 @@ impl Desk {
         self.device = Some(device);
     }
 
-    /// The shape of the volume.
-    pub fn set_shape(&mut self, shape: Shape) {
+    /// The shape of the volume and the entries of its catalog.
+    pub fn set_shape(&mut self, shape: Shape, entries: String) {
         self.shape = Some(shape);
+        self.entries = Some(entries);
     }
 
     /// The shape of the last volume that was formatted.
     pub fn shape(&self) -> Result<Shape, Stop> {
         self.shape.ok_or(Stop::Line)
+    }
+
+    /// The entries of its catalog, as its line spells them: nothing where it doesn't.
+    pub fn entries(&self) -> &str {
+        match &self.entries {
+            Some(entries) => entries.as_str(),
+            None => "",
+        }
     }
 
     /// The device, to call it.

@@ -4,7 +4,7 @@ use crate::answers::{Answer, Stop, text_of};
 use crate::contents::Contents;
 use crate::numbered::Job;
 use crate::one_volume::{VolumeEnd, run_job};
-use crate::plain::{PlainFile, key_in, quoted};
+use crate::plain::{Answered, Places, PlainFile, key_in, quoted};
 use crate::running::{DECK, job_of};
 use std::alloc::Global;
 use std::sync::Wait;
@@ -13,67 +13,101 @@ use vr_device::MemoryDevice;
 use vr_history::{Entry, What};
 use vr_job::End;
 use vr_trace::EndLine;
-use vr_types::{Bytes, Refusal, Reply};
+use vr_types::{Bytes, Place, Refusal, Reply};
 
 /// The line of the job text at which a deck's further lines begin.
 const FIRST: u32 = 4;
 
-/// A deck whose runs are judged: its lines, the bytes of a key, the job that runs it, the job that
-/// reads each record of which it has the key, and what it commits.
+/// A deck whose runs are judged: its lines, where its records are, the job that runs it, the job that
+/// reads the records of its file, and what it commits.
 #[derive(Drop)]
 pub struct Case {
     text: String,
-    keys: usize,
+    places: Places,
     pub job: Job,
     pub reader: Job,
     commits: Vec<Contents>,
 }
 
-/// The deck of a question: `KEYS LINES`.
-pub fn case_of(alloc: Global, rest: &str) -> Result<Case, Stop> {
-    let (keys, text) = rest.split_once(' ').ok_or(Stop::Line)?;
-    case_with(alloc, keys, text, text)
+/// The deck of a question on a volume with blocks of this size: `PLACES LINES`, where PLACES is the
+/// length of a key, `R` or `E`.
+pub fn case_of(alloc: Global, size: u32, rest: &str) -> Result<Case, Stop> {
+    let (places, text) = rest.split_once(' ').ok_or(Stop::Line)?;
+    case_with(alloc, places_of(size, places)?, text, text)
 }
 
-/// The two decks of a question, one after the other: `KEYS LINES => LINES`. Both read each record of
-/// which one of them has the key.
-pub fn cases_of(alloc: Global, rest: &str) -> Result<(Case, Case), Stop> {
-    let (keys, both) = rest.split_once(' ').ok_or(Stop::Line)?;
+/// The two decks of a question, one after the other: `PLACES LINES => LINES`. What reads their file
+/// knows of the records of both.
+pub fn cases_of(alloc: Global, size: u32, rest: &str) -> Result<(Case, Case), Stop> {
+    let (places, both) = rest.split_once(' ').ok_or(Stop::Line)?;
+    let places = places_of(size, places)?;
     let (first, then) = both.split_once(" => ").ok_or(Stop::Line)?;
     let mut all = String::from_str(alloc, first)?;
     all.push('|')?;
     all.push_str(then)?;
-    let first = case_with(alloc, keys, first, all.as_str())?;
-    let then = case_with(alloc, keys, then, all.as_str())?;
+    let first = case_with(alloc, places, first, all.as_str())?;
+    let then = case_with(alloc, places, then, all.as_str())?;
     Ok((first, then))
 }
 
-/// A deck with keys of this many bytes, beside the lines that add the records that are read.
-fn case_with(alloc: Global, keys: &str, text: &str, added: &str) -> Result<Case, Stop> {
-    let keys = keys.parse().ok().ok_or(Stop::Line)?;
+fn places_of(size: u32, word: &str) -> Result<Places, Stop> {
+    match word {
+        "R" => Ok(Places::Slots),
+        "E" => Ok(Places::Addresses(size)),
+        _ => Ok(Places::Keys(word.parse().ok().ok_or(Stop::Line)?)),
+    }
+}
+
+/// A deck with such places, beside the lines that add the records that are read.
+fn case_with(alloc: Global, places: Places, text: &str, added: &str) -> Result<Case, Stop> {
     let lines = text_of(alloc, DECK, text)?;
-    let reads = reads_of(alloc, added, keys)?;
-    let commits = commits_of(alloc, text, keys)?;
+    let reads = reads_of(alloc, added, places)?;
+    let commits = commits_of(alloc, text, places)?;
     Ok(Case {
         text: String::from_str(alloc, text)?,
-        keys,
+        places,
         job: job_of(alloc, lines.as_slice())?,
         reader: job_of(alloc, reads.as_slice())?,
         commits,
     })
 }
 
-/// The text of a job that asks for each record of which a deck adds one with its key.
-fn reads_of(alloc: Global, deck: &str, keys: usize) -> Result<Vec<u8>, Stop> {
+/// The text of a job that reads the records of a file to which a deck adds some.
+fn reads_of(alloc: Global, deck: &str, places: Places) -> Result<Vec<u8>, Stop> {
     let mut seen = Contents::new(alloc);
     let mut text = String::from_str(alloc, DECK)?;
-    match add_reads(alloc, deck, keys, &mut seen, &mut text) {
+    match add_reads(alloc, deck, places, &mut seen, &mut text) {
         Ok(()) => Ok(text.as_bytes().to_vec(alloc)?),
         Err(stop) => Err(stop),
     }
 }
 
 fn add_reads(
+    alloc: Global,
+    deck: &str,
+    places: Places,
+    seen: &mut Contents,
+    text: &mut String,
+) -> Answer {
+    match places {
+        Places::Keys(keys) => add_keyed(alloc, deck, keys, seen, text),
+        Places::Slots | Places::Addresses(_) => add_sequential(deck, text),
+    }
+}
+
+/// As many reads of the next record as the deck adds records, and one more.
+fn add_sequential(deck: &str, text: &mut String) -> Answer {
+    for line in deck.split('|') {
+        if line.starts_with("PUT F ") && !line.starts_with("PUT F UPD ") {
+            text.push_str("GET F SEQ\n")?;
+        }
+    }
+    text.push_str("GET F SEQ\n")?;
+    Ok(())
+}
+
+/// A read of each record of which the deck adds one with its key.
+fn add_keyed(
     alloc: Global,
     deck: &str,
     keys: usize,
@@ -106,8 +140,8 @@ fn add_read(
 }
 
 /// What is committed before a deck and after each of its COMMITs, of which one is at its end.
-fn commits_of(alloc: Global, deck: &str, keys: usize) -> Result<Vec<Contents>, Stop> {
-    let mut file = PlainFile::new(alloc, keys);
+fn commits_of(alloc: Global, deck: &str, places: Places) -> Result<Vec<Contents>, Stop> {
+    let mut file = PlainFile::new(alloc, places);
     let mut commits = Vec::new(alloc);
     match add_commits(alloc, deck, &mut file, &mut commits) {
         Ok(()) => Ok(commits),
@@ -123,10 +157,10 @@ fn add_commits(
 ) -> Answer {
     for line in deck.split('|') {
         commits.push(file.committed().copy(alloc)?)?;
-        file.serve(alloc, line)?;
+        file.serve(alloc, line, None)?;
     }
     commits.push(file.committed().copy(alloc)?)?;
-    file.serve(alloc, "COMMIT")?;
+    file.serve(alloc, "COMMIT", None)?;
     commits.push(file.committed().copy(alloc)?)?;
     Ok(())
 }
@@ -159,19 +193,18 @@ impl Case {
         ""
     }
 
-    /// What a run of the deck leaves of a plain file, by what its lines were answered.
+    /// What a run of the deck leaves of a plain file that is empty before, by what its lines were answered.
     pub fn left(&self, alloc: Global, end: &VolumeEnd) -> Result<PlainFile, Stop> {
-        self.left_over(alloc, Contents::new(alloc), end)
+        self.left_over(alloc, PlainFile::new(alloc, self.places), end)
     }
 
-    /// The same of a plain file that has these records before.
+    /// The same of this plain file.
     pub fn left_over(
         &self,
         alloc: Global,
-        before: Contents,
+        mut file: PlainFile,
         end: &VolumeEnd,
     ) -> Result<PlainFile, Stop> {
-        let mut file = PlainFile::over(alloc, self.keys, before)?;
         match self.take_in(alloc, end.history.entries(), &mut file) {
             Ok(()) => Ok(file),
             Err(stop) => Err(stop),
@@ -183,7 +216,7 @@ impl Case {
             match &entry.what {
                 What::Asked { reply, .. } => {
                     let line = self.line_at(entry.line);
-                    file.answer(alloc, line, code_of(reply), bytes_of(reply))?;
+                    file.answer(alloc, line, &answered(reply))?;
                 }
                 What::Undone { place, .. } => file.undo(alloc, place.as_slice())?,
                 _ => {}
@@ -209,7 +242,7 @@ impl Case {
             return Ok(None);
         }
         let mut found = Contents::new(alloc);
-        match add_found(alloc, self.keys, end.history.entries(), &mut found) {
+        match add_found(alloc, end.history.entries(), &mut found) {
             Ok(true) => Ok(Some(found)),
             Ok(false) => Ok(None),
             Err(stop) => Err(stop),
@@ -219,49 +252,52 @@ impl Case {
 
 /// Adds the records that requests were answered with. False where one was refused otherwise than for
 /// want of its record.
-fn add_found(
-    alloc: Global,
-    keys: usize,
-    entries: &[Entry],
-    found: &mut Contents,
-) -> Result<bool, Stop> {
+fn add_found(alloc: Global, entries: &[Entry], found: &mut Contents) -> Result<bool, Stop> {
     for entry in entries {
         let What::Asked { reply, .. } = &entry.what else {
             return Ok(false);
         };
         match reply {
-            Reply::Done { bytes, .. } => add_record(alloc, keys, bytes, found)?,
-            Reply::Refused(Refusal::NotFound) => {}
+            Reply::Done {
+                place: Some(place),
+                bytes: Some(bytes),
+                ..
+            } => found.add(alloc, place.as_slice(), bytes.as_slice())?,
+            Reply::Done { .. } => {}
+            Reply::Refused(Refusal::NotFound | Refusal::EndOfData) => {}
             Reply::Refused(_) => return Ok(false),
         }
     }
     Ok(true)
 }
 
-fn add_record(alloc: Global, keys: usize, bytes: &Option<Bytes>, found: &mut Contents) -> Answer {
-    if let Some(bytes) = bytes {
-        let bytes = bytes.as_slice();
-        found.add(alloc, key_in(bytes, keys), bytes)?;
+/// What a reply shows: 0 or why the request was refused, and the place and the record that it has.
+fn answered(reply: &Reply) -> Answered<'_> {
+    match reply {
+        Reply::Done { place, bytes, .. } => Answered {
+            code: 0,
+            place: place_in(place),
+            bytes: bytes_in(bytes),
+        },
+        Reply::Refused(refusal) => Answered {
+            code: refusal.code(),
+            place: None,
+            bytes: None,
+        },
     }
-    Ok(())
 }
 
-/// What a reply shows: 0, or why the request was refused.
-fn code_of(reply: &Reply) -> u16 {
-    match reply {
-        Reply::Done { .. } => 0,
-        Reply::Refused(refusal) => refusal.code(),
+fn place_in(place: &Option<Place>) -> Option<&[u8]> {
+    match place {
+        Some(place) => Some(place.as_slice()),
+        None => None,
     }
 }
 
-/// The record that a reply has.
-fn bytes_of(reply: &Reply) -> Option<&[u8]> {
-    match reply {
-        Reply::Done {
-            bytes: Some(bytes),
-            ..
-        } => Some(bytes.as_slice()),
-        _ => None,
+fn bytes_in(bytes: &Option<Bytes>) -> Option<&[u8]> {
+    match bytes {
+        Some(bytes) => Some(bytes.as_slice()),
+        None => None,
     }
 }
 

@@ -8,6 +8,7 @@ use crate::words::{long_number, numbers};
 use std::alloc::Global;
 use std::sync::Wait;
 use std::thread::Threads;
+use vr_case_volumes::format_spelled;
 use vr_device::{MemoryDevice, memory_device};
 use vr_format::{FormatNo, format_volume};
 use vr_job_text::parse_run_job;
@@ -21,10 +22,12 @@ const LONGEST: usize = 1 << 20;
 /// What precedes the lines of a deck.
 pub const DECK: &str = "//S EXEC PGM=VRMDECK\n//DECK1 DD *\nFILE F VRM.FIRST\n";
 
-/// Makes a device and formats it as volume 0: `SIZE BLOCKS LOG AREA FAILS..`. Its calls of the last
-/// numbers fail, counted from the first one of formatting, which is 0.
+/// Makes a device and formats it as volume 0: `SIZE BLOCKS LOG AREA FAILS.. / ENTRY / ..`. Its calls of
+/// the last numbers fail, counted from the first one of formatting, which is 0. Without entries it has
+/// VRM.FIRST.
 pub fn volume(alloc: Global, desk: &mut Desk, rest: &str, out: &mut String) -> Answer {
-    let words = numbers(alloc, rest)?;
+    let (words, entries) = rest.split_once(" / ").unwrap_or((rest, ""));
+    let words = numbers(alloc, words)?;
     let [size, blocks, log, area, fails @ ..] = words.as_slice() else {
         return Err(Stop::Line);
     };
@@ -36,15 +39,31 @@ pub fn volume(alloc: Global, desk: &mut Desk, rest: &str, out: &mut String) -> A
         area: *area,
     };
     let mut device = new_device(alloc, shape, fails.as_slice())?;
-    let formatted = format_volume(alloc, &mut device, 0, *log, *area);
+    let formatted = format_as(alloc, &mut device, shape, entries)?;
     desk.set(device);
-    desk.set_shape(shape);
+    desk.set_shape(shape, String::from_str(alloc, entries)?);
     match formatted {
         Ok(()) => say(out, "ok"),
         Err(FormatNo::Geometry) => say(out, "geometry"),
         Err(FormatNo::Memory) => Err(Stop::Memory),
         Err(_) => say(out, "no"),
     }
+}
+
+/// Formats a device as volume 0, with these entries, or with VRM.FIRST where there are none.
+fn format_as(
+    alloc: Global,
+    device: &mut MemoryDevice,
+    shape: Shape,
+    entries: &str,
+) -> Result<Result<(), FormatNo>, Stop> {
+    let log = shape.log;
+    let area = shape.area;
+    if entries.is_empty() {
+        return Ok(format_volume(alloc, device, 0, log, area));
+    }
+    let text = format!(in alloc; "0 {log} {area} / {entries}")?;
+    Ok(format_spelled(alloc, device, text.as_str())?)
 }
 
 /// The same numbers, as numbers of calls.
@@ -73,10 +92,15 @@ fn new_device(alloc: Global, shape: Shape, fails: &[u64]) -> Result<MemoryDevice
         .ok_or(Stop::Memory)
 }
 
-/// A device that is formatted as volume 0 and whose calls of these numbers fail.
-pub fn formatted(alloc: Global, shape: Shape, fails: &[u64]) -> Result<MemoryDevice, Stop> {
+/// A device that is formatted so as volume 0 and whose calls of these numbers fail.
+pub fn formatted(
+    alloc: Global,
+    shape: Shape,
+    entries: &str,
+    fails: &[u64],
+) -> Result<MemoryDevice, Stop> {
     let mut device = new_device(alloc, shape, fails)?;
-    match format_volume(alloc, &mut device, 0, shape.log, shape.area) {
+    match format_as(alloc, &mut device, shape, entries)? {
         Ok(()) => Ok(device),
         Err(FormatNo::Memory) => Err(Stop::Memory),
         Err(_) => Err(Stop::Line),

@@ -45,7 +45,7 @@ impl Table {
 }
 
 /// Runs a deck on an empty volume on copies of the device that are stopped at each of their calls, and
-/// opens each image that a crash may leave then: `KEYS LINES`. An image is wrong whose records aren't
+/// opens each image that a crash may leave then: `PLACES LINES`. An image is wrong whose records aren't
 /// those that are committed, or those that a COMMIT would have committed which a fault refused.
 pub fn crashes<R: Threads + Wait + Sync>(
     rt: &R,
@@ -54,7 +54,7 @@ pub fn crashes<R: Threads + Wait + Sync>(
     rest: &str,
     out: &mut String,
 ) -> Answer {
-    let case = case_of(alloc, rest)?;
+    let case = case_of(alloc, desk.shape()?.size, rest)?;
     let mut table = Table::new();
     let start = left_by(alloc, desk.device()?, Leaves::Newest)?;
     crash_all(rt, alloc, &start, &case, &mut table)?;
@@ -163,8 +163,9 @@ fn is_right(found: &Option<Contents>, case: &Case, file: &PlainFile, wanted: Wan
 
 /// The same, but a second deck is run on images and stopped too, at each call of its opening and its
 /// requests, and each image that a crash may leave then is opened: on one image at every so many stops
-/// of the first deck, which has of each block its last content or its stable one, in turn:
-/// `EVERY KEYS LINES => LINES`. What the second deck begins with is what that image has.
+/// of the first deck, which has of each block its last content or its stable one, in turn; or, where that
+/// number is 0, on each image that a crash may leave at each of its stops: `EVERY PLACES LINES => LINES`.
+/// What the second deck begins with is what that image has.
 pub fn again<R: Threads + Wait + Sync>(
     rt: &R,
     alloc: Global,
@@ -173,8 +174,8 @@ pub fn again<R: Threads + Wait + Sync>(
     out: &mut String,
 ) -> Answer {
     let (every, rest) = parted(rest);
-    let every = long_number(every)?.max(1);
-    let (first, then) = cases_of(alloc, rest)?;
+    let every = long_number(every)?;
+    let (first, then) = cases_of(alloc, desk.shape()?.size, rest)?;
     let mut table = Table::new();
     let start = left_by(alloc, desk.device()?, Leaves::Newest)?;
     again_all(rt, alloc, &start, every, &first, &then, &mut table)?;
@@ -202,17 +203,24 @@ fn again_all<R: Threads + Wait + Sync>(
 ) -> Answer {
     for turn in 0..CALLS {
         let copy = copy_of(alloc, device)?;
-        let leaves = if turn % 2 == 0 {
-            Leaves::Newest
-        } else {
-            Leaves::Oldest
-        };
-        let call = turn.saturating_mul(every);
+        let call = turn.saturating_mul(every.max(1));
+        let leaves = leaves_at(turn, every);
         if again_at(rt, alloc, copy, call, leaves, first, then, table)? {
             return Ok(());
         }
     }
     Err(Stop::Line)
+}
+
+/// What is left at a turn: nothing where each image is.
+fn leaves_at(turn: u64, every: u64) -> Option<Leaves> {
+    if every == 0 {
+        None
+    } else if turn % 2 == 0 {
+        Some(Leaves::Newest)
+    } else {
+        Some(Leaves::Oldest)
+    }
 }
 
 /// The same for one call of the first deck. Answers whether it makes fewer.
@@ -221,7 +229,7 @@ fn again_at<R: Threads + Wait + Sync>(
     alloc: Global,
     device: MemoryDevice,
     call: u64,
-    leaves: Leaves,
+    leaves: Option<Leaves>,
     first: &Case,
     then: &Case,
     table: &mut Table,
@@ -230,27 +238,67 @@ fn again_at<R: Threads + Wait + Sync>(
     let file = first.left(alloc, &end)?;
     let done = end.device.calls() <= call;
     table.calls = table.calls.saturating_add(if done { 0 } else { 1 });
-    let image = left_by(alloc, &end.device, leaves)?;
-    let found = first.read(rt, alloc, copy_of(alloc, &image)?)?;
-    table.count(is_right(&found, first, &file, Wanted::First));
-    if let Some(found) = found {
-        then_all(rt, alloc, &image, &found, then, table)?;
+    match leaves {
+        Some(leaves) => {
+            let image = left_by(alloc, &end.device, leaves)?;
+            again_on(rt, alloc, &image, &file, first, then, table)?;
+        }
+        None => again_each(rt, alloc, &end.device, &file, first, then, table)?,
     }
     Ok(done)
 }
 
-/// Stops the second deck at each of its calls, on an image with these records.
+/// Goes on from each image that a crash may leave of a device.
+fn again_each<R: Threads + Wait + Sync>(
+    rt: &R,
+    alloc: Global,
+    device: &MemoryDevice,
+    file: &PlainFile,
+    first: &Case,
+    then: &Case,
+    table: &mut Table,
+) -> Answer {
+    let mut images = Images::of(alloc, device)?;
+    for _ in 0..CALLS {
+        let Some(image) = images.next(alloc, device)? else {
+            return Ok(());
+        };
+        again_on(rt, alloc, &image, file, first, then, table)?;
+    }
+    Err(Stop::Line)
+}
+
+/// Judges the records of an image, and stops the second deck on it.
+fn again_on<R: Threads + Wait + Sync>(
+    rt: &R,
+    alloc: Global,
+    image: &MemoryDevice,
+    file: &PlainFile,
+    first: &Case,
+    then: &Case,
+    table: &mut Table,
+) -> Answer {
+    let found = first.read(rt, alloc, copy_of(alloc, image)?)?;
+    table.count(is_right(&found, first, file, Wanted::First));
+    if let Some(found) = found {
+        let left = file.left_with(alloc, &found)?;
+        then_all(rt, alloc, image, &left, then, table)?;
+    }
+    Ok(())
+}
+
+/// Stops the second deck at each of its calls, on an image that is left so.
 fn then_all<R: Threads + Wait + Sync>(
     rt: &R,
     alloc: Global,
     image: &MemoryDevice,
-    found: &Contents,
+    left: &PlainFile,
     then: &Case,
     table: &mut Table,
 ) -> Answer {
     for call in 0..CALLS {
         let copy = copy_of(alloc, image)?;
-        if then_at(rt, alloc, copy, call, found, then, table)? {
+        if then_at(rt, alloc, copy, call, left, then, table)? {
             return Ok(());
         }
     }
@@ -263,12 +311,12 @@ fn then_at<R: Threads + Wait + Sync>(
     alloc: Global,
     device: MemoryDevice,
     call: u64,
-    found: &Contents,
+    left: &PlainFile,
     then: &Case,
     table: &mut Table,
 ) -> Result<bool, Stop> {
     let end = run_stopped(rt, alloc, device, call, &then.job)?;
-    let file = then.left_over(alloc, found.copy(alloc)?, &end)?;
+    let file = then.left_over(alloc, left.left_with(alloc, left.committed())?, &end)?;
     let done = end.device.calls() <= call;
     table.again = table.again.saturating_add(if done { 0 } else { 1 });
     table.count(ended_well(&end) && !file.is_wrong());
@@ -276,8 +324,8 @@ fn then_at<R: Threads + Wait + Sync>(
     Ok(done)
 }
 
-/// Runs a deck on a volume that is formatted anew with the shape of the last `volume`, where one call
-/// fails once, each in turn, and opens each image that a crash may leave then: `KEYS LINES`.
+/// Runs a deck on a volume that is formatted anew as that of the last `volume`, where one call fails
+/// once, each in turn, and opens each image that a crash may leave then: `PLACES LINES`.
 pub fn faults<R: Threads + Wait + Sync>(
     rt: &R,
     alloc: Global,
@@ -285,9 +333,9 @@ pub fn faults<R: Threads + Wait + Sync>(
     rest: &str,
     out: &mut String,
 ) -> Answer {
-    let case = case_of(alloc, rest)?;
+    let case = case_of(alloc, desk.shape()?.size, rest)?;
     let mut table = Table::new();
-    fail_all(rt, alloc, desk.shape()?, &case, &mut table)?;
+    fail_all(rt, alloc, desk.shape()?, desk.entries(), &case, &mut table)?;
     let Table {
         calls,
         images,
@@ -302,12 +350,14 @@ fn fail_all<R: Threads + Wait + Sync>(
     rt: &R,
     alloc: Global,
     shape: Shape,
+    entries: &str,
     case: &Case,
     table: &mut Table,
 ) -> Answer {
-    let first = formatted(alloc, shape, &[])?.calls();
+    let first = formatted(alloc, shape, entries, &[])?.calls();
     for more in 0..CALLS {
-        if fail_at(rt, alloc, shape, first.saturating_add(more), case, table)? {
+        let call = first.saturating_add(more);
+        if fail_at(rt, alloc, shape, entries, call, case, table)? {
             return Ok(());
         }
     }
@@ -319,11 +369,12 @@ fn fail_at<R: Threads + Wait + Sync>(
     rt: &R,
     alloc: Global,
     shape: Shape,
+    entries: &str,
     call: u64,
     case: &Case,
     table: &mut Table,
 ) -> Result<bool, Stop> {
-    let device = formatted(alloc, shape, &[call])?;
+    let device = formatted(alloc, shape, entries, &[call])?;
     let end = run_job(rt, alloc, device, &case.job)?;
     let file = case.left(alloc, &end)?;
     let done = end.device.calls() <= call;

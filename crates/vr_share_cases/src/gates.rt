@@ -37,6 +37,54 @@ impl Gate for InTurns {
     }
 }
 
+/// Lets two decks run in turns, deck 2 first: each ends its turn where it gets to the latch of a
+/// volume of its own, deck 1 to that of volume 1 and deck 2 to that of volume 2, and is held there
+/// until the other one has ended its next. The last turn of each isn't held.
+#[derive(Drop)]
+pub struct StrictTurns {
+    turns: u32,
+    first: Passes,
+    second: Passes,
+}
+
+impl StrictTurns {
+    /// The gate that holds deck 1 until deck 2 has ended its first turn, and so on to this many
+    /// turns of deck 1.
+    pub fn of(turns: u32) -> StrictTurns {
+        StrictTurns {
+            turns,
+            first: Passes::new(),
+            second: Passes::new(),
+        }
+    }
+
+    /// Ends a turn of deck 1.
+    fn end_first(&self) {
+        self.first.raise();
+        let ended = self.first.count();
+        if ended < self.turns {
+            self.second.wait(ended);
+        }
+    }
+
+    /// Ends a turn of deck 2.
+    fn end_second(&self) {
+        self.second.raise();
+        let ended = self.second.count();
+        self.first.wait(ended.saturating_add(1).min(self.turns));
+    }
+}
+
+impl Gate for StrictTurns {
+    fn pass(&self, at: Spot) {
+        match at {
+            Spot::Holding { deck: 1, volume: 1 } => self.end_first(),
+            Spot::Holding { deck: 2, volume: 2 } => self.end_second(),
+            _ => {}
+        }
+    }
+}
+
 /// Holds deck 1 after so many events of its request until deck 2 had the latch of volume 1 twice,
 /// and deck 2, with that latch, until deck 1 is there.
 #[derive(Drop)]

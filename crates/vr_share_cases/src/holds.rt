@@ -11,6 +11,7 @@ use vr_case_volumes::{
 };
 use vr_device::MemoryDevice;
 use vr_outside::BothHeld;
+use vr_types::Kind;
 
 /// Deck 1 adds a record and backs it out; deck 2 asks for it after each of both.
 const HELD_RECORD: [&str; 16] = [
@@ -35,7 +36,7 @@ const HELD_RECORD: [&str; 16] = [
 /// The replies to deck 2 on volume 0, where it is held on volume 2 until deck 1 got to volume 1,
 /// and deck 1 there until deck 2 is back on volume 2.
 pub fn held_record<R: Threads + Wait + Sync>(rt: &R, alloc: Global, out: &mut String) -> Answer {
-    let shelf = three_volumes(alloc, SMALL)?;
+    let shelf = three_volumes(alloc, SMALL, Kind::Keyed, Kind::Keyed)?;
     let gate = InTurns::new();
     let ran = run_lines(rt, alloc, shelf, &HELD_RECORD, &gate)?;
     say_asked(out, entries_of(&ran.histories, 0), 2, 1)
@@ -76,7 +77,7 @@ const BROWSED: [&str; 27] = [
 /// The replies to deck 2 on volume 0, which reads on while deck 1 has erased a record, by the gate
 /// of `held_record`.
 pub fn browsed<R: Threads + Wait + Sync>(rt: &R, alloc: Global, out: &mut String) -> Answer {
-    let shelf = three_volumes(alloc, SMALL)?;
+    let shelf = three_volumes(alloc, SMALL, Kind::Keyed, Kind::Keyed)?;
     let gate = InTurns::new();
     let ran = run_lines(rt, alloc, shelf, &BROWSED, &gate)?;
     say_asked(out, entries_of(&ran.histories, 0), 2, 1)
@@ -113,8 +114,8 @@ const READING: [&str; 7] = [
 
 /// Volume 0 with VRM.LONG, whose records have at most 120 bytes, and volume 1 with VRM.ONE.
 fn long_shelf(alloc: Global) -> Result<Vec<MemoryDevice>, Stop> {
-    let long = volume_of(alloc, SMALL, 0, "VRM.LONG", MAXIMUM)?;
-    let one = volume_of(alloc, SMALL, 1, "VRM.ONE", MAXIMUM)?;
+    let long = volume_of(alloc, SMALL, 0, "VRM.LONG", Kind::Keyed, MAXIMUM)?;
+    let one = volume_of(alloc, SMALL, 1, "VRM.ONE", Kind::Keyed, MAXIMUM)?;
     Ok(vec![in alloc; long, one]?)
 }
 
@@ -147,7 +148,7 @@ const TWO_GETS: [&str; 7] = [
 
 /// Whether deck 1 had the latch of volume 0 while deck 2 had that of volume 1.
 pub fn both_held<R: Threads + Wait + Sync>(rt: &R, alloc: Global, out: &mut String) -> Answer {
-    let shelf = three_volumes(alloc, SMALL)?;
+    let shelf = three_volumes(alloc, SMALL, Kind::Keyed, Kind::Keyed)?;
     let gate = BothHeld::new();
     let _ran = run_lines(rt, alloc, shelf, &TWO_GETS, &gate)?;
     say(out, if gate.is_met() { "yes" } else { "no" })

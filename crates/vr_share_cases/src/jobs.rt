@@ -58,7 +58,13 @@ impl Job {
 /// Adds the line of a PUT with these operands before its record, which has the key of a number and
 /// so many letters.
 pub fn add_put(text: &mut String, before: &str, key: u32, letter: char, letters: u32) -> Answer {
-    write!(text, "PUT {before} DATA=C'{key:08}")?;
+    write!(text, "PUT {before}")?;
+    add_data(text, key, letter, letters)
+}
+
+/// Ends the line of a PUT with such a record.
+pub fn add_data(text: &mut String, key: u32, letter: char, letters: u32) -> Answer {
+    write!(text, " DATA=C'{key:08}")?;
     for _ in 0..letters {
         text.push(letter)?;
     }

@@ -11,7 +11,7 @@ use vr_case_volumes::{
 use vr_device::MemoryDevice;
 use vr_job::run_job;
 use vr_outside::{Gate, MemorySink, MemorySource, OpenGate};
-use vr_types::Words;
+use vr_types::{Kind, Words};
 
 /// How often the job is run with no gate, and how often in each order.
 const RUNS: u32 = 50;
@@ -31,7 +31,7 @@ const TWO_PUTS: [&str; 7] = [
 
 fn two_volumes(alloc: Global) -> Result<Vec<MemoryDevice>, Stop> {
     let first = first_volume(alloc, SMALL)?;
-    let one = volume_of(alloc, SMALL, 1, "VRM.ONE", MAXIMUM)?;
+    let one = volume_of(alloc, SMALL, 1, "VRM.ONE", Kind::Keyed, MAXIMUM)?;
     Ok(vec![in alloc; first, one]?)
 }
 

@@ -5,6 +5,7 @@
 //! promises is that it is safe; what the lines show is tested.
 #![tactic(auto)]
 
+mod browses;
 mod full_log;
 mod gates;
 mod holds;
@@ -12,11 +13,13 @@ mod jobs;
 mod listings;
 mod replies;
 
+use browses::{Change, ENTRY, KEYED, RELATIVE, Row};
 use std::alloc::{AllocError, Global};
 use std::io;
 use std::sync::Wait;
 use std::thread::Threads;
 use vr_case_volumes::{Answer, Stop};
+use vr_types::Kind;
 
 /// A case, which writes the rest of its line.
 #[derive(Clone, Copy)]
@@ -46,7 +49,44 @@ fn main(rt: HostRuntime) -> io::Result<()> {
     for case in CASES {
         print_case(&rt, case)?;
     }
+    print_browses(&rt, Kind::Keyed, &KEYED)?;
+    print_browses(&rt, Kind::Entry, &ENTRY)?;
+    print_browses(&rt, Kind::Relative, &RELATIVE)
+}
+
+/// Prints two lines for each change of a data set of this kind.
+fn print_browses<R: Threads + Wait + Sync + Print + AllocGlobal>(
+    rt: &R,
+    kind: Kind,
+    rows: &[Row],
+) -> io::Result<()> {
+    for row in rows {
+        let change = Change::of_row(*row);
+        print_browse(rt, kind, change, "COMMIT")?;
+        print_browse(rt, kind, change, "BACKOUT")?;
+    }
     Ok(())
+}
+
+/// Prints the line of a change whose unit ends so.
+fn print_browse<R: Threads + Wait + Sync + Print + AllocGlobal>(
+    rt: &R,
+    kind: Kind,
+    change: Change,
+    end: &str,
+) -> io::Result<()> {
+    let mut out = String::new(rt.alloc());
+    let answer = browses::browsed(rt, rt.alloc(), kind, change, end, &mut out);
+    print_answer(rt, kind_name(kind), out.as_str(), answer)
+}
+
+/// What precedes the colon of a browse's line.
+fn kind_name(kind: Kind) -> &'static str {
+    match kind {
+        Kind::Keyed => "key-sequenced",
+        Kind::Entry => "entry-sequenced",
+        Kind::Relative => "relative",
+    }
 }
 
 /// Prints the line of a case.

@@ -25,12 +25,17 @@ fn is_asked(entry: &Entry) -> bool {
 /// left out.
 pub fn say_entries(out: &mut String, entries: &[Entry], last: u32) -> Answer {
     for entry in entries {
-        if entry.unit.deck <= last && !(is_asked(entry) && entry.line == 0) {
+        if entry.unit.deck <= last && !is_at_end(entry) {
             say_next(out)?;
             say_entry(out, entry)?;
         }
     }
     Ok(())
+}
+
+/// Whether an entry is the COMMIT at a deck's end.
+fn is_at_end(entry: &Entry) -> bool {
+    is_asked(entry) && entry.line == 0
 }
 
 fn say_entry(out: &mut String, entry: &Entry) -> Answer {
@@ -68,17 +73,54 @@ fn say_reply(out: &mut String, reply: &Reply) -> Answer {
     }
 }
 
-/// Writes the first 9 bytes of a record, where there is one.
-fn say_record(out: &mut String, bytes: &Option<Bytes>) -> Answer {
-    if let Some(bytes) = bytes {
-        say(out, " DATA=")?;
-        say_bytes(out, bytes.as_slice())?;
+/// Writes what a deck's entries report, each after a blank: a record that was found by its number and
+/// letter, a refusal by its numbers, and otherwise a word. The COMMIT at its end is left out.
+pub fn say_browse(out: &mut String, entries: &[Entry], deck: u32) -> Answer {
+    for entry in entries {
+        if entry.unit.deck == deck && !is_at_end(entry) {
+            say(out, " ")?;
+            say_short(out, &entry.what)?;
+        }
     }
     Ok(())
 }
 
-fn say_bytes(out: &mut String, bytes: &[u8]) -> Answer {
-    for byte in bytes.iter().take(9) {
+fn say_short(out: &mut String, what: &What) -> Answer {
+    let What::Asked { request, reply } = what else {
+        return say_what(out, what);
+    };
+    match reply {
+        Reply::Done {
+            bytes: Some(bytes),
+            ..
+        } => say_short_record(out, bytes.as_slice()),
+        Reply::Done { .. } => say(out, Verb::of(request.get()).text()),
+        Reply::Refused(refusal) => {
+            let code = refusal.code();
+            write!(out, "FB={code}")?;
+            say_numbers(out, refusal)
+        }
+    }
+}
+
+/// Writes the first 9 bytes of a record, where there is one.
+fn say_record(out: &mut String, bytes: &Option<Bytes>) -> Answer {
+    if let Some(bytes) = bytes {
+        say(out, " DATA=")?;
+        say_bytes(out, bytes.as_slice(), 9)?;
+    }
+    Ok(())
+}
+
+/// Writes the last two digits of a record's number, and its letter.
+fn say_short_record(out: &mut String, record: &[u8]) -> Answer {
+    let before = record.len().min(6);
+    say_bytes(out, &record[before..], 3)
+}
+
+/// Writes this many bytes.
+fn say_bytes(out: &mut String, bytes: &[u8], count: usize) -> Answer {
+    for byte in bytes.iter().take(count) {
         out.push(char::from(*byte))?;
     }
     Ok(())

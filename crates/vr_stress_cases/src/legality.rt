@@ -5,7 +5,7 @@ use vr_case_volumes::{Stop, cluster};
 use vr_catalog::{RECORD_LENGTH, write_entry};
 use vr_history::Entry;
 use vr_model::{FileState, OwnedArea, PartContent, PlacedItem, Stored, is_legal};
-use vr_types::{Bytes, Geometry, NAME_LIMIT, Place};
+use vr_types::{Bytes, Geometry, Kind, NAME_LIMIT, Place};
 
 /// Whether entries are a legal history of a new volume of a shape with this one cluster, whose
 /// records have at most this many bytes.
@@ -40,7 +40,7 @@ fn owned_areas(alloc: Global) -> Result<Vec<OwnedArea>, Stop> {
 
 /// The content of the catalog: a record whose place is the name in its first bytes.
 fn catalog_of(alloc: Global, name: &str, maximum: u32) -> Result<PartContent, Stop> {
-    let entry = cluster(alloc, name, maximum)?;
+    let entry = cluster(alloc, name, Kind::Keyed, maximum)?;
     let mut record = [0u8; RECORD_LENGTH];
     write_entry(&entry, &mut record);
     let placed = placed(alloc, &record)?;

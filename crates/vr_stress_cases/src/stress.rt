@@ -16,7 +16,7 @@ use vr_device::MemoryDevice;
 use vr_history::Entry;
 use vr_outside::OpenGate;
 use vr_trace::Histories;
-use vr_types::Geometry;
+use vr_types::{Geometry, Kind};
 
 /// How many jobs are run.
 const RUNS: u32 = 6;
@@ -96,7 +96,7 @@ fn run_plan<R: Threads + Wait + Sync>(
     plan: &Plan,
     way: Way,
 ) -> Result<Ran, Stop> {
-    let shelf = three_volumes(alloc, way.shape)?;
+    let shelf = three_volumes(alloc, way.shape, Kind::Keyed, Kind::Keyed)?;
     let text = plan.text.as_str();
     if way.yields {
         run_text(rt, alloc, shelf, text, &Yielding)

@@ -1,5 +1,6 @@
 -- What the lines of requests and of the merged history are made of. They are this project's own.
-use Rattle.std.specs.Prelude.{ℕ, List, [], ◌++◌, codes, Option, Some, None}
+use Rattle.std.specs.Prelude.{ℕ, ◌==◌, if◌then◌else◌, List, [], ◌++◌, codes, length}
+use Rattle.std.specs.Prelude.{Option, Some, None}
 use Rattle.std.specs.Fmt.{decimal}
 use Rattle.vr_types.specs.declared.reply.Refusal.{Refusal}
 use Rattle.vr_types.specs.declared.reply.Refusal.TheVariants.{EndOfData, Duplicate, NotFound}
@@ -13,7 +14,10 @@ use Rattle.vr_types.specs.declared.reply.Reply.TheVariants.{Done, Refused}
 use Rattle.vr_types.specs.declared.request.Request.{Request}
 use Rattle.vr_types.specs.declared.request.Request.TheVariants.{Get, Point, Add, Update, Erase}
 use Rattle.vr_types.specs.declared.request.Request.TheVariants.{EndReq, Commit, Backout}
+use Rattle.vr_types.specs.declared.unit.Kind.{Kind}
+use Rattle.vr_types.specs.declared.unit.Kind.TheVariants.{Keyed, Entry, Relative}
 use Rattle.vr_types.specs.declared.unit.Unit.{Unit as UnitOfRecovery}
+use Rattle.vr_types.specs.Fields.{four_at}
 use Rattle.vr_text.specs.Literal.{literal_of}
 use Rattle.vr_trace.specs.Code.{return_code, feedback_of}
 use Rattle.vr_trace.specs.Names.{name_at}
@@ -80,7 +84,34 @@ numbers_of Memory = []
 numbers_of NotAllowed = []
 numbers_of NoFile = []
 
+-- the kind of the data set that a request is on; of those that are on none no reply has a place
+abbrev pub kind_of : Request → Kind
+kind_of Commit = Keyed
+kind_of Backout = Keyed
+kind_of (Get file find update integrity) = file.kind
+kind_of (Point file find) = file.kind
+kind_of (Add file place bytes) = file.kind
+kind_of (Update file bytes) = file.kind
+kind_of (Erase file) = file.kind
+kind_of (EndReq file) = file.kind
+
+-- the number in the four bytes of an address or of a slot; other bytes are no such place
+abbrev pub number_text : List ℕ → List ℕ
+number_text place = if length place == 4 then decimal (four_at 0 place) else literal_of place
+
+-- a key as a literal, an address or a slot as a number
+abbrev pub place_named : Kind → List ℕ → List ℕ
+place_named Keyed place = literal_of place
+place_named Entry place = number_text place
+place_named Relative place = number_text place
+
+-- the place of a record, where there is one
+abbrev pub place_shown : Kind → Option (List ℕ) → List ℕ
+place_shown kind None = []
+place_shown kind (Some place) = codes " AT=" ++ place_named kind place
+
 -- the place and the record of a reply, or the numbers of its refusal
-abbrev pub values_of : Reply → List ℕ
-values_of (Done feedback place bytes) = shown (codes " AT=") place ++ shown (codes " DATA=") bytes
-values_of (Refused refusal) = numbers_of refusal
+abbrev pub values_of : Request → Reply → List ℕ
+values_of request (Done feedback place bytes) =
+    place_shown (kind_of request) place ++ shown (codes " DATA=") bytes
+values_of request (Refused refusal) = numbers_of refusal

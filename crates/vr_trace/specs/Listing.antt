@@ -22,7 +22,7 @@ place_text this =
 abbrev pub asked_line : List (List ℕ) → Numbered → Request → Reply → List ℕ
 asked_line names this request reply =
     place_text this ++ verb_of request ++ file_of names request ++ result_of reply
-    ++ values_of reply ++ 10 ∷ []
+    ++ values_of request reply ++ 10 ∷ []
 
 abbrev pub what_line : List (List ℕ) → Numbered → What → List ℕ
 what_line names this (Asked request reply) = asked_line names this request reply

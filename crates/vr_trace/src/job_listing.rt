@@ -189,7 +189,7 @@ fn write_asked(
     out.extend(verb(request))?;
     write_file(out, names, request)?;
     write_result(alloc, out, reply)?;
-    write_values(alloc, out, reply)?;
+    write_values(alloc, out, request, reply)?;
     out.push(NEW_LINE)
 }
 

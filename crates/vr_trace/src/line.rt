@@ -7,7 +7,7 @@ use crate::code::{feedback, return_code};
 use crate::kept::FileNames;
 use std::alloc::Global;
 use vr_text::write_literal;
-use vr_types::{Bytes, OutOfMemory, Place, Refusal, Reply, Request, Unit};
+use vr_types::{Bytes, Kind, OutOfMemory, Place, Refusal, Reply, Request, Unit, four_at};
 
 /// What ends a line.
 pub(crate) const NEW_LINE: u8 = b'\n';
@@ -90,27 +90,79 @@ pub(crate) fn write_result(alloc: Global, out: &mut Bytes, reply: &Reply) -> Res
     write_field(alloc, out, b" FB=", u64::from(feedback(reply)))
 }
 
-/// Writes the place and the record of a reply, or the numbers of its refusal.
-pub(crate) fn write_values(alloc: Global, out: &mut Bytes, reply: &Reply) -> Result<(), OutOfMemory>
-    ensures { OnOk result (out.new ≡ out.old ++ lines.values_of reply.now) }
+/// The kind of the data set that the request is on.
+fn kind(request: &Request) -> Kind
+    ensures { result ≡ lines.kind_of request.now }
+{
+    match request {
+        Request::Commit | Request::Backout => Kind::Keyed,
+        Request::Get { file, .. }
+        | Request::Point { file, .. }
+        | Request::Add { file, .. }
+        | Request::Update { file, .. }
+        | Request::Erase { file }
+        | Request::EndReq { file } => file.kind,
+    }
+}
+
+/// Writes the place and the record of a reply to the request, or the numbers of its refusal.
+pub(crate) fn write_values(
+    alloc: Global,
+    out: &mut Bytes,
+    request: &Request,
+    reply: &Reply,
+) -> Result<(), OutOfMemory>
+    ensures { OnOk result (out.new ≡ out.old ++ lines.values_of request.now reply.now) }
 {
     match reply {
         Reply::Refused(refusal) => write_numbers(alloc, out, refusal),
         Reply::Done { place, bytes, .. } => {
-            write_place(out, place)?;
+            write_place(alloc, out, kind(request), place)?;
             write_bytes(out, bytes)
         }
     }
 }
 
-fn write_place(out: &mut Bytes, place: &Option<Place>) -> Result<(), OutOfMemory>
-    ensures { OnOk result (out.new ≡ out.old ++ lines.shown (codes " AT=") place.now) }
+fn write_place(
+    alloc: Global,
+    out: &mut Bytes,
+    kind: Kind,
+    place: &Option<Place>,
+) -> Result<(), OutOfMemory>
+    ensures { OnOk result (out.new ≡ out.old ++ lines.place_shown kind place.now) }
 {
     if let Some(place) = place {
         out.extend(b" AT=")?;
-        write_literal(place.as_slice(), out)?;
+        write_place_named(alloc, out, kind, place.as_slice())?;
     }
     Ok(())
+}
+
+/// Writes a key as a literal, an address or the number of a slot as a number.
+fn write_place_named(
+    alloc: Global,
+    out: &mut Bytes,
+    kind: Kind,
+    place: &[u8],
+) -> Result<(), OutOfMemory>
+    ensures { OnOk result (out.new ≡ out.old ++ lines.place_named kind place.now) }
+{
+    match kind {
+        Kind::Keyed => write_literal(place, out),
+        Kind::Entry | Kind::Relative => write_place_number(alloc, out, place),
+    }
+}
+
+/// Writes the number in the four bytes of a place. Other bytes, which are the place of no record
+/// there, are written as a literal.
+fn write_place_number(alloc: Global, out: &mut Bytes, place: &[u8]) -> Result<(), OutOfMemory>
+    ensures { OnOk result (out.new ≡ out.old ++ lines.number_text place.now) }
+{
+    if place.len() == 4 {
+        write_number(alloc, out, u64::from(four_at(place, 0)))
+    } else {
+        write_literal(place, out)
+    }
 }
 
 fn write_bytes(out: &mut Bytes, bytes: &Option<Bytes>) -> Result<(), OutOfMemory>

@@ -1,37 +1,20 @@
-use Rattle.std.proofs.Common.{◌≡◌, ◌++◌, ℕ, List, map, refl, sym, ap, subst, ◌∙◌, drop, length, take}
+use Rattle.std.proofs.Common.{◌≡◌, ◌++◌, ℕ, List, map, sym, ap, subst, ◌∙◌, drop, length, take}
 use Rattle.std.specs.Prelude.{All}
 use Rattle.std.proofs.lemmas.List.{take_at}
 use Rattle.std.proofs.lemmas.Result.{err_from_is_err_and}
 use Rattle.vr_types.specs.Image.{Image}
-use Rattle.vr_types.proofs.CallerLemmas.{keeps-none, keeps-then}
-use Rattle.vr_log.specs.LogNow.{LogNow}
+use Rattle.vr_types.proofs.CallerLemmas.{keeps-then}
 use Rattle.vr_part.specs.Any.{shape_any}
 use Rattle.vr_part.specs.declared.any.AnyPart.{AnyPart}
 use Rattle.vr_space.specs.Part.{IsOn, Shape}
 use Rattle.vr_volume.specs.PutBack.{images_of}
-use Rattle.vr_recover.specs.Found.{AllStand, AreKnown, AreOff, HasRoomOf, IsBackNo, IsFound}
+use Rattle.vr_recover.specs.Found.{AllStand, AreKnown, HasRoomOf, IsBackNo, IsFound}
 use Rattle.vr_recover.specs.Found.{IsPlanned, MayGoBack, ShowsOnly}
-use Rattle.vr_recover.proofs.Attaching.{not-if, of-still}
+use Rattle.vr_recover.proofs.Attaching.{of-still}
 use Rattle.vr_recover.proofs.Owning.{known-know, owners-reached}
-use Rattle.vr_recover.proofs.Refusals.{back-refused, image-refused, log-long, mount-refused, off-live}
+use Rattle.vr_recover.proofs.Refusals.{back-refused, log-long, mount-refused}
 use Rattle.vr_recover.proofs.Refusals.{shapes-on, shapes-stand}
 use Rattle.vr_recover.proofs.finding.find.Goals as goal
-
-pub returns-then-not-are_off-clause-keeps : goal.returns-then-not-are_off-clause-keeps
-returns-then-not-are_off-clause-keeps g c =
-    keeps-none g.B.Blocks.tells (g.B.Blocks.seen c.args.blocks.now)
-    (λ told image now. g.met.B.Blocks.images_may c.args.blocks.now image told now)
-
-pub returns-then-not-are_off-clause-refused : goal.returns-then-not-are_off-clause-refused
-returns-then-not-are_off-clause-refused g c told number header spelled =
-    let geometry = c.args.geometry.now in
-    let content = c.args.begun.now.content in
-    image-refused number geometry (g.B.Blocks.seen c.args.blocks.now) c.requires.allowed
-    c.requires.shape header content spelled
-    (λ off. not-if c.are_off.result (AreOff (images_of c.args.begun.now.log.records))
-    c.are_off.ensures c.if-not-are_off.true
-    (off-live c.args.begun.now.log.records content.records
-    (ap (λ (l : LogNow). l.records) c.requires.log) off))
 
 pub returns-in_err-mounted-clause-refused : goal.returns-in_err-mounted-clause-refused
 returns-in_err-mounted-clause-refused g c told number header spelled =
@@ -41,11 +24,9 @@ returns-in_err-mounted-clause-refused g c told number header spelled =
     let long = log-long geometry a c.requires.allowed c.requires.shape
     (g.met.B.Blocks.cur_may c.args.blocks.now told)
     (λ n block below may. g.met.B.Blocks.sized c.args.blocks.now n block told below may) in
-    let off = off-live content.records c.args.begun.now.log.records
-    (sym (ap (λ (l : LogNow). l.records) c.requires.log)) (c.if-not-are_off.ensures.0 refl) in
     let p = err_from_is_err_and c.from_residual.result c.from_residual.ensures.1 in
     rw (p.1, p.2) (mount-refused number geometry a c.requires.allowed c.requires.shape header
-    content long spelled off c.in_err-mounted.field-0.0 (c.in_err-mounted.ensures.damaged told))
+    content long spelled c.in_err-mounted.field-0.0 (c.in_err-mounted.ensures.damaged told))
 
 pub images_to_undo-requires-clause-on : goal.images_to_undo-requires-clause-on
 images_to_undo-requires-clause-on g c =
@@ -85,12 +66,10 @@ returns-in_err-undo-clause-refused g c told number header spelled =
     let long = log-long geometry a c.requires.allowed c.requires.shape
     (g.met.B.Blocks.cur_may c.args.blocks.now told)
     (λ n block below may. g.met.B.Blocks.sized c.args.blocks.now n block told below may) in
-    let off = off-live content.records c.args.begun.now.log.records
-    (sym (ap (λ (l : LogNow). l.records) c.requires.log)) (c.if-not-are_off.ensures.0 refl) in
     let p = err_from_is_err_and c.from_residual-in_err-undo.result
     c.from_residual-in_err-undo.ensures.1 in
     rw (p.1, p.2) (back-refused number geometry a c.requires.allowed c.requires.shape header
-    content long spelled off entries (c.in_ok-mounted.ensures.entries told) mounted.may.distinct
+    content long spelled entries (c.in_ok-mounted.ensures.entries told) mounted.may.distinct
     (shapes-stand geometry entries shapes a.cur mounted.shapes
     (c.in_ok-mounted.ensures.stand told)) shapes mounted.shapes c.in_err-undo.field-0.0
     (subst (λ (image : Image). ShowsOnly (IsBackNo (images_of content.records) shapes image)
@@ -120,9 +99,6 @@ returns-clause-planned g c =
       may = mounted.may;
       apart = mounted.apart;
       clusters = mounted.clusters;
-      off = off-live content.records c.args.begun.now.log.records
-          (sym (ap (λ (l : LogNow). l.records) c.requires.log))
-          (c.if-not-are_off.ensures.0 refl);
       back = subst (λ (ps : List AnyPart). MayGoBack (images_of content.records) (map shape_any ps))
           c.deref_mut.ensures.value c.in_ok-undo.ensures.back;
     })

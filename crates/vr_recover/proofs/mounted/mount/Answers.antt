@@ -4,6 +4,7 @@ use Rattle.vr_types.proofs.CallerLemmas.{keeps-then}
 use Rattle.vr_attach.specs.Laid.{catalog_shape}
 use Rattle.vr_part.specs.Any.{shape_any}
 use Rattle.vr_space.specs.Part.{Stands}
+use Rattle.vr_volume.specs.PutBack.{images_of}
 use Rattle.vr_recover.specs.Found.{AllStand, AreKnown}
 use Rattle.vr_recover.proofs.Attaching.{areas-shown, parts-shown}
 use Rattle.vr_recover.proofs.mounted.mount.Goals as goal
@@ -11,10 +12,11 @@ use Rattle.vr_recover.proofs.mounted.mount.Goals as goal
 pub returns-in_err-check_areas-clause-damaged : goal.returns-in_err-check_areas-clause-damaged
 returns-in_err-check_areas-clause-damaged g c told =
     let geometry = c.args.geometry.now in
+    let images = images_of c.args.begun.now.content.records in
     let a = g.B.Blocks.seen c.args.blocks.now in
     let p = err_from_is_err_and c.from_residual-in_err-check_areas.result
     c.from_residual-in_err-check_areas.ensures.1 in
-    rw (p.1, p.2) (areas-shown geometry a c.in_ok-catalog.catalog.value c.deref.result.now
+    rw (p.1, p.2) (areas-shown geometry images a c.in_ok-catalog.catalog.value c.deref.result.now
     c.in_err-check_areas.field-0.0 c.deref.ensures (c.in_ok-catalog.ensures.entries told)
     c.in_ok-catalog.ensures.distinct (c.in_ok-catalog.ensures.stands told)
     c.in_err-check_areas.ensures.damaged)
@@ -22,14 +24,16 @@ returns-in_err-check_areas-clause-damaged g c told =
 pub returns-in_err-space-clause-damaged : goal.returns-in_err-space-clause-damaged
 returns-in_err-space-clause-damaged g c told =
     let geometry = c.args.geometry.now in
+    let images = images_of c.args.begun.now.content.records in
     let a = g.B.Blocks.seen c.args.blocks.now in
     let b = g.B.Blocks.seen c.read_catalog.new.blocks in
     let p = err_from_is_err_and c.from_residual-in_err-space.result
     c.from_residual-in_err-space.ensures.1 in
-    rw (p.1, p.2) (parts-shown geometry a b c.in_ok-catalog.catalog.value c.deref-2.result.now
-    c.in_err-space.field-0.0 c.deref-2.ensures (c.read_catalog.ensures.keeps.content told)
-    (c.in_ok-catalog.ensures.entries told) c.in_ok-catalog.ensures.distinct
-    (c.in_ok-catalog.ensures.stands told) (c.in_err-space.ensures.damaged told))
+    rw (p.1, p.2) (parts-shown geometry images a b c.in_ok-catalog.catalog.value
+    c.deref-2.result.now c.in_err-space.field-0.0 c.deref-2.ensures
+    (c.read_catalog.ensures.keeps.content told) (c.in_ok-catalog.ensures.entries told)
+    c.in_ok-catalog.ensures.distinct (c.in_ok-catalog.ensures.stands told)
+    (c.in_err-space.ensures.damaged told))
 
 pub returns-in_err-space-clause-keeps : goal.returns-in_err-space-clause-keeps
 returns-in_err-space-clause-keeps g c =
