@@ -22,7 +22,7 @@ use vr_types::{Items, OutOfMemory};
 /// `Text` is the first fault, exactly where the text isn't a job; `Memory` may come at any text.
 /// Faults of cards are looked for line by line, those of the text of a step where the step ends, at
 /// the next EXEC card or at the end of the text.
-#[tactic(auto, using(crate::proofs::Jobs::job_is, crate::proofs::Jobs::first_is, crate::proofs::Jobs::few_are, crate::proofs::Jobs::numbers_are))]
+#[tactic(auto, using(crate::proofs::Jobs::job_is, crate::proofs::Jobs::first_is, crate::proofs::Jobs::few_are))]
 pub fn parse_job(alloc: Global, text: &[u8]) -> Result<Job, JobFault>
     requires { length text.now ≤ 2 ^ 26 }
     ensures value { IfOk result (IsJob text.now) }
