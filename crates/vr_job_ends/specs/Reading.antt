@@ -1,8 +1,9 @@
 -- What the input of a job comes to: the job that its text is, or how the job ends without it.
 use Rattle.std.specs.Prelude.{◌≡◌, ◌<◌, ◌^◌, ℕ, IfSome, List, Option, length}
 use Rattle.vr_deck_text.specs.Deck.{cause_number as deck_number}
-use Rattle.vr_job_text.specs.Fault.{cause_number as card_number}
-use Rattle.vr_job_text.specs.Job.{IsFirstFault, IsJob}
+use Rattle.vr_amsparse_grammar.specs.Cause.{cause_number as ams_number}
+use Rattle.vr_job_text.specs.Fault.{cause_number as card_number, scan_number}
+use Rattle.vr_job_text.specs.Job.{IsRefused, IsRunJob}
 use Rattle.vr_job_text.specs.declared.fault.Kind.{Kind}
 use Rattle.vr_job_text.specs.declared.fault.Kind.TheVariants as kinds
 use Rattle.vr_job_text.specs.declared.fault.TextFault.{TextFault}
@@ -20,30 +21,33 @@ use Rattle.vr_job_ends.specs.declared.input.InputFault.{InputFault}
 use Rattle.vr_job_ends.specs.declared.input.InputFault.TheVariants.{Memory, Read, TooLong}
 use Rattle.vr_job_ends.specs.Input.{IsAll}
 
--- what is shown of a fault of the text
+-- what is shown of a fault of the text, or of what isn't run of it
 abbrev pub kind_shown : Kind → TextKind
 kind_shown (kinds.Card cause) = shown.Card (card_number cause)
+kind_shown (kinds.Scan cause) = shown.Scan (scan_number cause)
+kind_shown (kinds.Ams cause) = shown.Ams (ams_number cause)
 kind_shown (kinds.Deck cause) = shown.Deck (deck_number cause)
 kind_shown kinds.Form = shown.Form
 
 abbrev pub line_of : TextFault → EndLine
 line_of fault = Refused (kind_shown fault.kind) fault.line fault.column
 
--- The input was read to its end, and its text is this job.
+-- The input was read to its end, and its text is this job, all of whose steps are of decks.
 pub record IsJobRead (left left' : Option (List ℕ)) (faults faults' : ℕ) (job : JobText) : Type 0
   where
     pub text : List ℕ
     pub all : IsAll left left' text
-    pub is : IsJob text job
+    pub is : IsRunJob text job
     pub steady : faults' ≡ faults
 
--- It was read to its end, and this is what is shown of the first fault of its text.
+-- It was read to its end, and this is what is shown of the first fault of its text, or where it has
+-- none, of what isn't run of it.
 pub record IsTextRefused (left left' : Option (List ℕ)) (faults faults' : ℕ) (line : EndLine)
     : Type 0 where
   pub text : List ℕ
   pub all : IsAll left left' text
   pub fault : TextFault
-  pub first : IsFirstFault text fault
+  pub refused : IsRefused text fault
   pub shown : line ≡ line_of fault
   pub steady : faults' ≡ faults
 

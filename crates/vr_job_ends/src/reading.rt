@@ -1,6 +1,6 @@
 //! The reading of a job: its input to the end, and the job that its text is.
 ghost use Rattle.std.specs.Prelude.{◌≡◌, ◌≤◌, ◌^◌, IfErr, IfOk, length};
-ghost use Rattle.vr_job_text.specs.Job.{CauseOf as FaultOf, IsJob};
+ghost use Rattle.vr_job_text.specs.Job.{IsRunJob, RefusedBy};
 ghost use Rattle.vr_job_text.specs.Numbers.{AreNumbered};
 ghost use Rattle.vr_job_ends.specs.Input.{CauseOf};
 ghost use Rattle.vr_job_ends.specs.Reading as reading;
@@ -8,7 +8,7 @@ ghost use Rattle.vr_job_ends.specs.Reading.{IsInputEnd, IsJobRead};
 
 use crate::input::{InputFault, read_text};
 use std::alloc::Global;
-use vr_job_text::{JobFault, JobText, Kind, TextFault, parse_job};
+use vr_job_text::{JobFault, JobText, Kind, TextFault, parse_run_job, scan_number};
 use vr_outside::Source;
 use vr_trace::{EndLine, TextKind};
 
@@ -20,6 +20,12 @@ fn kind_shown(kind: Kind) -> TextKind
         Kind::Card(cause) => TextKind::Card {
             number: cause.number() as u32,
         },
+        Kind::Scan(cause) => TextKind::Scan {
+            number: scan_number(cause) as u32,
+        },
+        Kind::Ams(cause) => TextKind::Ams {
+            number: cause.number() as u32,
+        },
         Kind::Deck(cause) => TextKind::Deck {
             number: cause.number() as u32,
         },
@@ -27,7 +33,7 @@ fn kind_shown(kind: Kind) -> TextKind
     }
 }
 
-/// What is shown of the first fault of a text.
+/// What is shown of the first fault of a text, or of what isn't run of it.
 fn line_of(fault: TextFault) -> EndLine
     ensures { result ≡ reading.line_of fault }
 {
@@ -49,7 +55,7 @@ fn input_line(fault: InputFault) -> EndLine
     }
 }
 
-/// How a job ends whose text isn't one.
+/// How a job ends whose text isn't one that is run.
 fn fault_line(fault: JobFault) -> EndLine
     ensures { result ≡ reading.fault_line fault }
 {
@@ -62,11 +68,11 @@ fn fault_line(fault: JobFault) -> EndLine
 /// The job of a text, which is let go.
 fn parse_text(alloc: Global, text: Vec<u8>) -> Result<JobText, JobFault>
     requires { length text.items ≤ 2 ^ 26 }
-    ensures job { IfOk result (IsJob text.items) }
-    ensures fault { IfErr result (FaultOf text.items) }
+    ensures job { IfOk result (IsRunJob text.items) }
+    ensures fault { IfErr result (RefusedBy text.items) }
     ensures numbers { IfOk result (λ job. AreNumbered job.steps) }
 {
-    parse_job(alloc, text.as_slice())
+    parse_run_job(alloc, text.as_slice())
 }
 
 /// Reads the input to its end: the job that its text is, or how the job ends without it.

@@ -1,60 +1,71 @@
 -- The numbers of the decks of a job are those that its cards announced.
-use Rattle.std.proofs.Common.{◌≡◌, ℕ, suc, ◌+◌, ◌<◌, ◌≤◌, ◌==◌, ◌||◌, nat_le, nat_lt, Bool, true, false, cond}
-use Rattle.std.proofs.Common.{List, [], ◌∷◌, ◌++◌, length, Option, Some, None, Result, Ok, Err, sum_by}
-use Rattle.std.proofs.Common.{count_by, refl, sym, ap, subst, ◌∙◌, arith, length-append, ◌⊎◌, inl, inr}
-use Rattle.std.proofs.Common.{bytes_eq, codes, insert}
-use Rattle.std.specs.List.{list_any, AllByRecursion}
-use Rattle.std.proofs.lemmas.Bool.{cases_Bool, and_parts, leb-true, leb-false, ltb-true, ltb-false, not-true}
-use Rattle.std.proofs.lemmas.Bool.{both_ways}
+use Rattle.std.proofs.Common.{◌≡◌, ℕ, suc, ◌+◌, ◌<◌, ◌≤◌, ◌==◌, nat_lt, Bool, true, false, cond}
+use Rattle.std.proofs.Common.{List, [], ◌∷◌, ◌++◌, length, Result, Ok, Err, sum_by, All}
+use Rattle.std.proofs.Common.{count_by, refl, sym, ap, subst, ◌∙◌, arith, insert}
+use Rattle.std.specs.List.{AllByRecursion}
+use Rattle.std.proofs.lemmas.Bool.{ltb-true, ltb-false}
 use Rattle.std.proofs.lemmas.List.Elements.{All-from_recursion}
-use Rattle.std.proofs.lemmas.Bool.Decides.{Decides-eqb}
-use Rattle.std.proofs.lemmas.List.Sums.{sum_by-cons, sum_by_push, sum_by-insert}
+use Rattle.std.proofs.lemmas.List.Sums.{sum_by-cons, sum_by-insert}
 use Rattle.vr_text.specs.Lines.{Line}
 use Rattle.vr_deck_text.specs.declared.text.DeckText.{DeckText}
-use Rattle.vr_deck_text.specs.Words.{without_end}
-use Rattle.vr_job_text.specs.declared.card.Card.{Card}
-use Rattle.vr_job_text.specs.declared.card.Card.TheVariants.{Nothing, Step as StepCard, Data}
 use Rattle.vr_job_text.specs.declared.card.Program.{Program}
-use Rattle.vr_job_text.specs.declared.card.Program.TheVariants.{Decks, Utilities}
-use Rattle.vr_job_text.specs.declared.fault.CardFault.{CardFault}
+use Rattle.vr_job_text.specs.declared.card.Program.TheVariants as programs
 use Rattle.vr_job_text.specs.declared.fault.TextFault.{TextFault}
-use Rattle.vr_job_text.specs.declared.reading.Begun.{Begun}
-use Rattle.vr_job_text.specs.declared.reading.DeckLines.{DeckLines}
-use Rattle.vr_job_text.specs.declared.reading.Reading.{Reading}
+use Rattle.vr_job_text.specs.declared.job.JobStep.{JobStep}
+use Rattle.vr_job_text.specs.declared.job.JobStep.TheVariants.{Decks, Utilities}
+use Rattle.vr_job_text.specs.declared.reading.Part.{Part}
+use Rattle.vr_job_text.specs.declared.reading.PartKind.{PartKind}
+use Rattle.vr_job_text.specs.declared.reading.PartKind.TheVariants as kinds
+use Rattle.vr_job_text.specs.declared.reading.StepText.{StepText}
 use Rattle.vr_job_text.specs.declared.text.Deck.{Deck}
 use Rattle.vr_job_text.specs.declared.text.Step.{Step}
-use Rattle.vr_job_text.specs.Card.{is_card, card_of, name_on, deck_number}
-use Rattle.vr_job_text.specs.Decks.{deck_in, with_deck, with_read, with_decks, decks_in, place_of}
-use Rattle.vr_job_text.specs.Job.{unread, with_open, closed, line_added, opened, step_of, step_added}
-use Rattle.vr_job_text.specs.Job.{with_step, ended_by, ended, begun_at, begun_by, may_number}
-use Rattle.vr_job_text.specs.Job.{announced, with_number, with_deck_card, with_data, with_card}
-use Rattle.vr_job_text.specs.Job.{with_body, with_text, unless_bad, with_line, with_lines, finished}
-use Rattle.vr_job_text.specs.Job.{read_text}
+use Rattle.vr_job_text.specs.Decks.{deck_in, with_deck, with_read, with_part, with_decks, decks_in}
+use Rattle.vr_job_text.specs.Decks.{place_of}
+use Rattle.vr_job_text.specs.Job.{AreSteps, IsStepOf, deck_steps}
+use Rattle.vr_job_text.specs.Layout.{laid, line_added}
 use Rattle.vr_job_text.specs.Numbers.{AreNumbered, RiseFrom, deck_count}
-use Rattle.vr_job_text.specs.Text.{job_lines, first_bad}
-use Rattle.vr_job_text.proofs.OrderCounts.{pick, read_after, lines_after}
+use Rattle.vr_job_text.specs.Text.{job_lines}
+use Rattle.vr_job_text.proofs.Measures.{Measure, IsMeasured, AreUsed, laid_measured, added_by}
+use Rattle.vr_job_text.proofs.Measures.{of_text, total}
 
--- the sum of a function of the numbers: of the decks of a step, of decks that aren't read yet
+-- the sum of a function of the numbers: of the decks of a step, and of parts
 abbrev of_deck : (ℕ → ℕ) → Deck → ℕ
 of_deck f deck = f deck.number
-
-abbrev of_text : (ℕ → ℕ) → DeckLines → ℕ
-of_text f text = f text.number
 
 abbrev of_step : (ℕ → ℕ) → Step → ℕ
 of_step f step = sum_by (of_deck f) step.decks
 
-abbrev of_going : (ℕ → ℕ) → Option DeckLines → ℕ
-of_going f None = 0
-of_going f (Some text) = f text.number
+abbrev of_kind : (ℕ → ℕ) → PartKind → ℕ
+of_kind f (kinds.Deck number) = f number
+of_kind f kinds.Commands = 0
+of_kind f (kinds.Data name) = 0
 
-abbrev of_reading : (ℕ → ℕ) → Reading → ℕ
-of_reading f reading =
-    sum_by (of_step f) reading.steps
-    + (sum_by (of_text f) reading.decks + of_going f reading.going)
+abbrev of_part : (ℕ → ℕ) → Part → ℕ
+of_part f part = of_kind f part.kind
 
-abbrev is_number : ℕ → ℕ → Bool
-is_number number other = other == number
+numbers_measure : (ℕ → ℕ) → Measure
+numbers_measure f = record {
+  part = of_part f;
+  deck = f;
+  line = 0;
+  commands = refl;
+  inputs = λ name. refl;
+  decks = λ number. refl;
+  added = λ one number text. omega arith;
+}
+
+none_added : (lines : List (List ℕ)) → added_by 0 lines ≡ 0
+none_added [] = refl
+none_added (line ∷ lines) = omega (arith, none_added lines)
+
+parts_below : (f : ℕ → ℕ) (text : List ℕ)
+    → sum_by (of_text (of_part f)) (laid text).steps ≤ sum_by f (laid text).used
+unfolding numbers_measure
+parts_below f text =
+    let h = laid_measured (numbers_measure f) text in
+    let low : total (of_part f) (laid text)
+    ≤ sum_by f (laid text).used + added_by 0 (job_lines text) = h.sum in
+    omega (arith, low, none_added (job_lines text))
 
 -- the decks of a step are in the order of their numbers
 abbrev IsRising : Step → Type 0
@@ -81,42 +92,6 @@ put_rises low deck (one ∷ decks) h all =
     put_first low deck one decks (nat_lt one.number deck.number) refl h all.0 all.1
     (λ above. put_rises one.number deck decks above all.1)
 
--- the decks so far have the numbers that were announced
-record IsNumbered (reading : Reading) : Type 0 where
-  sums : (f : ℕ → ℕ) → of_reading f reading ≡ sum_by f reading.used
-  few : length reading.used ≤ 64
-  once : (number : ℕ) → count_by (is_number number) reading.used ≤ 1
-  within : (number : ℕ) → 0 < count_by (is_number number) reading.used
-      → (1 ≤ number) × (number ≤ 99)
-  rise : AllByRecursion IsRising reading.steps
-
--- the same numbers elsewhere
-moved : (one other : Reading) → one.used ≡ other.used
-    → ((f : ℕ → ℕ) → of_reading f other ≡ of_reading f one)
-    → AllByRecursion IsRising other.steps → IsNumbered one → IsNumbered other
-moved one other same sums rise h = record {
-  sums = λ f. sums f ∙ h.sums f ∙ ap (sum_by f) same;
-  few = subst (λ (used : List ℕ). length used ≤ 64) same h.few;
-  once =
-      subst (λ (used : List ℕ). (number : ℕ) → count_by (is_number number) used ≤ 1) same h.once;
-  within = subst (λ (used : List ℕ). (number : ℕ) → 0 < count_by (is_number number) used
-      → (1 ≤ number) × (number ≤ 99)) same h.within;
-  rise = rise;
-}
-
-same_numbered : (one other : Reading) → IsNumbered one → one ≡ other → IsNumbered other
-same_numbered one other h same = subst IsNumbered same h
-
-open_sum : (f : ℕ → ℕ) (texts : List DeckLines) (going : Option DeckLines)
-    → sum_by (of_text f) (with_open texts going) ≡ sum_by (of_text f) texts + of_going f going
-open_sum f texts None = omega arith
-open_sum f texts (Some text) = sum_by_push (of_text f) texts text
-
-closed_numbered : (reading : Reading) → IsNumbered reading → IsNumbered (closed reading)
-closed_numbered reading h =
-    moved reading (closed reading) refl
-    (λ f. omega (arith, open_sum f reading.decks reading.going)) h.rise h
-
 -- decks that are read keep their numbers
 read_sum : (f : ℕ → ℕ) (decks next : List Deck) (number : ℕ) (read : Result DeckText TextFault)
     → with_read decks number read ≡ Ok next
@@ -128,15 +103,38 @@ read_sum f decks next number (Ok text) e =
     sym (ap (sum_by (of_deck f)) same)
     ∙ sum_by-insert (of_deck f) decks (place_of decks number) deck
 
-decks_sum : (f : ℕ → ℕ) (texts : List DeckLines) (from to : List Deck)
-    → with_decks (Ok from) texts ≡ Ok to
-    → sum_by (of_deck f) to ≡ sum_by (of_deck f) from + sum_by (of_text f) texts
+-- no deck more
+abbrev pub unchanged : List Deck → Result (List Deck) TextFault
+unchanged decks = Ok decks
+
+same_sum : (f : ℕ → ℕ) (decks next : List Deck) → unchanged decks ≡ Ok next
+    → sum_by (of_deck f) next ≡ sum_by (of_deck f) decks + 0
+same_sum f decks next e =
+    let same : decks ≡ next = cc in omega (arith, ap (sum_by (of_deck f)) same)
+
+part_sum : (f : ℕ → ℕ) (decks next : List Deck) (lines : List Line) (kind : PartKind)
+    → with_part decks lines kind ≡ Ok next
+    → sum_by (of_deck f) next ≡ sum_by (of_deck f) decks + of_kind f kind
+part_sum f decks next lines (kinds.Deck number) e =
+    read_sum f decks next number (deck_in lines) e
+part_sum f decks next lines kinds.Commands e = same_sum f decks next e
+part_sum f decks next lines (kinds.Data name) e = same_sum f decks next e
+
+pub read_after : (after : Result (List Deck) TextFault) (parts : List Part) (to : List Deck)
+    → with_decks after parts ≡ Ok to
+    → (next : List Deck) × (after ≡ Ok next) × (with_decks (Ok next) parts ≡ Ok to)
+read_after (Err fault) parts to e = let f : ⊥ = cc in absurd f
+read_after (Ok next) parts to e = (next, refl, e)
+
+decks_sum : (f : ℕ → ℕ) (parts : List Part) (from to : List Deck)
+    → with_decks (Ok from) parts ≡ Ok to
+    → sum_by (of_deck f) to ≡ sum_by (of_deck f) from + sum_by (of_part f) parts
 decks_sum f [] from to e =
     let same : from ≡ to = cc in omega (arith, ap (sum_by (of_deck f)) same)
-decks_sum f (text ∷ texts) from to e =
-    let after = read_after (with_read from text.number (deck_in text.lines)) texts to e in
-    let one = read_sum f from after.0 text.number (deck_in text.lines) after.1 in
-    omega (arith, one, decks_sum f texts after.0 to after.2, sum_by-cons (of_text f) text texts)
+decks_sum f (part ∷ parts) from to e =
+    let after = read_after (with_part from part.lines part.kind) parts to e in
+    let one = part_sum f from after.0 part.lines part.kind after.1 in
+    omega (arith, one, decks_sum f parts after.0 to after.2, sum_by-cons (of_part f) part parts)
 
 read_rises : (decks next : List Deck) (number : ℕ) (read : Result DeckText TextFault)
     → with_read decks number read ≡ Ok next → RiseFrom 0 decks → RiseFrom 0 next
@@ -146,250 +144,69 @@ read_rises decks next number (Ok text) e h =
     let same : with_deck decks deck ≡ next = cc in
     subst (RiseFrom 0) same (put_rises 0 deck decks (omega arith) h)
 
-decks_rise : (texts : List DeckLines) (from to : List Deck) → with_decks (Ok from) texts ≡ Ok to
+same_rises : (decks next : List Deck) → unchanged decks ≡ Ok next → RiseFrom 0 decks
+    → RiseFrom 0 next
+same_rises decks next e h = let same : decks ≡ next = cc in subst (RiseFrom 0) same h
+
+part_rises : (decks next : List Deck) (lines : List Line) (kind : PartKind)
+    → with_part decks lines kind ≡ Ok next → RiseFrom 0 decks → RiseFrom 0 next
+part_rises decks next lines (kinds.Deck number) e h =
+    read_rises decks next number (deck_in lines) e h
+part_rises decks next lines kinds.Commands e h = same_rises decks next e h
+part_rises decks next lines (kinds.Data name) e h = same_rises decks next e h
+
+decks_rise : (parts : List Part) (from to : List Deck) → with_decks (Ok from) parts ≡ Ok to
     → RiseFrom 0 from → RiseFrom 0 to
 decks_rise [] from to e h = let same : from ≡ to = cc in subst (RiseFrom 0) same h
-decks_rise (text ∷ texts) from to e h =
-    let after = read_after (with_read from text.number (deck_in text.lines)) texts to e in
-    decks_rise texts after.0 to after.2
-    (read_rises from after.0 text.number (deck_in text.lines) after.1 h)
+decks_rise (part ∷ parts) from to e h =
+    let after = read_after (with_part from part.lines part.kind) parts to e in
+    decks_rise parts after.0 to after.2
+    (part_rises from after.0 part.lines part.kind after.1 h)
 
-rise_more : (steps : List Step) (step : Step) → AllByRecursion IsRising steps → IsRising step
-    → AllByRecursion IsRising (steps ++ step ∷ [])
-rise_more [] step all h = (h, tt)
-rise_more (one ∷ steps) step all h = (all.0, rise_more steps step all.1 h)
+-- the decks of the steps of texts are among the parts of these
+first_sum : (f : ℕ → ℕ) (program : Program) (text : StepText) (step : JobStep)
+    (steps : List JobStep) → IsStepOf program text step
+    → sum_by (of_step f) (deck_steps (step ∷ steps))
+    ≤ sum_by (of_part f) text.parts + sum_by (of_step f) (deck_steps steps)
+first_sum f programs.Decks text (Decks step) steps is =
+    omega (
+      arith,
+      decks_sum f text.parts [] step.decks is.decks,
+      sum_by-cons (of_step f) step (deck_steps steps),
+    )
+first_sum f programs.Utilities text (Utilities step) steps is = omega arith
+first_sum f programs.Decks text (Utilities step) steps is = absurd is
+first_sum f programs.Utilities text (Decks step) steps is = absurd is
 
-step_sum : (f : ℕ → ℕ) (reading : Reading) (begun : Begun) (decks : List Deck)
-    → sum_by (of_deck f) decks ≡ sum_by (of_text f) reading.decks
-    → of_reading f (step_added reading begun decks) ≡ of_reading f reading
-step_sum f reading begun decks same =
-    let steps : sum_by (of_step f) (reading.steps ++ step_of begun decks ∷ [])
-    ≡ sum_by (of_step f) reading.steps + sum_by (of_deck f) decks =
-    sum_by_push (of_step f) reading.steps (step_of begun decks) in
-    omega (arith, steps, same)
+steps_sum : (f : ℕ → ℕ) (texts : List StepText) (steps : List JobStep) → AreSteps texts steps
+    → sum_by (of_step f) (deck_steps steps) ≤ sum_by (of_text (of_part f)) texts
+steps_sum f [] [] all = omega arith
+steps_sum f [] (step ∷ steps) all = absurd all
+steps_sum f (text ∷ texts) [] all = absurd all
+steps_sum f (text ∷ texts) (step ∷ steps) all =
+    omega (
+      arith,
+      first_sum f text.program text step steps all.0,
+      steps_sum f texts steps all.1,
+      sum_by-cons (of_text (of_part f)) text texts,
+    )
 
-ended_with : (reading next : Reading) (begun : Begun) (decks : Result (List Deck) TextFault)
-    → decks_in reading.decks ≡ decks → with_step reading begun decks ≡ Ok next
-    → IsNumbered reading → IsNumbered next
-ended_with reading next begun (Err fault) is e h = let no : ⊥ = cc in absurd no
-ended_with reading next begun (Ok decks) is e h =
-    let same : step_added reading begun decks ≡ next = cc in
-    same_numbered (step_added reading begun decks) next
-    (moved reading (step_added reading begun decks) refl
-    (λ f. step_sum f reading begun decks (omega (arith, decks_sum f reading.decks [] decks is)))
-    (rise_more reading.steps (step_of begun decks) h.rise (decks_rise reading.decks [] decks is tt))
-    h) same
+first_rises : (program : Program) (text : StepText) (step : JobStep) (steps : List JobStep)
+    → IsStepOf program text step → AllByRecursion IsRising (deck_steps steps)
+    → AllByRecursion IsRising (deck_steps (step ∷ steps))
+first_rises programs.Decks text (Decks step) steps is all =
+    (decks_rise text.parts [] step.decks is.decks tt, all)
+first_rises programs.Utilities text (Utilities step) steps is all = all
+first_rises programs.Decks text (Utilities step) steps is all = absurd is
+first_rises programs.Utilities text (Decks step) steps is all = absurd is
 
-ended_numbered : (reading next : Reading) (begun : Option Begun) → ended_by reading begun ≡ Ok next
-    → IsNumbered reading → IsNumbered next
-ended_numbered reading next None e h =
-    let same : reading ≡ next = cc in same_numbered reading next h same
-ended_numbered reading next (Some begun) e h =
-    ended_with reading next begun (decks_in reading.decks) refl e h
-
-begun_numbered : (next : Reading) (after : Result Reading TextFault) (number : ℕ)
-    (name : List ℕ) (program : Program) → ((mid : Reading) → after ≡ Ok mid → IsNumbered mid)
-    → begun_by after number name program ≡ Ok next → IsNumbered next
-begun_numbered next (Err fault) number name program h e = let no : ⊥ = cc in absurd no
-begun_numbered next (Ok mid) number name Utilities h e = let no : ⊥ = cc in absurd no
-begun_numbered next (Ok mid) number name Decks h e =
-    let same : begun_at mid number name ≡ next = cc in
-    same_numbered (begun_at mid number name) next
-    (moved mid (begun_at mid number name) refl (λ f. refl) (h mid refl).rise (h mid refl)) same
-
-abbrev counted : Bool → ℕ
-counted b = cond b 1 0
-
--- a number that none has is counted 0 times
-none_counted : (p : ℕ → Bool) (xs : List ℕ) → list_any p xs ≡ false → count_by p xs ≡ 0
-none_counted p [] none = refl
-none_counted p (x ∷ xs) none =
-    let first = cases_Bool (p x) in
-    let cons = sum_by-cons (λ y. cond (p y) 1 0) x xs in
-    elim first [
-      | inl passes ↦
-          absurd (both_ways (p x || list_any p xs) none (ap (λ b. b || list_any p xs) passes))
-      | inr fails ↦
-          let rest : list_any p xs ≡ false = sym (ap (λ b. b || list_any p xs) fails) ∙ none in
-          let zero : counted (p x) ≡ 0 = ap counted fails in
-          omega (arith, cons, zero, none_counted p xs rest)
-    ]
-
--- a number more
-count_more : (used : List ℕ) (deck number : ℕ)
-    → count_by (is_number number) (used ++ deck ∷ [])
-    ≡ count_by (is_number number) used + cond (deck == number) 1 0
-count_more used deck number = sum_by_push (λ other. cond (other == number) 1 0) used deck
-
-count_same : (used : List ℕ) (deck number : ℕ) → (deck == number) ≡ true
-    → list_any (λ other. other == deck) used ≡ false → count_by (is_number number) used ≡ 0
-count_same used deck number same none =
-    let is : deck ≡ number = (Decides-eqb deck number).0 same in
-    ap (λ n. count_by (is_number n) used) (sym is) ∙ none_counted (is_number deck) used none
-
-more_once : (used : List ℕ) (deck number : ℕ) → list_any (λ other. other == deck) used ≡ false
-    → count_by (is_number number) used ≤ 1
-    → count_by (is_number number) (used ++ deck ∷ []) ≤ 1
-more_once used deck number none once =
-    elim (cases_Bool (deck == number)) [
-      | inl same ↦
-          let one : counted (deck == number) ≡ 1 = ap counted same in
-          omega (arith, count_more used deck number, one, count_same used deck number same none)
-      | inr other ↦
-          let zero : counted (deck == number) ≡ 0 = ap counted other in
-          omega (arith, count_more used deck number, zero, once)
-    ]
-
-more_within : (used : List ℕ) (deck number : ℕ) → (1 ≤ deck) × (deck ≤ 99)
-    → (0 < count_by (is_number number) used → (1 ≤ number) × (number ≤ 99))
-    → 0 < count_by (is_number number) (used ++ deck ∷ []) → (1 ≤ number) × (number ≤ 99)
-more_within used deck number may within some =
-    elim (cases_Bool (deck == number)) [
-      | inl same ↦
-          let is : deck ≡ number = (Decides-eqb deck number).0 same in
-          subst (λ (n : ℕ). (1 ≤ n) × (n ≤ 99)) is may
-      | inr other ↦
-          let zero : counted (deck == number) ≡ 0 = ap counted other in
-          within (omega (arith, count_more used deck number, zero, some))
-    ]
-
-announced_sum : (f : ℕ → ℕ) (reading : Reading) (deck : ℕ) → reading.going ≡ None
-    → of_reading f reading ≡ sum_by f reading.used
-    → of_reading f (announced reading deck) ≡ sum_by f (reading.used ++ deck ∷ [])
-announced_sum f reading deck none sums =
-    omega (arith, ap (of_going f) none, sums, sum_by_push f reading.used deck)
-
-announced_numbered : (reading : Reading) (deck : ℕ) → reading.going ≡ None
-    → nat_le 64 (length reading.used) ≡ false → may_number reading.used deck ≡ true
-    → IsNumbered reading → IsNumbered (announced reading deck)
-announced_numbered reading deck none few may h =
-    let parts = and_parts _ _ may in
-    let bounds = and_parts _ _ parts.0 in
-    let unused : list_any (λ other. other == deck) reading.used ≡ false = not-true _ parts.1 in
-    record {
-      sums = λ f. announced_sum f reading deck none (h.sums f);
-      few = omega (
-        arith,
-        leb-false 64 (length reading.used) few,
-        length-append reading.used (deck ∷ []),
-      );
-      once = λ number. more_once reading.used deck number unused (h.once number);
-      within = λ number. more_within reading.used deck number
-          (leb-true _ _ bounds.0, leb-true _ _ bounds.1) (h.within number);
-      rise = h.rise;
-    }
-
-pick_by : {A : Type 0} (b : Bool) (x y z : A) → cond b x y ≡ z
-    → ((b ≡ true) × (x ≡ z)) ⊎ ((b ≡ false) × (y ≡ z))
-pick_by true x y z e = inl (refl, e)
-pick_by false x y z e = inr (refl, e)
-
-number_numbered : (reading next : Reading) (line deck : ℕ) → reading.going ≡ None
-    → with_number reading line deck ≡ Ok next → IsNumbered reading → IsNumbered next
-number_numbered reading next line deck none e h =
-    elim (pick_by (nat_le 64 (length reading.used)) _ _ _ e) [
-      | inl many ↦ let wrong = many.1 in let no : ⊥ = cc in absurd no
-      | inr few ↦
-          elim (pick_by (may_number reading.used deck) _ _ _ few.1) [
-            | inl may ↦
-                let is = may.1 in
-                let same : announced reading deck ≡ next = cc in
-                same_numbered (announced reading deck) next
-                (announced_numbered reading deck none few.0 may.0 h) same
-            | inr bad ↦ let wrong = bad.1 in let no : ⊥ = cc in absurd no
-          ]
-    ]
-
-deck_card_numbered : (reading next : Reading) (line : ℕ) (deck : Option ℕ) → reading.going ≡ None
-    → with_deck_card reading line deck ≡ Ok next → IsNumbered reading → IsNumbered next
-deck_card_numbered reading next line None none e h = let no : ⊥ = cc in absurd no
-deck_card_numbered reading next line (Some deck) none e h =
-    number_numbered reading next line deck none e h
-
-data_numbered : (reading next : Reading) (line : ℕ) (begun : Option Begun) (name : List ℕ)
-    → reading.going ≡ None → with_data reading line begun name ≡ Ok next → IsNumbered reading
-    → IsNumbered next
-data_numbered reading next line None name none e h = let no : ⊥ = cc in absurd no
-data_numbered reading next line (Some begun) name none e h =
-    deck_card_numbered reading next line (deck_number name) none e h
-
-card_numbered : (reading next : Reading) (number : ℕ) (line : List ℕ) (card : Result Card CardFault)
-    → reading.going ≡ None → with_card reading number line card ≡ Ok next → IsNumbered reading
-    → IsNumbered next
-card_numbered reading next number line (Err fault) none e h = let no : ⊥ = cc in absurd no
-card_numbered reading next number line (Ok Nothing) none e h =
-    let same : reading ≡ next = cc in same_numbered reading next h same
-card_numbered reading next number line (Ok (StepCard program)) none e h =
-    begun_numbered next (ended reading) number (name_on line) program
-    (λ mid same. ended_numbered reading mid reading.begun same h) e
-card_numbered reading next number line (Ok Data) none e h =
-    data_numbered reading next number reading.begun (name_on line) none e h
-
-body_numbered : (reading next : Reading) (number : ℕ) (line : List ℕ) (going : Option DeckLines)
-    → reading.going ≡ going → with_body reading number line going ≡ Ok next → IsNumbered reading
-    → IsNumbered next
-body_numbered reading next number line (Some deck) is e h =
-    let one : Line = record { number = number; text = line } in
-    let same : opened reading (line_added deck one) ≡ next = cc in
-    same_numbered (opened reading (line_added deck one)) next
-    (moved reading (opened reading (line_added deck one)) refl
-    (λ f. omega (arith, ap (of_going f) is)) h.rise h) same
-body_numbered reading next number line None is e h =
-    elim (pick (length line == 0) _ _ _ e) [
-      | inl none ↦ let same : reading ≡ next = cc in same_numbered reading next h same
-      | inr stray ↦ let no : ⊥ = cc in absurd no
-    ]
-
-text_numbered : (reading next : Reading) (number : ℕ) (line : List ℕ)
-    → with_text reading number line ≡ Ok next → IsNumbered reading → IsNumbered next
-text_numbered reading next number line e h =
-    elim (pick (is_card line) _ _ _ e) [
-      | inl card ↦
-          card_numbered (closed reading) next number line (card_of line) refl card
-          (closed_numbered reading h)
-      | inr other ↦
-          elim (pick (bytes_eq line (codes "/*")) _ _ _ other) [
-            | inl end ↦
-                let same : closed reading ≡ next = cc in
-                same_numbered (closed reading) next (closed_numbered reading h) same
-            | inr body ↦ body_numbered reading next number line reading.going refl body h
-          ]
-    ]
-
-line_numbered : (reading next : Reading) (number : ℕ) (line : List ℕ) (bad : Option ℕ)
-    → unless_bad reading number line bad ≡ Ok next → IsNumbered reading → IsNumbered next
-line_numbered reading next number line (Some at) e h = let no : ⊥ = cc in absurd no
-line_numbered reading next number line None e h = text_numbered reading next number line e h
-
-lines_numbered : (lines : List (List ℕ)) (number : ℕ) (from to : Reading)
-    → with_lines number (Ok from) lines ≡ Ok to → IsNumbered from → IsNumbered to
-lines_numbered [] number from to e h =
-    let same : from ≡ to = cc in same_numbered from to h same
-lines_numbered (line ∷ lines) number from to e h =
-    let after = lines_after (with_line from number line) (number + 1) lines to e in
-    lines_numbered lines (number + 1) after.0 to after.2
-    (line_numbered from after.0 number (without_end line) (first_bad line) after.1 h)
-
-finished_numbered : (read : Result Reading TextFault) (to : Reading)
-    → ((from : Reading) → read ≡ Ok from → IsNumbered from) → finished read ≡ Ok to
-    → IsNumbered to
-finished_numbered (Err fault) to h e = let no : ⊥ = cc in absurd no
-finished_numbered (Ok from) to h e =
-    ended_numbered (closed from) to from.begun e (closed_numbered from (h from refl))
-
-unread_numbered : IsNumbered unread
-unread_numbered = record {
-  sums = λ f. refl;
-  few = omega arith;
-  once = λ number. omega arith;
-  within = λ number some. absurd (omega (arith, some));
-  rise = tt;
-}
-
--- the decks of the steps alone are among them
-steps_below : (f : ℕ → ℕ) (reading : Reading) → IsNumbered reading
-    → sum_by (of_step f) reading.steps ≤ sum_by f reading.used
-steps_below f reading h = omega (arith, h.sums f)
+steps_rise : (texts : List StepText) (steps : List JobStep) → AreSteps texts steps
+    → AllByRecursion IsRising (deck_steps steps)
+steps_rise [] [] all = tt
+steps_rise [] (step ∷ steps) all = absurd all
+steps_rise (text ∷ texts) [] all = absurd all
+steps_rise (text ∷ texts) (step ∷ steps) all =
+    first_rises text.program text step steps all.0 (steps_rise texts steps all.1)
 
 ones : {X : Type 0} (xs : List X) → sum_by (λ x. 1) xs ≡ length xs
 ones [] = refl
@@ -406,27 +223,31 @@ all_ones (step ∷ steps) =
       all_ones steps,
     )
 
-numbered_steps : (reading : Reading) → IsNumbered reading → AreNumbered reading.steps
-numbered_steps reading h = record {
-  few = omega (
-    arith,
-    h.few,
-    steps_below (λ n. 1) reading h,
-    all_ones reading.steps,
-    ones reading.used,
-  );
-  once = λ number. omega (
-    arith,
-    h.once number,
-    steps_below (λ n. cond (n == number) 1 0) reading h,
-  );
-  within = λ number some. h.within number
-      (omega (arith, some, steps_below (λ n. cond (n == number) 1 0) reading h));
-  rise = All-from_recursion IsRising reading.steps h.rise;
-}
+steps_below : (f : ℕ → ℕ) (text : List ℕ) (steps : List JobStep) → AreSteps (laid text).steps steps
+    → sum_by (of_step f) (deck_steps steps) ≤ sum_by f (laid text).used
+steps_below f text steps all =
+    omega (arith, steps_sum f (laid text).steps steps all, parts_below f text)
 
 -- the decks of a job are numbered 1 to 99, each once
-pub numbered : (text : List ℕ) (to : Reading) → read_text text ≡ Ok to → AreNumbered to.steps
-numbered text to e =
-    numbered_steps to (finished_numbered (with_lines 1 (Ok unread) (job_lines text)) to
-    (λ from read. lines_numbered (job_lines text) 1 unread from read unread_numbered) e)
+pub numbered : (text : List ℕ) (steps : List JobStep) → AreSteps (laid text).steps steps
+    → AreNumbered (deck_steps steps)
+numbered text steps all =
+    let used = (laid_measured (numbers_measure (λ n. 0)) text).used in
+    record {
+      few = omega (
+        arith,
+        used.few,
+        steps_below (λ n. 1) text steps all,
+        all_ones (deck_steps steps),
+        ones (laid text).used,
+      );
+      once = λ number. omega (
+        arith,
+        used.once number,
+        steps_below (λ n. cond (n == number) 1 0) text steps all,
+      );
+      within = λ number some. used.within number
+          (omega (arith, some, steps_below (λ n. cond (n == number) 1 0) text steps all));
+      rise = All-from_recursion IsRising (deck_steps steps)
+          (steps_rise (laid text).steps steps all);
+    }

@@ -1,5 +1,10 @@
+mod Blanks
 mod Cards
 mod DeckNumbers
+mod Faults
+mod Jobs
 mod LineLengths
+mod Measures
 mod OrderCounts
 mod Outcomes
+mod StepsRead

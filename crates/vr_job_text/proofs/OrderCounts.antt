@@ -1,8 +1,8 @@
 -- A job has at most as many orders as its text has lines.
-use Rattle.std.proofs.Common.{◌≡◌, ℕ, ◌+◌, ◌≤◌, ◌==◌, nat_le, Bool, true, false, cond, List, [], ◌∷◌, ◌++◌}
-use Rattle.std.proofs.Common.{length, Option, Some, None, Result, Ok, Err, sum_by, refl, ap, subst}
-use Rattle.std.proofs.Common.{arith, length-append, ◌⊎◌, inl, inr, bytes_eq, codes}
-use Rattle.std.proofs.lemmas.List.Sums.{sum_by-cons, sum_by_push, sum_by-insert}
+use Rattle.std.proofs.Common.{◌≡◌, ℕ, ◌+◌, ◌≤◌, Bool, true, false, cond, List, [], ◌∷◌, ◌++◌}
+use Rattle.std.proofs.Common.{length, Option, Some, None, Result, Ok, Err, sum_by, refl, ap}
+use Rattle.std.proofs.Common.{arith, length-append, ◌⊎◌, inl, inr}
+use Rattle.std.proofs.lemmas.List.Sums.{sum_by-cons, sum_by-insert}
 use Rattle.bstr.proofs.lemmas.LengthLemmas.{length-lines}
 use Rattle.vr_text.specs.Lines.{Line}
 use Rattle.vr_deck_text.specs.declared.fault.DeckCause.{DeckCause}
@@ -19,26 +19,25 @@ use Rattle.vr_deck_text.specs.Deck.{with_line as deck_line, with_lines as deck_l
 use Rattle.vr_deck_text.specs.Deck.{is_long, is_comment, end_in, order_in, file_in, deck_of}
 use Rattle.vr_deck_text.specs.Deck.{empty_deck}
 use Rattle.vr_deck_text.specs.Rows.{verb_named}
-use Rattle.vr_deck_text.specs.Words.{words, without_end}
-use Rattle.vr_job_text.specs.declared.card.Card.{Card}
-use Rattle.vr_job_text.specs.declared.card.Card.TheVariants.{Nothing, Step as StepCard, Data}
+use Rattle.vr_deck_text.specs.Words.{words}
 use Rattle.vr_job_text.specs.declared.card.Program.{Program}
-use Rattle.vr_job_text.specs.declared.card.Program.TheVariants.{Decks, Utilities}
-use Rattle.vr_job_text.specs.declared.fault.CardFault.{CardFault}
+use Rattle.vr_job_text.specs.declared.card.Program.TheVariants as programs
 use Rattle.vr_job_text.specs.declared.fault.TextFault.{TextFault}
-use Rattle.vr_job_text.specs.declared.reading.Begun.{Begun}
-use Rattle.vr_job_text.specs.declared.reading.DeckLines.{DeckLines}
-use Rattle.vr_job_text.specs.declared.reading.Reading.{Reading}
+use Rattle.vr_job_text.specs.declared.job.JobStep.{JobStep}
+use Rattle.vr_job_text.specs.declared.job.JobStep.TheVariants.{Decks, Utilities}
+use Rattle.vr_job_text.specs.declared.reading.Part.{Part}
+use Rattle.vr_job_text.specs.declared.reading.PartKind.{PartKind}
+use Rattle.vr_job_text.specs.declared.reading.PartKind.TheVariants as kinds
+use Rattle.vr_job_text.specs.declared.reading.StepText.{StepText}
 use Rattle.vr_job_text.specs.declared.text.Deck.{Deck}
-use Rattle.vr_job_text.specs.Card.{is_card, card_of, name_on, deck_number}
-use Rattle.vr_job_text.specs.Decks.{deck_read, deck_in, with_deck, with_read}
-use Rattle.vr_job_text.specs.Decks.{with_decks, decks_in, place_of}
-use Rattle.vr_job_text.specs.Job.{unread, with_open, closed, line_added, opened, step_of, step_added}
-use Rattle.vr_job_text.specs.Job.{with_step, ended_by, ended, begun_at, begun_by, may_number}
-use Rattle.vr_job_text.specs.Job.{announced, with_number, with_deck_card, with_data, with_card}
-use Rattle.vr_job_text.specs.Job.{with_body, with_text, unless_bad, with_line, with_lines, finished}
-use Rattle.vr_job_text.specs.Job.{read_text, order_count}
-use Rattle.vr_job_text.specs.Text.{job_lines, first_bad}
+use Rattle.vr_job_text.specs.declared.text.Step.{Step}
+use Rattle.vr_job_text.specs.Decks.{deck_read, deck_in, with_deck, with_read, with_part, with_decks}
+use Rattle.vr_job_text.specs.Decks.{place_of}
+use Rattle.vr_job_text.specs.Job.{AreSteps, IsStepOf, deck_steps, order_count}
+use Rattle.vr_job_text.specs.Layout.{laid}
+use Rattle.vr_job_text.specs.Text.{job_lines}
+use Rattle.vr_job_text.proofs.DeckNumbers.{read_after, unchanged}
+use Rattle.vr_job_text.proofs.Measures.{Measure, laid_measured, added_by, of_text, total}
 
 -- one of two values
 pub pick : {A : Type 0} (b : Bool) (x y z : A) → cond b x y ≡ z → (x ≡ z) ⊎ (y ≡ z)
@@ -127,18 +126,46 @@ few_in_deck : (lines : List Line) (deck : DeckText) → deck_in lines ≡ Ok dec
 few_in_deck lines deck e =
     omega (arith, few_in_lines lines empty_deck deck (read_is (deck_of lines) deck e))
 
--- the orders of the decks of a step, and their lines
+-- the orders of the decks of a step, and the lines of parts
 abbrev orders_in : Deck → ℕ
 orders_in deck = length deck.text.orders
 
-abbrev lines_in : DeckLines → ℕ
-lines_in text = length text.lines
+abbrev orders_of : Step → ℕ
+orders_of step = sum_by orders_in step.decks
 
-pub read_after : (after : Result (List Deck) TextFault) (texts : List DeckLines) (to : List Deck)
-    → with_decks after texts ≡ Ok to
-    → (next : List Deck) × (after ≡ Ok next) × (with_decks (Ok next) texts ≡ Ok to)
-read_after (Err fault) texts to e = let f : ⊥ = cc in absurd f
-read_after (Ok next) texts to e = (next, refl, e)
+abbrev lines_in : Part → ℕ
+lines_in part = length part.lines
+
+lines_measure : Measure
+lines_measure = record {
+  part = lines_in;
+  deck = λ n. 0;
+  line = 1;
+  commands = refl;
+  inputs = λ name. refl;
+  decks = λ number. refl;
+  added = λ one number text. omega (
+    arith,
+    length-append one.lines (record { number = number; text = text } ∷ []),
+  );
+}
+
+all_added : (lines : List (List ℕ)) → added_by 1 lines ≡ length lines
+all_added [] = refl
+all_added (line ∷ lines) = omega (arith, all_added lines)
+
+zeros : (used : List ℕ) → sum_by (λ n. 0) used ≡ 0
+zeros [] = refl
+zeros (n ∷ used) = omega (arith, sum_by-cons (λ m. 0) n used, zeros used)
+
+lines_below : (text : List ℕ)
+    → sum_by (of_text lines_in) (laid text).steps ≤ length (job_lines text)
+unfolding lines_measure
+lines_below text =
+    let h = laid_measured lines_measure text in
+    let low : total lines_in (laid text)
+    ≤ sum_by (λ n. 0) (laid text).used + added_by 1 (job_lines text) = h.sum in
+    omega (arith, low, all_added (job_lines text), zeros (laid text).used)
 
 one_deck : (decks next : List Deck) (number : ℕ) (lines : List Line)
     (read : Result DeckText TextFault) → deck_in lines ≡ read → with_read decks number read ≡ Ok next
@@ -153,174 +180,59 @@ one_deck decks next number lines (Ok text) is e =
     sum_by-insert orders_in decks (place_of decks number) deck in
     omega (arith, ap (sum_by orders_in) same, sums, few)
 
-few_in_decks : (texts : List DeckLines) (from to : List Deck) → with_decks (Ok from) texts ≡ Ok to
-    → sum_by orders_in to ≤ sum_by orders_in from + sum_by lines_in texts
+no_deck : (decks next : List Deck) (lines : List Line) → unchanged decks ≡ Ok next
+    → sum_by orders_in next ≤ sum_by orders_in decks + length lines
+no_deck decks next lines e =
+    let same : decks ≡ next = cc in omega (arith, ap (sum_by orders_in) same)
+
+one_part : (decks next : List Deck) (lines : List Line) (kind : PartKind)
+    → with_part decks lines kind ≡ Ok next
+    → sum_by orders_in next ≤ sum_by orders_in decks + length lines
+one_part decks next lines (kinds.Deck number) e =
+    one_deck decks next number lines (deck_in lines) refl e
+one_part decks next lines kinds.Commands e = no_deck decks next lines e
+one_part decks next lines (kinds.Data name) e = no_deck decks next lines e
+
+few_in_decks : (parts : List Part) (from to : List Deck) → with_decks (Ok from) parts ≡ Ok to
+    → sum_by orders_in to ≤ sum_by orders_in from + sum_by lines_in parts
 few_in_decks [] from to e =
     let same : from ≡ to = cc in omega (arith, ap (sum_by orders_in) same)
-few_in_decks (text ∷ texts) from to e =
-    let after = read_after (with_read from text.number (deck_in text.lines)) texts to e in
-    let one = one_deck from after.0 text.number text.lines (deck_in text.lines) refl after.1 in
-    omega (arith, one, few_in_decks texts after.0 to after.2, sum_by-cons lines_in text texts)
+few_in_decks (part ∷ parts) from to e =
+    let after = read_after (with_part from part.lines part.kind) parts to e in
+    let one = one_part from after.0 part.lines part.kind after.1 in
+    omega (arith, one, few_in_decks parts after.0 to after.2, sum_by-cons lines_in part parts)
 
--- the orders of a job so far, with the lines of decks that aren't read yet
-abbrev going_lines : Option DeckLines → ℕ
-going_lines None = 0
-going_lines (Some text) = length text.lines
+-- the orders of the steps of texts are at most the lines of these
+first_orders : (program : Program) (text : StepText) (step : JobStep) (steps : List JobStep)
+    → IsStepOf program text step
+    → sum_by orders_of (deck_steps (step ∷ steps))
+    ≤ sum_by lines_in text.parts + sum_by orders_of (deck_steps steps)
+first_orders programs.Decks text (Decks step) steps is =
+    omega (
+      arith,
+      few_in_decks text.parts [] step.decks is.decks,
+      sum_by-cons orders_of step (deck_steps steps),
+    )
+first_orders programs.Utilities text (Utilities step) steps is = omega arith
+first_orders programs.Decks text (Utilities step) steps is = absurd is
+first_orders programs.Utilities text (Decks step) steps is = absurd is
 
-abbrev weight : Reading → ℕ
-weight reading =
-    order_count reading.steps + (sum_by lines_in reading.decks + going_lines reading.going)
-
-open_lines : (texts : List DeckLines) (going : Option DeckLines)
-    → sum_by lines_in (with_open texts going) ≡ sum_by lines_in texts + going_lines going
-open_lines texts None = omega arith
-open_lines texts (Some text) = sum_by_push lines_in texts text
-
-closed_weight : (reading : Reading) → weight (closed reading) ≤ weight reading
-closed_weight reading = omega (arith, open_lines reading.decks reading.going)
-
-same_weight : (one other : Reading) (bound : ℕ) → weight one ≤ bound → one ≡ other
-    → weight other ≤ bound
-same_weight one other bound h same = subst (λ (r : Reading). weight r ≤ bound) same h
-
-step_weight : (reading : Reading) (begun : Begun) (decks : List Deck)
-    → sum_by orders_in decks ≤ sum_by lines_in reading.decks
-    → weight (step_added reading begun decks) ≤ weight reading
-step_weight reading begun decks few =
-    let steps : order_count (reading.steps ++ step_of begun decks ∷ [])
-    ≡ order_count reading.steps + sum_by orders_in decks =
-    sum_by_push (λ step. sum_by orders_in step.decks) reading.steps (step_of begun decks) in
-    omega (arith, steps, few)
-
-ended_with : (reading next : Reading) (begun : Begun) (decks : Result (List Deck) TextFault)
-    → decks_in reading.decks ≡ decks → with_step reading begun decks ≡ Ok next
-    → weight next ≤ weight reading
-ended_with reading next begun (Err fault) is e = let f : ⊥ = cc in absurd f
-ended_with reading next begun (Ok decks) is e =
-    let same : step_added reading begun decks ≡ next = cc in
-    same_weight (step_added reading begun decks) next (weight reading)
-    (step_weight reading begun decks (omega (arith, few_in_decks reading.decks [] decks is))) same
-
-ended_weight : (reading next : Reading) (begun : Option Begun) → ended_by reading begun ≡ Ok next
-    → weight next ≤ weight reading
-ended_weight reading next None e =
-    let same : reading ≡ next = cc in same_weight reading next (weight reading) (omega arith) same
-ended_weight reading next (Some begun) e =
-    ended_with reading next begun (decks_in reading.decks) refl e
-
-begun_weight : (reading next : Reading) (after : Result Reading TextFault) (number : ℕ)
-    (name : List ℕ) (program : Program)
-    → ((mid : Reading) → after ≡ Ok mid → weight mid ≤ weight reading)
-    → begun_by after number name program ≡ Ok next → weight next ≤ weight reading
-begun_weight reading next (Err fault) number name program low e = let f : ⊥ = cc in absurd f
-begun_weight reading next (Ok mid) number name Utilities low e = let f : ⊥ = cc in absurd f
-begun_weight reading next (Ok mid) number name Decks low e =
-    let same : begun_at mid number name ≡ next = cc in
-    same_weight (begun_at mid number name) next (weight reading) (low mid refl) same
-
-number_weight : (reading next : Reading) (line deck : ℕ) → with_number reading line deck ≡ Ok next
-    → weight next ≤ weight reading
-number_weight reading next line deck e =
-    elim (pick (nat_le 64 (length reading.used)) _ _ _ e) [
-      | inl many ↦ let f : ⊥ = cc in absurd f
-      | inr few ↦
-          elim (pick (may_number reading.used deck) _ _ _ few) [
-            | inl may ↦
-                let same : announced reading deck ≡ next = cc in
-                same_weight (announced reading deck) next (weight reading) (omega arith) same
-            | inr bad ↦ let f : ⊥ = cc in absurd f
-          ]
-    ]
-
-deck_card_weight : (reading next : Reading) (line : ℕ) (deck : Option ℕ)
-    → with_deck_card reading line deck ≡ Ok next → weight next ≤ weight reading
-deck_card_weight reading next line None e = let f : ⊥ = cc in absurd f
-deck_card_weight reading next line (Some deck) e = number_weight reading next line deck e
-
-data_weight : (reading next : Reading) (line : ℕ) (begun : Option Begun) (name : List ℕ)
-    → with_data reading line begun name ≡ Ok next → weight next ≤ weight reading
-data_weight reading next line None name e = let f : ⊥ = cc in absurd f
-data_weight reading next line (Some begun) name e =
-    deck_card_weight reading next line (deck_number name) e
-
-card_weight : (reading next : Reading) (number : ℕ) (line : List ℕ)
-    (card : Result Card CardFault) → with_card reading number line card ≡ Ok next
-    → weight next ≤ weight reading
-card_weight reading next number line (Err fault) e = let f : ⊥ = cc in absurd f
-card_weight reading next number line (Ok Nothing) e =
-    let same : reading ≡ next = cc in same_weight reading next (weight reading) (omega arith) same
-card_weight reading next number line (Ok (StepCard program)) e =
-    begun_weight reading next (ended reading) number (name_on line) program
-    (λ mid same. ended_weight reading mid reading.begun same) e
-card_weight reading next number line (Ok Data) e =
-    data_weight reading next number reading.begun (name_on line) e
-
-body_weight : (reading next : Reading) (number : ℕ) (line : List ℕ) (going : Option DeckLines)
-    → reading.going ≡ going → with_body reading number line going ≡ Ok next
-    → weight next ≤ weight reading + 1
-body_weight reading next number line (Some deck) is e =
-    let one : Line = record { number = number; text = line } in
-    let same : opened reading (line_added deck one) ≡ next = cc in
-    same_weight (opened reading (line_added deck one)) next (weight reading + 1)
-    (omega (arith, length-append deck.lines (one ∷ []), ap going_lines is)) same
-body_weight reading next number line None is e =
-    elim (pick (length line == 0) _ _ _ e) [
-      | inl none ↦
-          let same : reading ≡ next = cc in
-          same_weight reading next (weight reading + 1) (omega arith) same
-      | inr stray ↦ let f : ⊥ = cc in absurd f
-    ]
-
-text_weight : (reading next : Reading) (number : ℕ) (line : List ℕ)
-    → with_text reading number line ≡ Ok next → weight next ≤ weight reading + 1
-text_weight reading next number line e =
-    let low = closed_weight reading in
-    elim (pick (is_card line) _ _ _ e) [
-      | inl card ↦
-          omega (arith, low, card_weight (closed reading) next number line (card_of line) card)
-      | inr other ↦
-          elim (pick (bytes_eq line (codes "/*")) _ _ _ other) [
-            | inl end ↦
-                let same : closed reading ≡ next = cc in
-                same_weight (closed reading) next (weight reading + 1) (omega (arith, low)) same
-            | inr body ↦ body_weight reading next number line reading.going refl body
-          ]
-    ]
-
-line_weight : (reading next : Reading) (number : ℕ) (line : List ℕ) (bad : Option ℕ)
-    → unless_bad reading number line bad ≡ Ok next → weight next ≤ weight reading + 1
-line_weight reading next number line (Some at) e = let f : ⊥ = cc in absurd f
-line_weight reading next number line None e = text_weight reading next number line e
-
-pub lines_after : (after : Result Reading TextFault) (number : ℕ) (lines : List (List ℕ)) (to : Reading)
-    → with_lines number after lines ≡ Ok to
-    → (next : Reading) × (after ≡ Ok next) × (with_lines number (Ok next) lines ≡ Ok to)
-lines_after (Err fault) number lines to e = let f : ⊥ = cc in absurd f
-lines_after (Ok next) number lines to e = (next, refl, e)
-
-lines_weight : (lines : List (List ℕ)) (number : ℕ) (from to : Reading)
-    → with_lines number (Ok from) lines ≡ Ok to → weight to ≤ weight from + length lines
-lines_weight [] number from to e =
-    let same : from ≡ to = cc in
-    same_weight from to (weight from + 0) (omega arith) same
-lines_weight (line ∷ lines) number from to e =
-    let after = lines_after (with_line from number line) (number + 1) lines to e in
-    let one = line_weight from after.0 number (without_end line) (first_bad line) after.1 in
-    omega (arith, one, lines_weight lines (number + 1) after.0 to after.2)
-
-finished_weight : (read : Result Reading TextFault) (to : Reading) (bound : ℕ)
-    → ((from : Reading) → read ≡ Ok from → weight from ≤ bound) → finished read ≡ Ok to
-    → weight to ≤ bound
-finished_weight (Err fault) to bound low e = let f : ⊥ = cc in absurd f
-finished_weight (Ok from) to bound low e =
-    let end = ended_weight (closed from) to from.begun e in
-    omega (arith, end, closed_weight from, low from refl)
+steps_orders : (texts : List StepText) (steps : List JobStep) → AreSteps texts steps
+    → sum_by orders_of (deck_steps steps) ≤ sum_by (of_text lines_in) texts
+steps_orders [] [] all = omega arith
+steps_orders [] (step ∷ steps) all = absurd all
+steps_orders (text ∷ texts) [] all = absurd all
+steps_orders (text ∷ texts) (step ∷ steps) all =
+    omega (
+      arith,
+      first_orders text.program text step steps all.0,
+      steps_orders texts steps all.1,
+      sum_by-cons (of_text lines_in) text texts,
+    )
 
 -- a job has at most as many orders as its text has lines
-pub few_orders : (text : List ℕ) (to : Reading) → read_text text ≡ Ok to
-    → order_count to.steps ≤ length text
-few_orders text to e =
-    let low = finished_weight (with_lines 1 (Ok unread) (job_lines text)) to
-    (length (job_lines text))
-    (λ from read. omega (arith, lines_weight (job_lines text) 1 unread from read)) e in
-    omega (arith, low, length-lines text)
+pub few_orders : (text : List ℕ) (steps : List JobStep) → AreSteps (laid text).steps steps
+    → order_count (deck_steps steps) ≤ length text
+few_orders text steps all =
+    let low = steps_orders (laid text).steps steps all in
+    omega (arith, low, lines_below text, length-lines text)

@@ -17,7 +17,9 @@ use Rattle.vr_deck_text.specs.declared.text.Order.{Order}
 use Rattle.vr_deck_text.specs.declared.text.Seek.{Seek}
 use Rattle.vr_deck_text.specs.declared.text.Seek.TheVariants.{Next, Equal, AtLeast}
 use Rattle.vr_job_text.specs.declared.fault.TextFault.{TextFault}
-use Rattle.vr_job_text.specs.declared.reading.DeckLines.{DeckLines}
+use Rattle.vr_job_text.specs.declared.reading.Part.{Part}
+use Rattle.vr_job_text.specs.declared.reading.PartKind.{PartKind}
+use Rattle.vr_job_text.specs.declared.reading.PartKind.TheVariants as kinds
 use Rattle.vr_job_text.specs.declared.text.Deck.{Deck}
 use Rattle.vr_job_text.specs.Fault.{deck_fault, form_fault}
 
@@ -40,13 +42,18 @@ abbrev pub with_read : List Deck → ℕ → Result DeckText TextFault → Resul
 with_read decks number (Err fault) = Err fault
 with_read decks number (Ok text) = Ok (with_deck decks (record { number = number; text = text }))
 
--- deck by deck: the first fault stays
-abbrev pub with_decks : Result (List Deck) TextFault → List DeckLines → Result (List Deck) TextFault
-with_decks (Err fault) texts = Err fault
-with_decks (Ok decks) [] = Ok decks
-with_decks (Ok decks) (text ∷ texts) =
-    with_decks (with_read decks text.number (deck_in text.lines)) texts
+-- a part that is a deck; a step of decks has no others
+abbrev pub with_part : List Deck → List Line → PartKind → Result (List Deck) TextFault
+with_part decks lines (kinds.Deck number) = with_read decks number (deck_in lines)
+with_part decks lines kinds.Commands = Ok decks
+with_part decks lines (kinds.Data name) = Ok decks
 
--- the decks of some lines each, by number
-abbrev pub decks_in : List DeckLines → Result (List Deck) TextFault
-decks_in texts = with_decks (Ok []) texts
+-- part by part: the first fault stays
+abbrev pub with_decks : Result (List Deck) TextFault → List Part → Result (List Deck) TextFault
+with_decks (Err fault) parts = Err fault
+with_decks (Ok decks) [] = Ok decks
+with_decks (Ok decks) (part ∷ parts) = with_decks (with_part decks part.lines part.kind) parts
+
+-- the decks of the parts of a step, by number
+abbrev pub decks_in : List Part → Result (List Deck) TextFault
+decks_in parts = with_decks (Ok []) parts

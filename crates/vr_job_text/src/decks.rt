@@ -1,34 +1,34 @@
 //! The reading of the decks of a step.
 ghost use Rattle.std.specs.Prelude.{◌≡◌, Ok, OnOk, IfOk, IfErr};
-ghost use Rattle.vr_job_text.specs.Decks.{deck_in, with_read, with_decks, decks_in};
+ghost use Rattle.vr_job_text.specs.Decks.{deck_in, with_read, with_part, with_decks, decks_in};
 ghost use Rattle.vr_job_text.specs.Fault.{FaultBy};
 
 use crate::fault::{JobFault, deck_fault};
-use crate::reading::DeckLines;
+use crate::reading::{Part, PartKind};
 use crate::text::{Deck, Decks};
 use std::alloc::Global;
 use vr_deck_text::{DeckFault, DeckText, parse_deck};
 use vr_text::Lines;
 
-/// The decks of some lines each, by number.
-pub(crate) fn decks_in(alloc: Global, texts: &[DeckLines]) -> Result<Decks, JobFault>
-    ensures ok { IfOk result (λ decks. decks_in texts.now ≡ Ok decks) }
-    ensures fault { IfErr result (FaultBy (decks_in texts.now)) }
+/// The decks of the parts of a step, by number.
+pub(crate) fn decks_in(alloc: Global, parts: &[Part]) -> Result<Decks, JobFault>
+    ensures ok { IfOk result (λ decks. decks_in parts.now ≡ Ok decks) }
+    ensures fault { IfErr result (FaultBy (decks_in parts.now)) }
 {
     let mut decks = Decks::new(alloc);
-    match take_decks(alloc, &mut decks, texts) {
+    match take_decks(alloc, &mut decks, parts) {
         Ok(()) => Ok(decks),
         Err(fault) => Err(fault),
     }
 }
 
-/// Takes each deck into those of a step.
-fn take_decks(alloc: Global, decks: &mut Decks, texts: &[DeckLines]) -> Result<(), JobFault>
-    ensures ok { OnOk result (with_decks (Ok decks.old) texts.now ≡ Ok decks.new) }
-    ensures fault { IfErr result (FaultBy (with_decks (Ok decks.old) texts.now)) }
+/// Takes each part into the decks of a step.
+fn take_decks(alloc: Global, decks: &mut Decks, parts: &[Part]) -> Result<(), JobFault>
+    ensures ok { OnOk result (with_decks (Ok decks.old) parts.now ≡ Ok decks.new) }
+    ensures fault { IfErr result (FaultBy (with_decks (Ok decks.old) parts.now)) }
 {
-    for text in texts {
-        match take_deck(alloc, decks, text) {
+    for part in parts {
+        match take_part(alloc, decks, part) {
             Ok(()) => {}
             Err(fault) => return Err(fault),
         }
@@ -36,20 +36,29 @@ fn take_decks(alloc: Global, decks: &mut Decks, texts: &[DeckLines]) -> Result<(
     Ok(())
 }
 
-/// Takes a deck into those of a step.
-fn take_deck(alloc: Global, decks: &mut Decks, text: &DeckLines) -> Result<(), JobFault>
+/// Takes a part into the decks of a step.
+fn take_part(alloc: Global, decks: &mut Decks, part: &Part) -> Result<(), JobFault>
     ensures ok { OnOk result
-        (with_read decks.old text.now.number (deck_in text.now.lines) ≡ Ok decks.new) }
+        (with_part decks.old part.now.lines part.now.kind ≡ Ok decks.new) }
     ensures fault { IfErr result
-        (FaultBy (with_read decks.old text.now.number (deck_in text.now.lines))) }
+        (FaultBy (with_part decks.old part.now.lines part.now.kind)) }
 {
-    match deck_in(alloc, &text.lines) {
+    match part.kind {
+        PartKind::Deck(number) => take_deck(alloc, decks, number, &part.lines),
+        PartKind::Commands => Ok(()),
+        PartKind::Data(_) => Ok(()),
+    }
+}
+
+/// Takes a deck into those of a step.
+fn take_deck(alloc: Global, decks: &mut Decks, number: u32, lines: &Lines) -> Result<(), JobFault>
+    ensures ok { OnOk result (with_read decks.old number (deck_in lines.now) ≡ Ok decks.new) }
+    ensures fault { IfErr result (FaultBy (with_read decks.old number (deck_in lines.now))) }
+{
+    match deck_in(alloc, lines) {
         Err(fault) => Err(fault),
-        Ok(read) => {
-            decks.add(Deck {
-                number: text.number,
-                text: read,
-            })?;
+        Ok(text) => {
+            decks.add(Deck { number, text })?;
             Ok(())
         }
     }

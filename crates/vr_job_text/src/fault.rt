@@ -1,12 +1,14 @@
 //! Why a text is not a job.
 ghost use Rattle.std.specs.Prelude.{◌≡◌};
-ghost use Rattle.vr_job_text.specs.Fault.{cause_number, wrong, card_fault, deck_fault, form_fault};
+ghost use Rattle.vr_job_text.specs.Fault.{cause_number, scan_number, wrong, card_fault};
+ghost use Rattle.vr_job_text.specs.Fault.{scan_fault, ams_fault, deck_fault, form_fault};
 
+use vr_amsparse::{AmsCause, CommandFault};
 use vr_deck_text::DeckCause;
+use vr_scan::{FormCause, FormFault};
 use vr_types::OutOfMemory;
 
-/// The causes for which a card is refused. Numbers that are left out are those of the cards of
-/// utility steps, which aren't run yet.
+/// The causes for which a card, or a line that follows one, is refused.
 #[derive(Clone, Copy)]
 pub enum CardCause {
     /// The name, the operation or the operand of the card is none, or is missing; or the data after
@@ -20,8 +22,12 @@ pub enum CardCause {
     DeckNumber,
     /// A character isn't allowed. Number 5.
     Character,
+    /// A data card has more than 80 characters. Number 6.
+    LongData,
     /// The job has 64 decks already. Number 7.
     TooManyDecks,
+    /// The step has data of that name already. Number 8.
+    DataTwice,
 }
 
 impl CardCause {
@@ -35,24 +41,42 @@ impl CardCause {
             CardCause::StrayText => 3,
             CardCause::DeckNumber => 4,
             CardCause::Character => 5,
+            CardCause::LongData => 6,
             CardCause::TooManyDecks => 7,
+            CardCause::DataTwice => 8,
         }
+    }
+}
+
+/// The number that a report shows of a cause for which the text of a step of IDCAMS has no tokens.
+pub fn scan_number(cause: FormCause) -> u8
+    ensures { result ≡ scan_number cause }
+{
+    match cause {
+        FormCause::OpenComment => 1,
+        FormCause::OpenLiteral => 2,
+        FormCause::Digit => 3,
+        FormCause::Continuation => 4,
     }
 }
 
 /// What is wrong with a text.
 #[derive(Clone, Copy)]
 pub enum Kind {
-    /// A card is wrong.
+    /// A card is wrong, or a line after one.
     Card(CardCause),
+    /// The text of a step of IDCAMS has no tokens.
+    Scan(FormCause),
+    /// The tokens of a step of IDCAMS are no commands.
+    Ams(AmsCause),
     /// A line of a deck is.
     Deck(DeckCause),
-    /// Nothing is wrong, and the line is not run yet: a step of IDCAMS.
+    /// Nothing is wrong, and the line isn't run yet: a step of IDCAMS.
     Form,
 }
 
 /// The first fault of a text, with its line and its column, both from 1. The column is that where
-/// the wrong thing begins; a deck's is 1.
+/// the wrong thing begins; that of a deck and of what isn't run yet is 1.
 #[derive(Clone, Copy)]
 pub struct TextFault {
     pub kind: Kind,
@@ -101,6 +125,28 @@ pub(crate) fn card_fault(line: u32, fault: CardFault) -> TextFault
     TextFault {
         kind: Kind::Card(fault.cause),
         line,
+        column: fault.column,
+    }
+}
+
+/// The fault of the tokens of a step.
+pub(crate) fn scan_fault(fault: FormFault) -> TextFault
+    ensures { result ≡ scan_fault fault }
+{
+    TextFault {
+        kind: Kind::Scan(fault.cause),
+        line: fault.line,
+        column: fault.column,
+    }
+}
+
+/// The fault of the commands of a step.
+pub(crate) fn ams_fault(fault: CommandFault) -> TextFault
+    ensures { result ≡ ams_fault fault }
+{
+    TextFault {
+        kind: Kind::Ams(fault.cause),
+        line: fault.line,
         column: fault.column,
     }
 }

@@ -2,72 +2,47 @@
 ghost use Rattle.std.specs.Prelude.{◌≡◌, ℕ, List, [], ◌∷◌, ◌++◌, ◌<◌, ◌==◌, length, OnOk, OnErr};
 ghost use Rattle.std.specs.List.{list_any};
 
-use crate::text::Steps;
+use crate::card::Program;
+use crate::fault::TextFault;
 use std::alloc::Global;
 use std::marker::Model;
 use vr_text::Lines;
-use vr_types::{Bytes, OutOfMemory};
+use vr_types::{Bytes, Items, OutOfMemory};
 
-/// A step of decks that was begun: its name, and the number of the line of its card.
+/// What stands after a card: a deck of this number, commands of IDCAMS, or data of this name.
+#[derive(Drop)]
+pub(crate) enum PartKind {
+    Deck(u32),
+    Commands,
+    Data(Bytes),
+}
+
+/// The lines after a card.
+#[derive(Drop)]
+pub(crate) struct Part<'a> {
+    pub kind: PartKind,
+    pub lines: Lines<'a>,
+}
+
+/// The parts of a step, in the order of the text.
+pub(crate) type Parts<'a> = Items<Part<'a>>;
+
+/// The text of a step: its name, the number of the line of its card, its program, and what stands
+/// after its cards.
+#[derive(Drop)]
+pub(crate) struct StepText<'a> {
+    pub name: Bytes,
+    pub line: u32,
+    pub program: Program,
+    pub parts: Parts<'a>,
+}
+
+/// A step that was begun: its name, the number of the line of its card, and its program.
 #[derive(Drop)]
 pub(crate) struct Begun {
     pub name: Bytes,
     pub line: u32,
-}
-
-/// The lines of a deck, with its number.
-#[derive(Drop)]
-pub(crate) struct DeckLines<'a> {
-    pub number: u32,
-    pub lines: Lines<'a>,
-}
-
-/// The lines of the decks of a step, in the order of the text.
-#[derive(Drop)]
-pub(crate) struct Texts<'a> {
-    texts: Vec<DeckLines<'a>>,
-}
-
-impl<'a> Model for Texts<'a> {
-    ghost use Rattle.std.specs.Prelude.{List};
-    ghost use Rattle.vr_job_text.specs.declared.reading.DeckLines.{DeckLines};
-
-    ghost Value = { List DeckLines };
-
-    ghost view = { λ texts. texts.texts.items };
-}
-
-impl<'a> Texts<'a> {
-    /// No deck, which takes no memory.
-    pub fn new(alloc: Global) -> Texts<'a>
-        ensures { result ≡ [] }
-    {
-        Texts {
-            texts: Vec::new(alloc),
-        }
-    }
-
-    /// The decks, first to last.
-    pub fn as_slice(&self) -> &[DeckLines<'a>]
-        ensures { result.now ≡ self.now }
-    {
-        self.texts.as_slice()
-    }
-
-    /// Adds a deck at the end.
-    pub fn push(&mut self, text: DeckLines<'a>) -> Result<(), OutOfMemory>
-        ensures { OnOk result (self.new ≡ self.old ++ text.entry ∷ []) }
-    {
-        self.texts.push(text)?;
-        Ok(())
-    }
-
-    /// Drops all decks.
-    pub fn clear(&mut self)
-        ensures { self.new ≡ [] }
-    {
-        self.texts.clear();
-    }
+    pub program: Program,
 }
 
 /// The numbers of the decks of a job, in the order of the text.
@@ -117,13 +92,14 @@ impl Numbers {
     }
 }
 
-/// How far a job text has been read: the steps that have ended, the step that was begun, the decks
-/// of that step, the deck that goes on, and the numbers of all decks.
+/// How far a job text has been read: the steps that have ended, the step that was begun, the parts
+/// of that step, what goes on, the numbers of all decks, and the first fault of a line.
 #[derive(Drop)]
 pub(crate) struct Reading<'a> {
-    pub steps: Steps,
+    pub steps: Items<StepText<'a>>,
     pub begun: Option<Begun>,
-    pub decks: Texts<'a>,
-    pub going: Option<DeckLines<'a>>,
+    pub parts: Parts<'a>,
+    pub going: Option<Part<'a>>,
     pub used: Numbers,
+    pub fault: Option<TextFault>,
 }

@@ -1,92 +1,108 @@
-//! Where steps begin and end.
-ghost use Rattle.std.specs.Prelude.{◌≡◌, Ok, None, OnOk, IfErr};
-ghost use Rattle.vr_job_text.specs.Fault.{FaultBy, wrong, card_fault};
-ghost use Rattle.vr_job_text.specs.declared.fault.JobFault.TheVariants.{Text, Memory};
-ghost use Rattle.vr_job_text.specs.Job.{closed, step_added, ended, begun_by, may_number, announced};
-ghost use Rattle.vr_job_text.specs.Job.{with_number, with_deck_card, with_data};
+//! Where steps begin and end, and what their cards announce.
+ghost use Rattle.std.specs.Prelude.{◌≡◌, None, [], OnOk};
+ghost use Rattle.std.specs.List.{list_any};
+ghost use Rattle.vr_job_text.specs.Card.{deck_number};
+ghost use Rattle.vr_job_text.specs.Fault.{wrong, card_fault};
+ghost use Rattle.vr_job_text.specs.Layout.{closed, opened, refused, ended, begun_at, may_number};
+ghost use Rattle.vr_job_text.specs.Layout.{announced, with_number, with_deck_card, is_named};
+ghost use Rattle.vr_job_text.specs.Layout.{with_data_name, with_dd, with_data, step_added, going_after};
 
 use crate::card::{Program, deck_number};
-use crate::decks::decks_in;
-use crate::fault::{CardCause, JobFault, card_fault, form_fault, wrong};
-use crate::reading::{Begun, DeckLines, Numbers, Reading};
-use crate::text::{Decks, Step};
+use crate::fault::{CardCause, card_fault, wrong};
+use crate::reading::{Begun, Numbers, Part, PartKind, Parts, Reading, StepText};
 use std::alloc::Global;
+use std::mem::replace;
 use vr_text::Lines;
 use vr_types::{OutOfMemory, bytes};
 
-/// Ends the deck that goes on.
+/// Ends what goes on.
 pub(crate) fn close(reading: &mut Reading) -> Result<(), OutOfMemory>
     ensures { OnOk result (reading.new ≡ closed reading.old) }
 {
     match reading.going.take() {
         None => Ok(()),
-        Some(deck) => reading.decks.push(deck),
+        Some(part) => Ok(reading.parts.push(part)?),
     }
 }
 
-/// Ends the step that was begun: its decks are read.
-pub(crate) fn end_step(alloc: Global, reading: &mut Reading) -> Result<(), JobFault>
-    ensures ok { OnOk result (ended reading.old ≡ Ok reading.new) }
-    ensures fault { IfErr result (FaultBy (ended reading.old)) }
+/// Says what is wrong on a line.
+pub(crate) fn refuse(reading: &mut Reading, line: u32, cause: CardCause, column: u32)
+    ensures { reading.new ≡ refused reading.old line cause column }
 {
-    let Some(begun) = reading.begun.take() else {
-        return Ok(());
-    };
-    match decks_in(alloc, reading.decks.as_slice()) {
-        Ok(decks) => add_step(reading, begun, decks),
-        Err(fault) => Err(fault),
+    reading.fault = Some(card_fault(line, wrong(cause, column)));
+}
+
+/// Ends the step that was begun.
+pub(crate) fn end_step(alloc: Global, reading: &mut Reading) -> Result<(), OutOfMemory>
+    ensures { OnOk result (reading.new ≡ ended reading.old) }
+{
+    match reading.begun.take() {
+        None => Ok(()),
+        Some(begun) => add_step(alloc, reading, begun),
     }
 }
 
 /// Adds a step that has ended.
-fn add_step(reading: &mut Reading, begun: Begun, decks: Decks) -> Result<(), JobFault>
+fn add_step(alloc: Global, reading: &mut Reading, begun: Begun) -> Result<(), OutOfMemory>
     requires { reading.old.begun ≡ None }
-    ensures ok { OnOk result (reading.new ≡ step_added reading.old begun decks) }
-    ensures fault { IfErr result (λ fault. fault ≡ Memory) }
+    ensures { OnOk result (reading.new ≡ step_added reading.old begun) }
 {
-    let Begun { name, line } = begun;
-    reading.steps.push(Step { name, line, decks })?;
-    reading.decks.clear();
+    let parts = replace(&mut reading.parts, Parts::new(alloc));
+    let Begun {
+        name,
+        line,
+        program,
+    } = begun;
+    reading.steps.push(StepText {
+        name,
+        line,
+        program,
+        parts,
+    })?;
     Ok(())
 }
 
-/// Takes the card of a step, which ends the one before.
-pub(crate) fn take_step(
+/// Begins a step.
+pub(crate) fn begin_step(
     alloc: Global,
     reading: &mut Reading,
     line: u32,
     name: &[u8],
     program: Program,
-) -> Result<(), JobFault>
-    ensures ok { OnOk result (begun_by (ended reading.old) line name.now program
-        ≡ Ok reading.new) }
-    ensures fault { IfErr result (FaultBy (begun_by (ended reading.old) line name.now program)) }
+) -> Result<(), OutOfMemory>
+    ensures { OnOk result (reading.new ≡ begun_at reading.old line name.now program) }
 {
-    match end_step(alloc, reading) {
-        Ok(()) => begin_step(alloc, reading, line, name, program),
-        Err(fault) => Err(fault),
+    let name = bytes(alloc, name)?;
+    reading.begun = Some(Begun {
+        name,
+        line,
+        program,
+    });
+    reading.going = going_after(alloc, program);
+    Ok(())
+}
+
+/// What goes on after the card of a step: commands may follow that of a step of IDCAMS directly.
+fn going_after<'a>(alloc: Global, program: Program) -> Option<Part<'a>>
+    ensures { result ≡ going_after program }
+{
+    match program {
+        Program::Decks => None,
+        Program::Utilities => Some(Part {
+            kind: PartKind::Commands,
+            lines: Lines::new(alloc),
+        }),
     }
 }
 
-/// Begins a step.
-fn begin_step(
-    alloc: Global,
-    reading: &mut Reading,
-    line: u32,
-    name: &[u8],
-    program: Program,
-) -> Result<(), JobFault>
-    ensures ok { OnOk result (begun_by (Ok reading.old) line name.now program ≡ Ok reading.new) }
-    ensures fault { IfErr result (FaultBy (begun_by (Ok reading.old) line name.now program)) }
+/// Opens what stands after a card.
+fn open(alloc: Global, reading: &mut Reading, kind: PartKind)
+    ensures { reading.new ≡ opened reading.old (record { kind = kind; lines = [] }) }
 {
-    match program {
-        Program::Utilities => Err(JobFault::Text(form_fault(line))),
-        Program::Decks => {
-            let name = bytes(alloc, name)?;
-            reading.begun = Some(Begun { name, line });
-            Ok(())
-        }
-    }
+    reading.going = Some(Part {
+        kind,
+        lines: Lines::new(alloc),
+    });
 }
 
 /// Takes a card that data follows.
@@ -95,26 +111,39 @@ pub(crate) fn take_data(
     reading: &mut Reading,
     line: u32,
     name: &[u8],
-) -> Result<(), JobFault>
-    ensures ok { OnOk result (with_data reading.old line reading.old.begun name.now
-        ≡ Ok reading.new) }
-    ensures fault { IfErr result (FaultBy
-        (with_data reading.old line reading.old.begun name.now)) }
+) -> Result<(), OutOfMemory>
+    ensures { OnOk result (reading.new
+        ≡ with_data reading.old line reading.old.begun name.now) }
 {
-    if reading.begun.is_none() {
-        return Err(card(line, CardCause::Misspelled, 3));
-    }
-    match deck_number(name) {
-        None => Err(card(line, CardCause::Misspelled, 3)),
-        Some(deck) => take_number(alloc, reading, line, deck),
+    let program = match &reading.begun {
+        None => {
+            refuse(reading, line, CardCause::Misspelled, 3);
+            return Ok(());
+        }
+        Some(begun) => begun.program,
+    };
+    match program {
+        Program::Decks => take_deck_card(alloc, reading, line, name),
+        Program::Utilities => take_dd(alloc, reading, line, name),
     }
 }
 
-/// The fault of a card on a line.
-fn card(line: u32, cause: CardCause, column: u32) -> JobFault
-    ensures { result ≡ Text (card_fault line (wrong cause column)) }
+/// Takes a card that announces a deck.
+fn take_deck_card(
+    alloc: Global,
+    reading: &mut Reading,
+    line: u32,
+    name: &[u8],
+) -> Result<(), OutOfMemory>
+    ensures { OnOk result (reading.new ≡ with_deck_card reading.old line (deck_number name.now)) }
 {
-    JobFault::Text(card_fault(line, wrong(cause, column)))
+    match deck_number(name) {
+        None => {
+            refuse(reading, line, CardCause::Misspelled, 3);
+            Ok(())
+        }
+        Some(deck) => take_number(alloc, reading, line, deck),
+    }
 }
 
 /// Whether a deck may have a number.
@@ -128,28 +157,78 @@ fn may_number(used: &Numbers, deck: u32) -> bool
 const DECK_LIMIT: usize = 64;
 
 /// Takes the number of a deck that is announced.
-fn take_number(alloc: Global, reading: &mut Reading, line: u32, deck: u32) -> Result<(), JobFault>
-    ensures ok { OnOk result (with_number reading.old line deck ≡ Ok reading.new) }
-    ensures fault { IfErr result (FaultBy (with_number reading.old line deck)) }
+fn take_number(
+    alloc: Global,
+    reading: &mut Reading,
+    line: u32,
+    deck: u32,
+) -> Result<(), OutOfMemory>
+    ensures { OnOk result (reading.new ≡ with_number reading.old line deck) }
 {
     if reading.used.len() >= DECK_LIMIT {
-        Err(card(line, CardCause::TooManyDecks, 3))
+        refuse(reading, line, CardCause::TooManyDecks, 3);
+        Ok(())
     } else if may_number(&reading.used, deck) {
         announce(alloc, reading, deck)
     } else {
-        Err(card(line, CardCause::DeckNumber, 7))
+        refuse(reading, line, CardCause::DeckNumber, 7);
+        Ok(())
     }
 }
 
 /// Announces a deck.
-fn announce(alloc: Global, reading: &mut Reading, deck: u32) -> Result<(), JobFault>
-    ensures ok { OnOk result (reading.new ≡ announced reading.old deck) }
-    ensures fault { IfErr result (λ fault. fault ≡ Memory) }
+fn announce(alloc: Global, reading: &mut Reading, deck: u32) -> Result<(), OutOfMemory>
+    ensures { OnOk result (reading.new ≡ announced reading.old deck) }
 {
     reading.used.push(deck)?;
-    reading.going = Some(DeckLines {
-        number: deck,
-        lines: Lines::new(alloc),
-    });
+    open(alloc, reading, PartKind::Deck(deck));
+    Ok(())
+}
+
+/// Takes a card of a step of IDCAMS that commands or data follow.
+fn take_dd(alloc: Global, reading: &mut Reading, line: u32, name: &[u8]) -> Result<(), OutOfMemory>
+    ensures { OnOk result (reading.new ≡ with_dd reading.old line name.now) }
+{
+    if name == b"SYSIN".as_slice() {
+        open(alloc, reading, PartKind::Commands);
+        Ok(())
+    } else {
+        take_data_name(alloc, reading, line, name)
+    }
+}
+
+/// Whether a part is data of a name.
+fn is_named(name: &[u8], kind: &PartKind) -> bool
+    ensures { result ≡ is_named name.now kind.now }
+{
+    match kind {
+        PartKind::Data(other) => other.as_slice() == name,
+        PartKind::Deck(_) => false,
+        PartKind::Commands => false,
+    }
+}
+
+/// Whether one of the parts of a step is data of a name.
+fn has_data(parts: &[Part], name: &[u8]) -> bool
+    ensures { result ≡ list_any (λ part. is_named name.now part.kind) parts.now }
+{
+    parts.iter().any(|part| is_named(name, &part.kind))
+}
+
+/// Takes the name of data that is announced.
+fn take_data_name(
+    alloc: Global,
+    reading: &mut Reading,
+    line: u32,
+    name: &[u8],
+) -> Result<(), OutOfMemory>
+    ensures { OnOk result (reading.new ≡ with_data_name reading.old line name.now) }
+{
+    if has_data(reading.parts.as_slice(), name) {
+        refuse(reading, line, CardCause::DataTwice, 3);
+        return Ok(());
+    }
+    let name = bytes(alloc, name)?;
+    open(alloc, reading, PartKind::Data(name));
     Ok(())
 }

@@ -11,7 +11,7 @@ use std::thread::Threads;
 use vr_case_volumes::format_spelled;
 use vr_device::{MemoryDevice, memory_device};
 use vr_format::{FormatNo, format_volume};
-use vr_job_text::parse_job;
+use vr_job_text::parse_run_job;
 
 /// The largest block, in bytes, and the most blocks.
 const LIMIT: u32 = 4096;
@@ -112,7 +112,7 @@ pub fn job_of(alloc: Global, text: &[u8]) -> Result<Job, Stop> {
     if text.len() > LONGEST {
         return Err(Stop::Line);
     }
-    match parse_job(alloc, text) {
+    match parse_run_job(alloc, text) {
         Ok(job) => Ok(Job::of(job)),
         Err(_) => Err(Stop::Line),
     }

@@ -10,7 +10,7 @@ use std::thread::Threads;
 use vr_case_volumes::{Answer, Stop, add_lines};
 use vr_device::MemoryDevice;
 use vr_job::{End, ShelfEnd, run_volumes};
-use vr_job_text::{JobFault, JobText, Step, parse_job};
+use vr_job_text::{JobFault, JobText, Step, parse_run_job};
 use vr_outside::Gate;
 use vr_trace::{EndLine, Histories};
 
@@ -78,7 +78,7 @@ pub fn job_of(alloc: Global, text: &str) -> Result<Job, Stop> {
     if text.len() > LONGEST {
         return Err(Stop::Case);
     }
-    match parse_job(alloc, text) {
+    match parse_run_job(alloc, text) {
         Ok(job) => Ok(Job::of(job)),
         Err(JobFault::Memory) => Err(Stop::Memory),
         Err(JobFault::Text(_)) => Err(Stop::Case),

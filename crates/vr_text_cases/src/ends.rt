@@ -38,7 +38,8 @@ fn end_of(text: &str) -> Result<EndLine, Stop> {
     }
 }
 
-/// `card N LINE COLUMN`, `deck N LINE COLUMN` or `form LINE COLUMN`.
+/// `card N LINE COLUMN`, `scan N LINE COLUMN`, `ams N LINE COLUMN`, `deck N LINE COLUMN` or `form LINE
+/// COLUMN`.
 fn refused_of(text: &str) -> Result<EndLine, Stop> {
     let (word, rest) = parted(text);
     if word == "form" {
@@ -48,6 +49,8 @@ fn refused_of(text: &str) -> Result<EndLine, Stop> {
     let number = word_of(number)?;
     match word {
         "card" => refused_at(TextKind::Card { number }, rest),
+        "scan" => refused_at(TextKind::Scan { number }, rest),
+        "ams" => refused_at(TextKind::Ams { number }, rest),
         "deck" => refused_at(TextKind::Deck { number }, rest),
         _ => Err(Stop::Line),
     }

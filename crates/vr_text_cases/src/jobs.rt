@@ -1,10 +1,15 @@
 //! What `vr_job_text` reads, beside the plain program.
 
 use crate::escapes::bytes_of;
+use crate::look::used;
+use crate::nodes::say_nodes;
 use crate::plain_jobs;
 use crate::themes::spell;
 use vr_case_table::{Answer, Answers, Beside, Both, Stop, word_of};
-use vr_job_text::{Deck, JobFault, JobText, Kind, Step, TextFault, parse_job};
+use vr_job_text::{
+    DataCards, Deck, Job, JobFault, JobStep, Kind, Step, TextFault, UtilityStep, parse_job,
+    scan_number, unrun,
+};
 
 /// The longest text that may be asked, in bytes.
 const TEXT_LIMIT: usize = 1 << 26;
@@ -17,15 +22,15 @@ const LINES: [&str; 16] = [
     "//DECK0 DD *",
     "FILE F A.B",
     "GET F KEY=C'A'",
-    "POINT F KEY=C'A'",
+    " LISTCAT -",
     "/*",
     "//* NOTE",
-    "//B JOB",
+    "//SYSIN DD *",
     "//X DD *",
-    "  TEXT",
+    "  VERIFY DS(A)",
     "",
     "//C EXEC PGM=IDCAMS,X",
-    "//1 DD X",
+    " REPRO INFILE(X) ODS(A) /*",
     "//D EXEC PGM=SORT",
 ];
 
@@ -108,6 +113,8 @@ fn read(text: &[u8], out: &mut Answers) -> Answer {
 fn say_text_fault(fault: TextFault, out: &mut Answers) {
     let (kind, cause) = match fault.kind {
         Kind::Card(cause) => ("CARD", cause.number()),
+        Kind::Scan(cause) => ("SCAN", scan_number(cause)),
+        Kind::Ams(cause) => ("AMS", cause.number()),
         Kind::Deck(cause) => ("DECK", cause.number()),
         Kind::Form => ("FORM", 0),
     };
@@ -122,14 +129,66 @@ pub fn say_fault(kind: &str, cause: u8, line: u32, column: u32, out: &mut Answer
     out.say_number(".", u64::from(column));
 }
 
-/// Writes a job: its steps.
-fn say_job(job: &JobText, out: &mut Answers) {
+/// Writes a job: its steps, and what isn't run of it.
+fn say_job(job: &Job, out: &mut Answers) {
     for step in job.steps.as_slice() {
-        say_whole(step, out);
+        match step {
+            JobStep::Decks(step) => say_whole(step, out),
+            JobStep::Utilities(step) => say_utilities(step, out),
+        }
+    }
+    match unrun(job) {
+        Some(fault) => say_unrun(Some(fault.line), out),
+        None => {}
     }
 }
 
-/// Writes a step with its decks.
+/// Writes the line of what isn't run.
+pub fn say_unrun(line: Option<u32>, out: &mut Answers) {
+    if let Some(line) = line {
+        out.say_number(" - FORM at ", u64::from(line));
+    }
+}
+
+/// Writes a step of IDCAMS with its data and its commands.
+fn say_utilities(step: &UtilityStep, out: &mut Answers) {
+    say_step(step.name.as_slice(), step.line, out);
+    for data in step.inputs.as_slice() {
+        say_data(data, out);
+    }
+    say_nodes(step.commands.as_slice(), out);
+}
+
+/// Writes data: its name, its cards without the blanks at their end, and how many bytes they have.
+fn say_data(data: &DataCards, out: &mut Answers) {
+    say_data_name(data.name.as_slice(), out);
+    let mut bytes = 0usize;
+    for card in data.cards.as_slice() {
+        say_card(used(card.as_slice()), out);
+        bytes = bytes.saturating_add(card.len());
+    }
+    say_cards_end(bytes, out);
+}
+
+/// Writes the name of data.
+pub fn say_data_name(name: &[u8], out: &mut Answers) {
+    out.say(" ");
+    out.say_bytes(name);
+    out.say("[");
+}
+
+/// Writes a data card.
+pub fn say_card(card: &[u8], out: &mut Answers) {
+    out.say_bytes(card);
+    out.say(",");
+}
+
+/// Writes how data ends: how many bytes its cards have.
+pub fn say_cards_end(bytes: usize, out: &mut Answers) {
+    out.say_number("]", bytes as u64);
+}
+
+/// Writes a step of decks.
 fn say_whole(step: &Step, out: &mut Answers) {
     say_step(step.name.as_slice(), step.line, out);
     for deck in step.decks.as_slice() {

@@ -36,17 +36,17 @@ struct Word<'a> {
     text: &'a [u8],
 }
 
-/// Adds the lines of a text.
+/// Adds the lines of a text, whole.
 pub fn add_lines<'a>(lines: &mut Vec<&'a [u8]>, text: &'a [u8]) -> Answer {
     let mut start = 0usize;
     for (at, byte) in text.iter().enumerate() {
         if *byte == b'\n' {
-            lines.push(used(without_return(part(text, start, at))))?;
+            lines.push(without_return(part(text, start, at)))?;
             start = at.saturating_add(1);
         }
     }
     if start < text.len() {
-        lines.push(used(part(text, start, text.len())))?;
+        lines.push(part(text, start, text.len()))?;
     }
     Ok(())
 }
@@ -61,7 +61,7 @@ fn without_return(line: &[u8]) -> &[u8] {
 }
 
 /// A line up to the last byte that isn't a blank.
-fn used(line: &[u8]) -> &[u8] {
+pub fn used(line: &[u8]) -> &[u8] {
     let mut end = 0usize;
     for (at, byte) in line.iter().enumerate() {
         if *byte != b' ' {

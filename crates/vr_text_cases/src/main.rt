@@ -28,6 +28,7 @@ mod plain_histories;
 mod plain_jobs;
 mod plain_operands;
 mod plain_tokens;
+mod plain_utilities;
 mod plain_words;
 mod ranges;
 mod requests;

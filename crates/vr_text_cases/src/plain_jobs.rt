@@ -1,8 +1,9 @@
 //! A reader of jobs, plain and slow: it looks at each line beside all lines before it, and reads a
 //! deck again after each of its lines.
 
-use crate::jobs::{say_deck, say_fault, say_order, say_step};
-use crate::look::{Look, What, add_lines, look_at, name_of, number_of};
+use crate::jobs::{say_deck, say_fault, say_order, say_step, say_unrun};
+use crate::look::{Look, What, add_lines, look_at, name_of, number_of, used};
+use crate::plain_utilities::{first_line, say_utilities, utility_fault};
 use std::alloc::Global;
 use vr_case_table::{Answer, Answers, Stop};
 use vr_deck_text::{DeckFault, DeckText, parse_deck};
@@ -10,17 +11,18 @@ use vr_text::Lines;
 
 /// The first fault of a text.
 #[derive(Clone, Copy)]
-struct Fault {
-    kind: &'static str,
-    cause: u8,
-    line: usize,
-    column: usize,
+pub struct Fault {
+    pub kind: &'static str,
+    pub cause: u8,
+    pub line: usize,
+    pub column: usize,
 }
 
-/// A text: its lines, and what each is.
+/// A text: its lines, whole and without the blanks at their end, and what each is.
 #[derive(Drop)]
-struct Text<'a> {
-    lines: Vec<&'a [u8]>,
+pub struct Text<'a> {
+    pub wholes: Vec<&'a [u8]>,
+    pub lines: Vec<&'a [u8]>,
     looks: Vec<Look>,
 }
 
@@ -28,6 +30,7 @@ struct Text<'a> {
 pub fn read(text: &[u8], out: &mut Answers) -> Answer {
     let alloc = out.alloc();
     let mut whole = Text {
+        wholes: Vec::new(alloc),
         lines: Vec::new(alloc),
         looks: Vec::new(alloc),
     };
@@ -39,9 +42,10 @@ pub fn read(text: &[u8], out: &mut Answers) -> Answer {
 
 /// Looks at each line of a text.
 fn look_over<'a>(alloc: Global, whole: &mut Text<'a>, text: &'a [u8]) -> Answer {
-    add_lines(&mut whole.lines, text)?;
-    for line in whole.lines.as_slice() {
-        whole.looks.push(look_at(alloc, line)?)?;
+    add_lines(&mut whole.wholes, text)?;
+    for line in whole.wholes.as_slice() {
+        whole.lines.push(used(line))?;
+        whole.looks.push(look_at(alloc, used(line))?)?;
     }
     Ok(())
 }
@@ -57,20 +61,20 @@ fn say_text(alloc: Global, text: &Text, out: &mut Answers) -> Answer {
 }
 
 /// The number of the line at a place.
-fn number(at: usize) -> u32 {
+pub fn number(at: usize) -> u32 {
     (at.saturating_add(1) % 4_294_967_296) as u32
 }
 
 /// What the line at a place is: the end of a step where there is none.
-fn what_at(text: &Text, at: usize) -> What {
+pub fn what_at(text: &Text, at: usize) -> What {
     match text.looks.get(at) {
         Some(look) => look.what,
         None => What::Decks,
     }
 }
 
-/// The line at a place.
-fn line_at<'a>(text: &Text<'a>, at: usize) -> &'a [u8] {
+/// The line at a place, without the blanks at its end.
+pub fn line_at<'a>(text: &Text<'a>, at: usize) -> &'a [u8] {
     match text.lines.get(at) {
         Some(line) => line,
         None => b"",
@@ -96,19 +100,19 @@ fn fault_at(alloc: Global, text: &Text, at: usize) -> Result<Option<Fault>, Stop
             return Ok(Some(fault_of("CARD", wrong.cause, at, wrong.column)));
         }
     }
-    let what = what_at(text, at);
-    if what != What::Decks && what != What::Utilities {
+    if !is_begin(what_at(text, at)) {
         return Ok(None);
     }
-    let fault = step_fault(alloc, text, at)?;
-    if fault.is_none() && what == What::Utilities {
-        return Ok(Some(fault_of("FORM", 0, at, 1)));
-    }
-    Ok(fault)
+    step_fault(alloc, text, at)
+}
+
+/// Whether a line begins a step.
+pub fn is_begin(what: What) -> bool {
+    what == What::Decks || what == What::Utilities
 }
 
 /// A fault of a kind, with its number, its line and its column.
-fn fault_of(kind: &'static str, cause: u8, line: usize, column: usize) -> Fault {
+pub fn fault_of(kind: &'static str, cause: u8, line: usize, column: usize) -> Fault {
     Fault {
         kind,
         cause,
@@ -123,11 +127,39 @@ fn card_fault(text: &Text, at: usize, look: Look) -> Look {
     if look.what == What::Data {
         return data_fault(text, at, look);
     }
-    let stray = look.what == What::Text && !line.is_empty() && !is_open(text, at);
-    if look.cause != 0 || !stray {
+    if look.cause != 0 || look.what != What::Text {
         return look;
     }
-    wrong(look, 3, first_column(line))
+    match opener_of(text, at) {
+        None if line.is_empty() => look,
+        None => wrong(look, 3, first_column(line)),
+        Some(card) if is_data(text, card) && length_at(text, at) > 80 => wrong(look, 6, 81),
+        Some(_) => look,
+    }
+}
+
+/// How many characters the line at a place has, with the blanks at its end.
+fn length_at(text: &Text, at: usize) -> usize {
+    match text.wholes.get(at) {
+        Some(line) => line.len(),
+        None => 0,
+    }
+}
+
+/// Whether a card is that of data of a step of utilities.
+pub fn is_data(text: &Text, card: usize) -> bool {
+    what_at(text, card) == What::Data
+        && step_of(text, card) == What::Utilities
+        && name_of(line_at(text, card)) != b"SYSIN".as_slice()
+}
+
+/// Whether commands follow a card.
+pub fn has_commands(text: &Text, card: usize) -> bool {
+    let what = what_at(text, card);
+    what == What::Utilities
+        || (what == What::Data
+            && step_of(text, card) == What::Utilities
+            && name_of(line_at(text, card)) == b"SYSIN".as_slice())
 }
 
 /// A line that is this, with a fault.
@@ -151,14 +183,21 @@ fn first_column(line: &[u8]) -> usize {
     column
 }
 
-/// The fault of a card that announces a deck, after the lines before it.
+/// The fault of a card that data follows, after the lines before it.
 fn data_fault(text: &Text, at: usize, look: Look) -> Look {
+    match step_of(text, at) {
+        What::Decks => deck_card_fault(text, at, look),
+        What::Utilities => data_name_fault(text, at, look),
+        _ => wrong(look, 1, 3),
+    }
+}
+
+/// The fault of a card of a step of decks that data follows.
+fn deck_card_fault(text: &Text, at: usize, look: Look) -> Look {
     let Some(deck) = number_of(line_at(text, at)) else {
         return wrong(look, 1, 3);
     };
-    if begin_of(text, at).is_none() {
-        wrong(look, 1, 3)
-    } else if count_decks(text, at, None) > 63 {
+    if count_decks(text, at, None) > 63 {
         wrong(look, 7, 3)
     } else if deck == 0 || deck > 99 || count_decks(text, at, Some(deck)) > 0 {
         wrong(look, 4, 7)
@@ -167,15 +206,34 @@ fn data_fault(text: &Text, at: usize, look: Look) -> Look {
     }
 }
 
+/// The fault of a card of a step of utilities that data follows.
+fn data_name_fault(text: &Text, at: usize, look: Look) -> Look {
+    for before in 0..at {
+        let same = name_of(line_at(text, before)) == name_of(line_at(text, at));
+        if same && is_data(text, before) && begin_of(text, before) == begin_of(text, at) {
+            return wrong(look, 8, 3);
+        }
+    }
+    look
+}
+
 /// The card that began the step in which a line is.
-fn begin_of(text: &Text, at: usize) -> Option<usize> {
+pub fn begin_of(text: &Text, at: usize) -> Option<usize> {
     let mut begin = None;
     for before in 0..at {
-        if what_at(text, before) == What::Decks {
+        if is_begin(what_at(text, before)) {
             begin = Some(before);
         }
     }
     begin
+}
+
+/// What began the step in which a line is: `Nothing` where none did.
+fn step_of(text: &Text, at: usize) -> What {
+    match begin_of(text, at) {
+        Some(begin) => what_at(text, begin),
+        None => What::Nothing,
+    }
 }
 
 /// How many decks are announced before a line, or how many of a number.
@@ -183,30 +241,41 @@ fn count_decks(text: &Text, at: usize, wanted: Option<u32>) -> u64 {
     let mut count = 0u64;
     for before in 0..at {
         let found = number_of(line_at(text, before));
-        if what_at(text, before) == What::Data && (wanted.is_none() || found == wanted) {
+        let is_deck = what_at(text, before) == What::Data && step_of(text, before) == What::Decks;
+        if is_deck && (wanted.is_none() || found == wanted) {
             count = count.saturating_add(1);
         }
     }
     count
 }
 
-/// Whether a deck goes on at a line.
-fn is_open(text: &Text, at: usize) -> bool {
-    let mut open = false;
+/// The card after which a line goes on.
+fn opener_of(text: &Text, at: usize) -> Option<usize> {
+    let mut opener = None;
     for before in 0..at {
         let what = what_at(text, before);
-        if what != What::Text {
-            open = what == What::Data;
+        if what == What::Data || what == What::Utilities {
+            opener = Some(before);
+        } else if what != What::Text {
+            opener = None;
         }
     }
-    open
+    opener
 }
 
-/// The first fault of the decks of the step that a line ends.
+/// The first fault of the text of the step that a line ends.
 fn step_fault(alloc: Global, text: &Text, at: usize) -> Result<Option<Fault>, Stop> {
-    let Some(begin) = begin_of(text, at) else {
-        return Ok(None);
-    };
+    match begin_of(text, at) {
+        None => Ok(None),
+        Some(begin) if what_at(text, begin) == What::Utilities => {
+            utility_fault(alloc, text, begin, at)
+        }
+        Some(begin) => decks_fault(alloc, text, begin, at),
+    }
+}
+
+/// The first fault of the decks of a step.
+fn decks_fault(alloc: Global, text: &Text, begin: usize, at: usize) -> Result<Option<Fault>, Stop> {
     for card in begin..at {
         if what_at(text, card) == What::Data {
             let fault = deck_fault(alloc, text, card)?;
@@ -218,8 +287,8 @@ fn step_fault(alloc: Global, text: &Text, at: usize) -> Result<Option<Fault>, St
     Ok(None)
 }
 
-/// How many lines a deck has after its card.
-fn length_of(text: &Text, card: usize) -> usize {
+/// How many lines stand after a card.
+pub fn length_of(text: &Text, card: usize) -> usize {
     let mut length = 0usize;
     let mut open = true;
     for at in card.saturating_add(1)..text.lines.len() {
@@ -274,14 +343,24 @@ fn cause_of(alloc: Global, text: &Text, card: usize, count: usize) -> Result<Opt
     }
 }
 
-/// Writes the steps of a text that has no fault.
+/// Writes the steps of a text that has no fault, and then what isn't run.
 fn say_steps(alloc: Global, text: &Text, out: &mut Answers) -> Answer {
+    let mut unrun = None;
     for at in 0..text.lines.len() {
-        if what_at(text, at) == What::Decks {
+        let what = what_at(text, at);
+        if is_begin(what) {
             say_step(name_of(line_at(text, at)), number(at), out);
+        }
+        if what == What::Decks {
             say_decks(alloc, text, at, out)?;
         }
+        if what == What::Utilities {
+            say_utilities(alloc, text, at, out)?;
+            let line = first_line(alloc, text, at)?;
+            unrun = unrun.or(Some(line));
+        }
     }
+    say_unrun(unrun, out);
     Ok(())
 }
 

@@ -1,7 +1,7 @@
 -- The one line of a job that ends otherwise than by its steps. The lines are this project's own.
 use Rattle.std.specs.Prelude.{ℕ, List, [], ◌∷◌, ◌++◌, codes}
 use Rattle.vr_trace.specs.declared.ending.TextKind.{TextKind}
-use Rattle.vr_trace.specs.declared.ending.TextKind.TheVariants.{Card, Deck, Form}
+use Rattle.vr_trace.specs.declared.ending.TextKind.TheVariants.{Card, Scan, Ams, Deck, Form}
 use Rattle.vr_trace.specs.declared.ending.EndLine.{EndLine}
 use Rattle.vr_trace.specs.declared.ending.EndLine.TheVariants.{NoCommand, ReadFault, InputTooLong}
 use Rattle.vr_trace.specs.declared.ending.EndLine.TheVariants.{Refused, DeviceFault, Damaged}
@@ -12,6 +12,8 @@ use Rattle.vr_trace.specs.Lines.{field}
 -- which text is at fault, and the number of the fault
 abbrev pub kind_text : TextKind → List ℕ
 kind_text (Card number) = field (codes "CARD ") number
+kind_text (Scan number) = field (codes "SCAN ") number
+kind_text (Ams number) = field (codes "AMS ") number
 kind_text (Deck number) = field (codes "DECK ") number
 kind_text Form = codes "FORM 0"
 

@@ -7,11 +7,14 @@ use crate::line::{NEW_LINE, write_field};
 use std::alloc::Global;
 use vr_types::{Bytes, OutOfMemory};
 
-/// Which text of a job is at fault: its cards, or a deck, each with the number of the fault; or a
-/// text that is right in form and asks for what isn't run.
+/// Which text of a job is at fault: its cards, the tokens or the commands of a step of IDCAMS, or a
+/// deck, each with the number of the fault; or a text that is right in form and asks for what isn't
+/// run.
 #[derive(Clone, Copy, PartialEq, Eq)]
 pub enum TextKind {
     Card { number: u32 },
+    Scan { number: u32 },
+    Ams { number: u32 },
     Deck { number: u32 },
     Form,
 }
@@ -159,6 +162,8 @@ fn write_kind(alloc: Global, out: &mut Bytes, kind: TextKind) -> Result<(), OutO
 {
     match kind {
         TextKind::Card { number } => write_field(alloc, out, b"CARD ", u64::from(number)),
+        TextKind::Scan { number } => write_field(alloc, out, b"SCAN ", u64::from(number)),
+        TextKind::Ams { number } => write_field(alloc, out, b"AMS ", u64::from(number)),
         TextKind::Deck { number } => write_field(alloc, out, b"DECK ", u64::from(number)),
         TextKind::Form => out.extend(b"FORM 0"),
     }

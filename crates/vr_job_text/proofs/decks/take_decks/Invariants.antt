@@ -3,6 +3,6 @@ use Rattle.vr_job_text.specs.Decks.{with_decks}
 use Rattle.vr_job_text.proofs.decks.take_decks.Given as goal
 
 -- what is left comes to the same
-abbrev pub invariant-loop-text : goal.invariant-loop-text
-invariant-loop-text l =
-    with_decks (Ok l.decks) (drop l.text-index l.texts) ≡ with_decks (Ok l.fn.decks) l.fn.texts
+abbrev pub invariant-loop-part : goal.invariant-loop-part
+invariant-loop-part l =
+    with_decks (Ok l.decks) (drop l.part-index l.parts) ≡ with_decks (Ok l.fn.decks) l.fn.parts

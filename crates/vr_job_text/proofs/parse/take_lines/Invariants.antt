@@ -1,6 +1,6 @@
-use Rattle.std.proofs.Common.{◌≡◌, ◌+◌, ◌≤◌, ◌^◌, length, Ok}
+use Rattle.std.proofs.Common.{◌≡◌, ◌+◌, ◌≤◌, ◌^◌, length}
 use Rattle.std.specs.List.{AllByRecursion}
-use Rattle.vr_job_text.specs.Job.{with_lines}
+use Rattle.vr_job_text.specs.Layout.{with_lines}
 use Rattle.vr_job_text.proofs.parse.take_lines.Given as goal
 
 -- what is left comes to the same
@@ -8,6 +8,6 @@ abbrev pub invariant-loop-line : goal.invariant-loop-line
 invariant-loop-line l = record {
   count : l.number + length l.line-iterator ≤ 2 ^ 26;
   short : AllByRecursion (λ line. length line ≤ 2 ^ 26) l.line-iterator;
-  same : with_lines (l.number + 1) (Ok l.reading) l.line-iterator
-      ≡ with_lines 1 (Ok l.fn.reading) l.fn.lines;
+  same : with_lines (l.number + 1) l.reading l.line-iterator
+      ≡ with_lines 1 l.fn.reading l.fn.lines;
 }
