@@ -1,5 +1,5 @@
 //! What a history commits, as a plain, slow program says it, and what a volume has that was opened
-//! again.
+//! again. A record is known by the place that replies name: its key, its address or its slot.
 
 use vr_history::{Entry, What};
 use vr_types::{Find, Refusal, Reply, Request};
@@ -8,10 +8,7 @@ use vr_types::{Find, Refusal, Reply, Request};
 #[derive(Clone, Copy)]
 pub struct Unsaid;
 
-/// How many bytes a key has.
-const KEY: usize = 8;
-
-/// The record of a key, as it was committed last, and as a deck changed it that hasn't committed
+/// The record at a place, as it was committed last, and as a deck changed it that hasn't committed
 /// yet. A change that another deck hasn't ended yet goes wrong.
 #[derive(Clone, Copy)]
 struct Record<'a> {
@@ -40,45 +37,45 @@ impl<'a> Record<'a> {
         }
     }
 
-    /// Takes a request of a deck that was done.
-    fn take(&mut self, deck: u32, request: &'a Request, reply: &Reply, key: &[u8]) {
+    /// Takes a request of a deck that was done, here or at another place.
+    fn take(&mut self, deck: u32, request: &'a Request, is_here: bool) {
         match request {
-            Request::Add { bytes, .. } | Request::Update { bytes, .. } => {
-                if key_of(bytes.as_slice()) == key {
-                    self.change(deck, Some(bytes.as_slice()));
-                }
-            }
-            Request::Erase { .. } => {
-                if is_at(reply, key) {
-                    self.change(deck, None);
-                }
-            }
             Request::Commit => self.end(deck, true),
             Request::Backout => self.end(deck, false),
+            _ => {
+                if is_here {
+                    self.take_here(deck, request);
+                }
+            }
+        }
+    }
+
+    /// Takes a request of a deck that was done here.
+    fn take_here(&mut self, deck: u32, request: &'a Request) {
+        match request {
+            Request::Add { bytes, .. } | Request::Update { bytes, .. } => {
+                self.change(deck, Some(bytes.as_slice()));
+            }
+            Request::Erase { .. } => self.change(deck, None),
             _ => {}
         }
     }
 }
 
-/// The key of a record, which is its first 8 bytes.
-fn key_of(record: &[u8]) -> &[u8] {
-    &record[..record.len().min(KEY)]
-}
-
-/// Whether a reply is at the place of a key.
-fn is_at(reply: &Reply, key: &[u8]) -> bool {
+/// Whether a reply is at a place.
+fn is_at(reply: &Reply, place: &[u8]) -> bool {
     match reply {
         Reply::Done {
-            place: Some(place),
+            place: Some(named),
             ..
-        } => place.as_slice() == key,
+        } => named.as_slice() == place,
         _ => false,
     }
 }
 
-/// The record with a key that is committed by a history, `None` where none is. `Err` where two
+/// The record at a place that is committed by a history, `None` where none is. `Err` where two
 /// decks changed it at once, or a change is left that no deck ended.
-pub fn committed<'a>(entries: &'a [Entry], key: &[u8]) -> Result<Option<&'a [u8]>, Unsaid> {
+pub fn committed<'a>(entries: &'a [Entry], place: &[u8]) -> Result<Option<&'a [u8]>, Unsaid> {
     let mut record = Record {
         committed: None,
         changed: None,
@@ -87,7 +84,7 @@ pub fn committed<'a>(entries: &'a [Entry], key: &[u8]) -> Result<Option<&'a [u8]
     for entry in entries {
         if let What::Asked { request, reply } = &entry.what {
             if matches!(reply, Reply::Done { .. }) {
-                record.take(entry.unit.deck, request.get(), reply, key);
+                record.take(entry.unit.deck, request.get(), is_at(reply, place));
             }
         }
     }
@@ -98,12 +95,12 @@ pub fn committed<'a>(entries: &'a [Entry], key: &[u8]) -> Result<Option<&'a [u8]
     }
 }
 
-/// The record that a GET of a key found, `None` where it found none. `Err` where no GET asked for
+/// The record that a GET of a place found, `None` where it found none. `Err` where no GET asked for
 /// it, or one was refused otherwise.
-pub fn found<'a>(entries: &'a [Entry], key: &[u8]) -> Result<Option<&'a [u8]>, Unsaid> {
+pub fn found<'a>(entries: &'a [Entry], place: &[u8]) -> Result<Option<&'a [u8]>, Unsaid> {
     for entry in entries {
         if let What::Asked { request, reply } = &entry.what {
-            if asks_for(request.get(), key) {
+            if asks_for(request.get(), place) {
                 return record_in(reply);
             }
         }
@@ -111,13 +108,13 @@ pub fn found<'a>(entries: &'a [Entry], key: &[u8]) -> Result<Option<&'a [u8]>, U
     Err(Unsaid)
 }
 
-/// Whether a request is a GET of a key.
-fn asks_for(request: &Request, key: &[u8]) -> bool {
+/// Whether a request is a GET of a place.
+fn asks_for(request: &Request, place: &[u8]) -> bool {
     match request {
         Request::Get {
-            find: Find::Equal(place),
+            find: Find::Equal(asked),
             ..
-        } => place.as_slice() == key,
+        } => asked.as_slice() == place,
         _ => false,
     }
 }
@@ -128,7 +125,7 @@ fn record_in(reply: &Reply) -> Result<Option<&[u8]>, Unsaid> {
             bytes: Some(bytes),
             ..
         } => Ok(Some(bytes.as_slice())),
-        Reply::Refused(Refusal::NotFound) => Ok(None),
+        Reply::Refused(Refusal::NotFound | Refusal::NoAddress) => Ok(None),
         _ => Err(Unsaid),
     }
 }

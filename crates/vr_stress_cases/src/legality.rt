@@ -1,31 +1,30 @@
 //! Whether a history is one that the model of the record file takes.
 
+use crate::data_sets::{kind_of, name_of};
 use std::alloc::Global;
-use vr_case_volumes::{Stop, cluster};
+use vr_case_volumes::{MAXIMUM, Stop, cluster};
 use vr_catalog::{RECORD_LENGTH, write_entry};
 use vr_history::Entry;
 use vr_model::{FileState, OwnedArea, PartContent, PlacedItem, Stored, is_legal};
-use vr_types::{Bytes, Geometry, Kind, NAME_LIMIT, Place};
+use vr_types::{Bytes, Geometry, NAME_LIMIT, Place};
 
-/// Whether entries are a legal history of a new volume of a shape with this one cluster, whose
-/// records have at most this many bytes.
+/// Whether entries are a legal history of the new volume of this number and shape, from its opening on.
 pub fn is_legal_of(
     alloc: Global,
     shape: Geometry,
-    name: &str,
-    maximum: u32,
+    volume: u32,
     entries: &[Entry],
 ) -> Result<bool, Stop> {
-    let opening = opening(alloc, shape, name, maximum)?;
+    let opening = opening(alloc, shape, volume)?;
     Ok(is_legal(alloc, &opening, entries)?)
 }
 
 /// The state of that volume as it is opened.
-fn opening(alloc: Global, shape: Geometry, name: &str, maximum: u32) -> Result<FileState, Stop> {
+fn opening(alloc: Global, shape: Geometry, volume: u32) -> Result<FileState, Stop> {
     if !shape.is_allowed() {
         return Err(Stop::Case);
     }
-    let catalog = catalog_of(alloc, name, maximum)?;
+    let catalog = catalog_of(alloc, volume)?;
     let contents = Vec::from_array(alloc, [(0, catalog)])?;
     let owned = owned_areas(alloc)?;
     Ok(FileState::opening(alloc, shape, contents, owned))
@@ -39,8 +38,8 @@ fn owned_areas(alloc: Global) -> Result<Vec<OwnedArea>, Stop> {
 }
 
 /// The content of the catalog: a record whose place is the name in its first bytes.
-fn catalog_of(alloc: Global, name: &str, maximum: u32) -> Result<PartContent, Stop> {
-    let entry = cluster(alloc, name, Kind::Keyed, maximum)?;
+fn catalog_of(alloc: Global, volume: u32) -> Result<PartContent, Stop> {
+    let entry = cluster(alloc, name_of(volume), kind_of(volume), MAXIMUM)?;
     let mut record = [0u8; RECORD_LENGTH];
     write_entry(&entry, &mut record);
     let placed = placed(alloc, &record)?;

@@ -1,10 +1,13 @@
 //! Jobs of eight decks that ask for a few records of three volumes, made by a row of numbers, with
 //! the requests that each deck is to ask.
 
+use crate::data_sets::{VOLUMES, add_place, kind_of, name_of};
 use crate::dice::Dice;
+use crate::turns::{Act, Find, Put, Then, Where, act_of, find_of, integrity_of, then_of};
 use std::alloc::Global;
 use std::fmt::Write;
-use vr_case_volumes::{Answer, FIRST_MAXIMUM, MAXIMUM, Stop, Verb, add_lines};
+use vr_case_volumes::{Answer, MAXIMUM, Stop, Verb, add_lines, say};
+use vr_types::Kind;
 
 /// How many decks there are, and how many turns each has.
 pub const DECKS: u32 = 8;
@@ -12,10 +15,7 @@ pub const DECKS: u32 = 8;
 const TURNS: u32 = 18;
 
 /// How many records the decks ask for on each volume.
-pub const KEYS: u32 = 8;
-
-/// The files of a deck, one on each volume.
-pub const FILES: [&str; 3] = ["FILE F0 VRM.FIRST", "FILE F1 VRM.ONE", "FILE F2 VRM.TWO"];
+const RECORDS: u32 = 8;
 
 /// A request that a deck is to ask: its verb, its volume, and its line in the job's text.
 #[derive(Clone, Copy)]
@@ -34,52 +34,14 @@ pub struct Plan {
     lines: u32,
 }
 
-/// What a deck does in a turn.
-#[derive(Clone, Copy)]
-enum Turn {
-    Add,
-    Read(&'static str),
-    Next(&'static str),
-    Point(&'static str),
-    Update,
-    Erase,
-    EraseNext,
-    LetGo,
-    End(Verb),
-}
-
-/// Where a deck does it.
-#[derive(Clone, Copy)]
-struct Where {
-    deck: u32,
-    volume: u32,
-    key: u32,
-}
-
-/// How many bytes of a record are its key, its deck and its turn.
+/// How many bytes of a record are its number, its deck and its turn.
 const HEAD: u32 = 12;
 
-/// How many numbers name a turn.
-const SIDES: u32 = 24;
-
-fn turn_of(number: u32) -> Turn {
-    match number {
-        0..=5 => Turn::Add,
-        6 => Turn::Read(" NRI"),
-        7 => Turn::Read(" CR"),
-        8 => Turn::Read(" CRE"),
-        9 | 10 => Turn::Update,
-        11 => Turn::Erase,
-        12 => Turn::LetGo,
-        13..=15 => Turn::End(Verb::Commit),
-        16 => Turn::End(Verb::Backout),
-        17 => Turn::Next(""),
-        18 => Turn::Next(" CR"),
-        19 => Turn::Next(" CRE"),
-        20 => Turn::EraseNext,
-        21 => Turn::Read(" GE CR"),
-        22 => Turn::Point(" GE"),
-        _ => Turn::Point(""),
+/// How many letters follow them: in a key-sequenced data set up to 20 fewer than there is room for.
+fn letters_of(volume: u32, turn: u32) -> u32 {
+    match kind_of(volume) {
+        Kind::Keyed => MAXIMUM - HEAD - turn % 21,
+        Kind::Entry | Kind::Relative => MAXIMUM - HEAD,
     }
 }
 
@@ -98,7 +60,8 @@ impl Plan {
     }
 
     fn add_decks(&mut self, dice: &mut Dice) -> Answer {
-        self.add_line("//S EXEC PGM=VRMDECK")?;
+        self.count_line();
+        add_lines(&mut self.text, &["//S EXEC PGM=VRMDECK"])?;
         for deck in 1..DECKS + 1 {
             self.add_deck(deck, dice)?;
         }
@@ -109,112 +72,110 @@ impl Plan {
     fn add_deck(&mut self, deck: u32, dice: &mut Dice) -> Answer {
         write!(self.text, "//DECK{deck} DD *\n")?;
         self.count_line();
-        self.add_files()?;
+        add_files(&mut self.text)?;
+        self.lines = self.lines.saturating_add(VOLUMES);
         self.add_turns(deck, dice)?;
         self.plan_on_each(deck, Verb::Commit, 0)
     }
 
-    fn add_files(&mut self) -> Answer {
-        for file in FILES {
-            self.add_line(file)?;
-        }
-        Ok(())
-    }
-
     fn add_turns(&mut self, deck: u32, dice: &mut Dice) -> Answer {
         for turn in 0..TURNS {
-            let turned = turn_of(dice.roll(SIDES));
-            let place = Where {
+            let act = act_of(dice);
+            let at = Where {
                 deck,
-                volume: dice.roll(3),
-                key: dice.roll(KEYS),
+                turn,
+                volume: dice.roll(VOLUMES),
+                record: dice.roll(RECORDS),
+                find: find_of(dice.roll(3)),
             };
-            self.add_turn(place, turned, turn)?;
+            let integrity = integrity_of(dice.roll(3));
+            let then = then_of(kind_of(at.volume), dice.roll(3));
+            self.add_turn(at, act, integrity, then)?;
         }
         Ok(())
     }
 
     /// Adds the lines of a deck's turn.
-    fn add_turn(&mut self, place: Where, turn: Turn, number: u32) -> Answer {
-        match turn {
-            Turn::Add => self.add_record(place, "", number),
-            Turn::Read(how) => self.add_get(place, how),
-            Turn::Next(integrity) => self.add_next(place, integrity),
-            Turn::Point(how) => self.add_point(place, how),
-            Turn::Update => {
-                self.add_get(place, " UPD")?;
-                self.add_record(place, " UPD", number)
+    fn add_turn(&mut self, at: Where, act: Act, integrity: &str, then: Then) -> Answer {
+        match act {
+            Act::Put(put) => self.add_put(at, put),
+            Act::Read => self.add_get(at, integrity),
+            Act::Point => self.add_point(at),
+            Act::Hold => {
+                self.add_get(at, " UPD")?;
+                self.add_then(at, then)
             }
-            Turn::Erase => {
-                self.add_get(place, " UPD")?;
-                self.add_simple(place, Verb::Erase)
-            }
-            Turn::EraseNext => {
-                self.add_next(place, " UPD")?;
-                self.add_simple(place, Verb::Erase)
-            }
-            Turn::LetGo => {
-                self.add_get(place, " UPD")?;
-                self.add_simple(place, Verb::EndReq)
-            }
-            Turn::End(verb) => {
-                self.add_line(verb.text())?;
-                self.plan_on_each(place.deck, verb, self.lines)
+            Act::End(verb) => {
+                self.count_line();
+                add_lines(&mut self.text, &[verb.text()])?;
+                self.plan_on_each(at.deck, verb, self.lines)
             }
         }
     }
 
-    /// Adds a PUT of a record that no other turn puts, of the longest or up to 20 bytes shorter.
-    fn add_record(&mut self, place: Where, update: &str, number: u32) -> Answer {
-        let Where { deck, volume, key } = place;
-        let maximum = if volume == 0 { FIRST_MAXIMUM } else { MAXIMUM };
-        write!(
-            self.text,
-            "PUT F{volume}{update} DATA=C'{key:08}{deck:02}{number:02}"
-        )?;
-        add_letters(&mut self.text, maximum - HEAD - number % 21)?;
+    /// Adds what a deck does with a record that it got for update.
+    fn add_then(&mut self, at: Where, then: Then) -> Answer {
+        match then {
+            Then::Update => self.add_put(at, Put::Update),
+            Then::Erase => self.add_simple(at, Verb::Erase),
+            Then::LetGo => self.add_simple(at, Verb::EndReq),
+        }
+    }
+
+    /// Adds a PUT of a record that no other turn puts.
+    fn add_put(&mut self, at: Where, put: Put) -> Answer {
+        let Where {
+            deck,
+            turn,
+            volume,
+            record,
+            ..
+        } = at;
+        write!(self.text, "PUT F{volume}")?;
+        add_put_place(&mut self.text, at, put)?;
+        write!(self.text, " DATA=C'{record:08}{deck:02}{turn:02}")?;
+        add_letters(&mut self.text, letters_of(volume, turn))?;
         self.text.push_str("'\n")?;
-        self.count_line();
-        self.plan(deck, Verb::Put, volume, self.lines)
+        self.plan_line(at, Verb::Put)
     }
 
-    fn add_get(&mut self, place: Where, how: &str) -> Answer {
-        let Where { deck, volume, key } = place;
-        write!(self.text, "GET F{volume} KEY=C'{key:08}'{how}\n")?;
-        self.count_line();
-        self.plan(deck, Verb::Get, volume, self.lines)
+    /// Adds a GET of the record that is asked for, with UPD or an integrity.
+    fn add_get(&mut self, at: Where, how: &str) -> Answer {
+        let Where { volume, find, .. } = at;
+        write!(self.text, "GET F{volume}")?;
+        add_find(&mut self.text, at, find)?;
+        write!(self.text, "{how}\n")?;
+        self.plan_line(at, Verb::Get)
     }
 
-    /// Adds a GET of the next record, from where the file stands.
-    fn add_next(&mut self, place: Where, how: &str) -> Answer {
-        let Where { deck, volume, .. } = place;
-        write!(self.text, "GET F{volume} SEQ{how}\n")?;
-        self.count_line();
-        self.plan(deck, Verb::Get, volume, self.lines)
+    /// Adds a POINT to the record that is asked for; the next one has to be named too.
+    fn add_point(&mut self, at: Where) -> Answer {
+        let volume = at.volume;
+        write!(self.text, "POINT F{volume}")?;
+        let find = match at.find {
+            Find::Next => Find::AtLeast,
+            find => find,
+        };
+        add_find(&mut self.text, at, find)?;
+        self.text.push_str("\n")?;
+        self.plan_line(at, Verb::Point)
     }
 
-    fn add_point(&mut self, place: Where, how: &str) -> Answer {
-        let Where { deck, volume, key } = place;
-        write!(self.text, "POINT F{volume} KEY=C'{key:08}'{how}\n")?;
-        self.count_line();
-        self.plan(deck, Verb::Point, volume, self.lines)
-    }
-
-    fn add_simple(&mut self, place: Where, verb: Verb) -> Answer {
-        let Where { deck, volume, .. } = place;
+    fn add_simple(&mut self, at: Where, verb: Verb) -> Answer {
+        let volume = at.volume;
         let text = verb.text();
         write!(self.text, "{text} F{volume}\n")?;
-        self.count_line();
-        self.plan(deck, verb, volume, self.lines)
-    }
-
-    fn add_line(&mut self, line: &str) -> Answer {
-        self.count_line();
-        add_lines(&mut self.text, &[line])
+        self.plan_line(at, verb)
     }
 
     fn count_line(&mut self) {
         self.lines = self.lines.saturating_add(1);
+    }
+
+    /// Plans the request of the line that was added.
+    fn plan_line(&mut self, at: Where, verb: Verb) -> Answer {
+        self.count_line();
+        self.plan(at.deck, verb, at.volume, self.lines)
     }
 
     fn plan(&mut self, deck: u32, verb: Verb, volume: u32, line: u32) -> Answer {
@@ -228,10 +189,42 @@ impl Plan {
     }
 
     fn plan_on_each(&mut self, deck: u32, verb: Verb, line: u32) -> Answer {
-        for volume in 0..3 {
+        for volume in 0..VOLUMES {
             self.plan(deck, verb, volume, line)?;
         }
         Ok(())
+    }
+}
+
+/// Adds the files of a deck, one on each volume.
+pub fn add_files(text: &mut String) -> Answer {
+    for volume in 0..VOLUMES {
+        let name = name_of(volume);
+        write!(text, "FILE F{volume} {name}\n")?;
+    }
+    Ok(())
+}
+
+/// Adds the operands that say which record is asked for.
+fn add_find(text: &mut String, at: Where, find: Find) -> Answer {
+    match find {
+        Find::At => add_place(text, at.volume, at.record),
+        Find::AtLeast => {
+            add_place(text, at.volume, at.record)?;
+            say(text, " GE")
+        }
+        Find::Next => say(text, " SEQ"),
+    }
+}
+
+/// Adds the operands of a PUT that precede its record.
+fn add_put_place(text: &mut String, at: Where, put: Put) -> Answer {
+    let has_slots = kind_of(at.volume) == Kind::Relative;
+    match put {
+        Put::Update => say(text, " UPD"),
+        Put::Add if has_slots => add_place(text, at.volume, at.record),
+        Put::Amiss if !has_slots => say(text, " RRN=1"),
+        Put::Add | Put::Amiss => Ok(()),
     }
 }
 

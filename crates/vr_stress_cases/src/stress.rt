@@ -1,32 +1,29 @@
 //! Eight decks that ask for the same few records of three volumes, and three judges of each run.
 
 use crate::committed::{committed, found};
+use crate::data_sets::{VOLUMES, add_place, new_shelf, place_of};
 use crate::dice::Dice;
 use crate::in_order::are_in_order;
 use crate::jobs::{Ran, run_text};
 use crate::legality::is_legal_of;
-use crate::planned::{FILES, KEYS, Plan};
+use crate::planned::{Plan, add_files};
 use crate::ways::{Way, Yielding, way_of};
 use std::alloc::Global;
 use std::fmt::Write;
 use std::sync::Wait;
 use std::thread::Threads;
-use vr_case_volumes::{Answer, FIRST_MAXIMUM, MAXIMUM, Stop, add_lines, entries_of, three_volumes};
+use vr_case_volumes::{Answer, Stop, add_lines, entries_of};
 use vr_device::MemoryDevice;
 use vr_history::Entry;
 use vr_outside::OpenGate;
 use vr_trace::Histories;
-use vr_types::{Geometry, Kind};
+use vr_types::Geometry;
 
 /// How many jobs are run.
-const RUNS: u32 = 6;
+const RUNS: u32 = 8;
 
-/// The clusters of the volumes, each with the most bytes of its records.
-const CLUSTERS: [(&str, u32); 3] = [
-    ("VRM.FIRST", FIRST_MAXIMUM),
-    ("VRM.ONE", MAXIMUM),
-    ("VRM.TWO", MAXIMUM),
-];
+/// How many records are read again on each volume: more than a run adds to one.
+const READ: u32 = 32;
 
 /// How many requests there were, in how many runs a history wasn't legal, in how many a deck's part
 /// of the merged history wasn't what it was to ask, and in how many a volume that was opened again
@@ -96,7 +93,7 @@ fn run_plan<R: Threads + Wait + Sync>(
     plan: &Plan,
     way: Way,
 ) -> Result<Ran, Stop> {
-    let shelf = three_volumes(alloc, way.shape, Kind::Keyed, Kind::Keyed)?;
+    let shelf = new_shelf(alloc, way.shape)?;
     let text = plan.text.as_str();
     if way.yields {
         run_text(rt, alloc, shelf, text, &Yielding)
@@ -128,14 +125,14 @@ fn judge<R: Threads + Wait + Sync>(
 /// Whether the history of each volume is legal.
 fn are_legal(alloc: Global, shape: Geometry, histories: &Histories) -> Result<bool, Stop> {
     let mut legal = true;
-    for volume in 0..3 {
-        let (name, maximum) = CLUSTERS[volume];
-        legal = legal && is_legal_of(alloc, shape, name, maximum, entries_of(histories, volume))?;
+    for volume in 0..VOLUMES {
+        let entries = entries_of(histories, volume as usize);
+        legal = legal && is_legal_of(alloc, shape, volume, entries)?;
     }
     Ok(legal)
 }
 
-/// The histories of a run that opens the volumes again and asks for each record, and for one that
+/// The histories of a run that opens the volumes again and asks for each record, and for some that
 /// no deck adds.
 fn read_again<R: Threads + Wait + Sync>(
     rt: &R,
@@ -150,16 +147,18 @@ fn read_again<R: Threads + Wait + Sync>(
 
 fn add_reader(text: &mut String) -> Answer {
     add_lines(text, &["//R EXEC PGM=VRMDECK", "//DECK1 DD *"])?;
-    add_lines(text, &FILES)?;
-    for key in 0..KEYS + 1 {
-        add_gets(text, key)?;
+    add_files(text)?;
+    for number in 0..READ {
+        add_gets(text, number)?;
     }
     Ok(())
 }
 
-fn add_gets(text: &mut String, key: u32) -> Answer {
-    for volume in 0..3 {
-        write!(text, "GET F{volume} KEY=C'{key:08}'\n")?;
+fn add_gets(text: &mut String, number: u32) -> Answer {
+    for volume in 0..VOLUMES {
+        write!(text, "GET F{volume}")?;
+        add_place(text, volume, number)?;
+        text.push_str("\n")?;
     }
     Ok(())
 }
@@ -167,26 +166,32 @@ fn add_gets(text: &mut String, key: u32) -> Answer {
 /// Whether each record that was found is the one that is committed.
 fn have_committed(alloc: Global, histories: &Histories, read: &Histories) -> Result<bool, Stop> {
     let mut right = true;
-    for key in 0..KEYS + 1 {
-        let key = format!(in alloc; "{key:08}")?;
-        right = right && is_committed(histories, read, key.as_bytes());
+    for number in 0..READ {
+        right = right && are_committed(alloc, histories, read, number)?;
     }
     Ok(right)
 }
 
-/// Whether the record of a key that was found on each volume is the one that is committed.
-fn is_committed(histories: &Histories, read: &Histories, key: &[u8]) -> bool {
+/// Whether the record of a number that was found on each volume is the one that is committed.
+fn are_committed(
+    alloc: Global,
+    histories: &Histories,
+    read: &Histories,
+    number: u32,
+) -> Result<bool, Stop> {
     let mut right = true;
-    for volume in 0..3 {
-        right = right
-            && is_committed_in(entries_of(histories, volume), entries_of(read, volume), key);
+    for volume in 0..VOLUMES {
+        let place = place_of(alloc, volume, number)?;
+        let history = entries_of(histories, volume as usize);
+        let read = entries_of(read, volume as usize);
+        right = right && is_committed(history, read, place.as_slice());
     }
-    right
+    Ok(right)
 }
 
-/// The same on one volume, of these histories.
-fn is_committed_in(history: &[Entry], read: &[Entry], key: &[u8]) -> bool {
-    match (committed(history, key), found(read, key)) {
+/// Whether the record at a place that was found on a volume is the one that its history commits.
+fn is_committed(history: &[Entry], read: &[Entry], place: &[u8]) -> bool {
+    match (committed(history, place), found(read, place)) {
         (Ok(wanted), Ok(got)) => wanted == got,
         _ => false,
     }

@@ -16,6 +16,12 @@ const FEW_INTERVALS: Geometry = Geometry {
     area: 2,
 };
 
+/// Areas of 2 intervals, of which data sets that aren't key-sequenced take more as records are added.
+const SMALL_AREAS: Geometry = Geometry {
+    blocks: 27,
+    ..FEW_INTERVALS
+};
+
 /// How the job of a number is run: on volumes of this shape, and with a gate that lets others run
 /// between two events or with none.
 #[derive(Clone, Copy)]
@@ -24,15 +30,16 @@ pub struct Way {
     pub yields: bool,
 }
 
-/// Each shape in turn, and each gate in turn.
+/// Each shape in turn, first with no gate.
 pub fn way_of(number: u32) -> Way {
     Way {
-        shape: match number % 3 {
+        shape: match number % 4 {
             0 => SMALL,
             1 => SHORT_LOG,
-            _ => FEW_INTERVALS,
+            2 => FEW_INTERVALS,
+            _ => SMALL_AREAS,
         },
-        yields: number % 2 == 1,
+        yields: number % 8 >= 4,
     }
 }
 
