@@ -1,6 +1,6 @@
 //! Whether each deck's part of the merged history is what it was to ask.
 
-use crate::planned::{DECKS, Planned};
+use crate::planned::{LOADER, Planned};
 use std::alloc::Global;
 use vr_case_volumes::{Stop, Verb};
 use vr_history::{Entry, What};
@@ -11,7 +11,7 @@ use vr_trace::{Histories, Merged, merge};
 pub fn are_in_order(alloc: Global, asked: &[Planned], histories: &Histories) -> Result<bool, Stop> {
     let merged = merge(alloc, histories)?;
     let mut whole = true;
-    for deck in 1..DECKS + 1 {
+    for deck in 1..LOADER + 1 {
         whole = whole && is_in_order(asked, &merged, deck);
     }
     Ok(whole)

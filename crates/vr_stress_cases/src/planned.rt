@@ -10,7 +10,13 @@ use vr_case_volumes::{Answer, MAXIMUM, Stop, Verb, add_lines, say};
 use vr_types::Kind;
 
 /// How many decks there are, and how many turns each has.
-pub const DECKS: u32 = 8;
+const DECKS: u32 = 8;
+
+/// The deck that is run before them.
+pub const LOADER: u32 = DECKS + 1;
+
+/// How many records it adds to each volume.
+const LOADED: u32 = 4;
 
 const TURNS: u32 = 18;
 
@@ -60,22 +66,52 @@ impl Plan {
     }
 
     fn add_decks(&mut self, dice: &mut Dice) -> Answer {
-        self.count_line();
-        add_lines(&mut self.text, &["//S EXEC PGM=VRMDECK"])?;
+        self.add_line("//LOAD EXEC PGM=VRMDECK")?;
+        self.add_loader()?;
+        self.add_line("//STRESS EXEC PGM=VRMDECK")?;
         for deck in 1..DECKS + 1 {
             self.add_deck(deck, dice)?;
         }
         Ok(())
     }
 
-    /// Adds a deck, at whose end a COMMIT is added on each volume.
+    /// Adds the deck that is run before the others. At a deck's end a COMMIT is added on each volume.
+    fn add_loader(&mut self) -> Answer {
+        self.add_head(LOADER)?;
+        for number in 0..LOADED {
+            self.add_loaded(number)?;
+        }
+        self.plan_on_each(LOADER, Verb::Commit, 0)
+    }
+
+    /// Adds a record to each volume, every second one of those that are asked for.
+    fn add_loaded(&mut self, number: u32) -> Answer {
+        for volume in 0..VOLUMES {
+            let at = Where {
+                deck: LOADER,
+                turn: number,
+                volume,
+                record: number.saturating_mul(2),
+                find: Find::At,
+            };
+            self.add_put(at, Put::Add)?;
+        }
+        Ok(())
+    }
+
     fn add_deck(&mut self, deck: u32, dice: &mut Dice) -> Answer {
+        self.add_head(deck)?;
+        self.add_turns(deck, dice)?;
+        self.plan_on_each(deck, Verb::Commit, 0)
+    }
+
+    /// Adds the card of a deck, and its files.
+    fn add_head(&mut self, deck: u32) -> Answer {
         write!(self.text, "//DECK{deck} DD *\n")?;
         self.count_line();
         add_files(&mut self.text)?;
         self.lines = self.lines.saturating_add(VOLUMES);
-        self.add_turns(deck, dice)?;
-        self.plan_on_each(deck, Verb::Commit, 0)
+        Ok(())
     }
 
     fn add_turns(&mut self, deck: u32, dice: &mut Dice) -> Answer {
@@ -106,8 +142,7 @@ impl Plan {
                 self.add_then(at, then)
             }
             Act::End(verb) => {
-                self.count_line();
-                add_lines(&mut self.text, &[verb.text()])?;
+                self.add_line(verb.text())?;
                 self.plan_on_each(at.deck, verb, self.lines)
             }
         }
@@ -166,6 +201,11 @@ impl Plan {
         let text = verb.text();
         write!(self.text, "{text} F{volume}\n")?;
         self.plan_line(at, verb)
+    }
+
+    fn add_line(&mut self, line: &str) -> Answer {
+        self.count_line();
+        add_lines(&mut self.text, &[line])
     }
 
     fn count_line(&mut self) {

@@ -57,10 +57,10 @@ const SIDES: u32 = 24;
 /// What a deck does in its next turn.
 pub fn act_of(dice: &mut Dice) -> Act {
     match dice.roll(SIDES) {
-        0..=6 => Act::Put(Put::Add),
-        7 => Act::Put(Put::Amiss),
-        8..=11 => Act::Read,
-        12..=17 => Act::Hold,
+        0..=4 => Act::Put(Put::Add),
+        5 => Act::Put(Put::Amiss),
+        6..=10 => Act::Read,
+        11..=17 => Act::Hold,
         18 | 19 => Act::Point,
         20..=22 => Act::End(Verb::Commit),
         _ => Act::End(Verb::Backout),
