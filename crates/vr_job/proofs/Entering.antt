@@ -57,7 +57,7 @@ pub step-none : (volume : ℕ) (asking : UnitOfRecovery) (line : ℕ) (request :
 step-none volume asking line request entry is = ⊎_elim
     (λ split. ap (request_in volume entry.line) split.1)
     (λ later. ⊎_elim (λ claim. ap (request_in volume entry.line) claim.2)
-    (λ back. ap (request_in volume entry.line) back.3) later) is.1.1
+    (λ back. ap (request_in volume entry.line) back.3) later) is.2
 
 module _ (number deck : ℕ) where
   abbrev part-of : List Entry → List Bound
@@ -135,7 +135,7 @@ made-goes (Again given) asking line request made own is may = ⊎_elim
     (sym (ap (λ (m : List Entry). undoes (own ++ m)) one.1
     ∙ undoes-append false own (one.0 ∷ [])
     ∙ ap (asked.undoing_after (undoes own)) claim.2)) may)
-    (λ back. inr back.0) later) one.2.1.1) is
+    (λ back. inr back.0) later) one.2.2) is
 
 -- ---- what is entered
 

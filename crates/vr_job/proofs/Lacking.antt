@@ -163,18 +163,18 @@ module _ (old new : FileNow) (made : List Entry) (entries : new.entries ≡ old.
       second = entry_next (asked_failing after unit line request mid).entries 0 unit line
           (Faulted Write)
 
-  not-stepped : (after : ℕ) (unit : UnitOfRecovery) (request : Request)
-      → HasStepped after unit request old new → ⊥
-  not-stepped after unit request is = ⊎_elim
+  not-stepped : (after : ℕ) (unit : UnitOfRecovery) (line : ℕ) (request : Request)
+      → HasStepped after unit line request old new → ⊥
+  not-stepped after unit line request is = ⊎_elim
       (λ same. not-else []
       (append_cancel_left old.entries made [] (sym entries ∙ ap (λ (f : FileNow). f.entries) same
       ∙ sym (append-nil old.entries))) (All-nil AnswersElse))
       (λ step. ⊎_elim
-      (λ split. not-one after unit 0 (Split split.0) old split.1 refl (else-split split.0))
+      (λ split. not-one after unit line (Split split.0) old split.1 refl (else-split split.0))
       (λ later. ⊎_elim
-      (λ claim. not-one after unit 0 (Claimed claim.0 claim.1) old claim.2 refl
+      (λ claim. not-one after unit line (Claimed claim.0 claim.1) old claim.2 refl
       (else-claimed claim.0 claim.1))
-      (λ back. not-one after unit 0 (Undone back.1 back.2) old back.3 refl
+      (λ back. not-one after unit line (Undone back.1 back.2) old back.3 refl
       (else-undone back.1 back.2)) later) step) is
 
   entered-alone : (after : ℕ) (unit : UnitOfRecovery) (line : ℕ) (request : Request)
@@ -222,7 +222,7 @@ module _ (old new : FileNow) (made : List Entry) (entries : new.entries ≡ old.
   acted-alone before now Done after unit line request is =
       answered-alone before now after unit line request is.by
   acted-alone before now (Again given) after unit line request is =
-      absurd (not-stepped after unit request is.by.1)
+      absurd (not-stepped after unit line request is.by.1)
 
 -- ---- it comes where the volume goes on
 

@@ -131,7 +131,7 @@ faults-follow (Again given) unit line request made is = inr (⊎_elim
     (λ later. ⊎_elim
     (λ claim fault. faulted-not-claimed claim.0 claim.1 (subst IsFaulted claim.2 fault))
     (λ back fault. faulted-not-undone back.1 back.2 (subst IsFaulted back.3 fault)) later)
-    one.2.1)) is)
+    one.2.2)) is)
 
 refused-not-done : (request : Request)
     → Asked request (Refused WriteFault) ≡ Asked Commit (DoneReply 0 None None) → ⊥
@@ -196,7 +196,7 @@ commit-first (Again given) unit line request made is done = absurd (⊎_elim
         (λ split. split-done split.0 (subst IsDoneCommit split.1 done))
         (λ later. ⊎_elim
         (λ claim. claimed-done claim.0 claim.1 (subst IsDoneCommit claim.2 done))
-        (λ back. undone-done back.1 back.2 (subst IsDoneCommit back.3 done)) later) step.1.1
+        (λ back. undone-done back.1 back.2 (subst IsDoneCommit back.3 done)) later) step.2
 
 second-faulted : (entry fault : Entry) → AreFaultless (entry ∷ fault ∷ []) → IsFaulted fault.what
     → ⊥

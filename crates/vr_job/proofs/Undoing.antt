@@ -83,7 +83,7 @@ module _ (asking : UnitOfRecovery) (line : ℕ) (request : Request) (old new : F
   keeps : asked.undoing_after true entry.what ≡ true
   keeps = ⊎_elim (λ split. ap (asked.undoing_after true) split.1)
       (λ later. ⊎_elim (λ claim. ap (asked.undoing_after true) claim.2)
-      (λ back. ap (asked.undoing_after true) back.3) later) step.1.1
+      (λ back. ap (asked.undoing_after true) back.3) later) step.2
 
   -- a unit that had begun before
   before-shown : (unit : UnitOfRecovery) → is_undoing unit old.entries ≡ true → Shown unit
@@ -126,7 +126,7 @@ module _ (asking : UnitOfRecovery) (line : ℕ) (request : Request) (old new : F
       (or_cases was (same_unit unit asking) (sym (whole
       ∙ ap (undoing_after unit was entry) back.3
       ∙ ap (λ (u : UnitOfRecovery). was || same_unit unit u) step.0) ∙ undoing)))
-      later) step.1.1
+      later) step.2
     where
       was : Bool
       was = is_undoing unit old.entries
