@@ -1,7 +1,7 @@
 -- The numbers of the decks of a job are those that its cards announced.
 use Rattle.std.proofs.Common.{◌≡◌, ℕ, suc, ◌+◌, ◌<◌, ◌≤◌, ◌==◌, nat_lt, Bool, true, false, cond}
-use Rattle.std.proofs.Common.{List, [], ◌∷◌, ◌++◌, length, Result, Ok, Err, sum_by, All}
-use Rattle.std.proofs.Common.{count_by, refl, sym, ap, subst, ◌∙◌, arith, insert}
+use Rattle.std.proofs.Common.{List, [], ◌∷◌, length, Result, Ok, Err, sum_by}
+use Rattle.std.proofs.Common.{refl, sym, ap, subst, ◌∙◌, arith, insert}
 use Rattle.std.specs.List.{AllByRecursion}
 use Rattle.std.proofs.lemmas.Bool.{ltb-true, ltb-false}
 use Rattle.std.proofs.lemmas.List.Elements.{All-from_recursion}
@@ -19,13 +19,13 @@ use Rattle.vr_job_text.specs.declared.reading.PartKind.TheVariants as kinds
 use Rattle.vr_job_text.specs.declared.reading.StepText.{StepText}
 use Rattle.vr_job_text.specs.declared.text.Deck.{Deck}
 use Rattle.vr_job_text.specs.declared.text.Step.{Step}
-use Rattle.vr_job_text.specs.Decks.{deck_in, with_deck, with_read, with_part, with_decks, decks_in}
+use Rattle.vr_job_text.specs.Decks.{deck_in, with_deck, with_read, with_part, with_decks}
 use Rattle.vr_job_text.specs.Decks.{place_of}
 use Rattle.vr_job_text.specs.Job.{AreSteps, IsStepOf, deck_steps}
-use Rattle.vr_job_text.specs.Layout.{laid, line_added}
+use Rattle.vr_job_text.specs.Layout.{laid}
 use Rattle.vr_job_text.specs.Numbers.{AreNumbered, RiseFrom, deck_count}
 use Rattle.vr_job_text.specs.Text.{job_lines}
-use Rattle.vr_job_text.proofs.Measures.{Measure, IsMeasured, AreUsed, laid_measured, added_by}
+use Rattle.vr_job_text.proofs.Measures.{Measure, laid_measured, added_by}
 use Rattle.vr_job_text.proofs.Measures.{of_text, total}
 
 -- the sum of a function of the numbers: of the decks of a step, and of parts

@@ -1,5 +1,5 @@
 -- What is a fault of a part is one of the whole.
-use Rattle.std.proofs.Common.{◌≡◌, inl, inr, ℕ, List, Some}
+use Rattle.std.proofs.Common.{inl, inr, ℕ, List}
 use Rattle.vr_text.specs.Lines.{Line}
 use Rattle.vr_scan.specs.Token.{Token}
 use Rattle.vr_scan.specs.Scan.{IsTokens}

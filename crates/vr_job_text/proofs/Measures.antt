@@ -19,19 +19,18 @@ use Rattle.vr_job_text.specs.declared.fault.CardFault.{CardFault}
 use Rattle.vr_job_text.specs.declared.fault.TextFault.{TextFault}
 use Rattle.vr_job_text.specs.declared.reading.Begun.{Begun}
 use Rattle.vr_job_text.specs.declared.reading.Part.{Part}
-use Rattle.vr_job_text.specs.declared.reading.PartKind.{PartKind}
 use Rattle.vr_job_text.specs.declared.reading.PartKind.TheVariants.{Deck, Commands, Data}
 use Rattle.vr_job_text.specs.declared.reading.Reading.{Reading}
 use Rattle.vr_job_text.specs.declared.reading.StepText.{StepText}
 use Rattle.vr_job_text.specs.Card.{is_card, card_of, name_on, deck_number}
 use Rattle.vr_job_text.specs.Fault.{wrong}
-use Rattle.vr_job_text.specs.Layout.{unread, faulted, refused, with_open, closed, opened, line_added}
+use Rattle.vr_job_text.specs.Layout.{unread, faulted, with_open, closed, opened, line_added}
 use Rattle.vr_job_text.specs.Layout.{step_text, step_added, ended_by, ended, going_after, begun_at}
 use Rattle.vr_job_text.specs.Layout.{may_number, announced, with_number, with_deck_card, is_named}
 use Rattle.vr_job_text.specs.Layout.{with_data_name, with_dd, with_data_of, with_data, with_card}
-use Rattle.vr_job_text.specs.Layout.{is_long, text_kept, with_part_line, with_stray, with_body}
-use Rattle.vr_job_text.specs.Layout.{with_text, unless_bad, with_line, with_next, with_lines}
-use Rattle.vr_job_text.specs.Layout.{finished_by, finished, laid}
+use Rattle.vr_job_text.specs.Layout.{is_long, text_kept, with_body}
+use Rattle.vr_job_text.specs.Layout.{with_text, unless_bad, with_next, with_lines}
+use Rattle.vr_job_text.specs.Layout.{finished_by, laid}
 use Rattle.vr_job_text.specs.Text.{job_lines, first_bad, unindented, column_of}
 
 -- A measure of parts: what one has by its card, and how much a line more adds at most.

@@ -1,27 +1,18 @@
 -- The decks of a step. They are read in the order of the text, so that the first fault there is
 -- reported, and kept in the order of their numbers.
-use Rattle.std.specs.Prelude.{ℕ, Bool, true, false, not, nat_lt, List, [], ◌∷◌, filter, find, insert}
-use Rattle.std.specs.Prelude.{Option, Some, None, is_some, Result, Ok, Err}
+use Rattle.std.specs.Prelude.{ℕ, nat_lt, List, [], ◌∷◌, insert}
+use Rattle.std.specs.Prelude.{Result, Ok, Err}
 use Rattle.std.specs.List.{prefix_len}
-use Rattle.std.specs.Option.{option_map}
 use Rattle.vr_text.specs.Lines.{Line}
 use Rattle.vr_deck_text.specs.Deck.{deck_of}
 use Rattle.vr_deck_text.specs.declared.fault.LineFault.{LineFault}
-use Rattle.vr_deck_text.specs.declared.text.Ask.{Ask}
-use Rattle.vr_deck_text.specs.declared.text.Ask.TheVariants.{Get, Point, Add, Update, Erase, EndReq}
-use Rattle.vr_deck_text.specs.declared.text.Ask.TheVariants.{Commit, Backout}
-use Rattle.vr_deck_text.specs.declared.text.At.{At}
-use Rattle.vr_deck_text.specs.declared.text.At.TheVariants.{Key, Rba, Rrn}
 use Rattle.vr_deck_text.specs.declared.text.DeckText.{DeckText}
-use Rattle.vr_deck_text.specs.declared.text.Order.{Order}
-use Rattle.vr_deck_text.specs.declared.text.Seek.{Seek}
-use Rattle.vr_deck_text.specs.declared.text.Seek.TheVariants.{Next, Equal, AtLeast}
 use Rattle.vr_job_text.specs.declared.fault.TextFault.{TextFault}
 use Rattle.vr_job_text.specs.declared.reading.Part.{Part}
 use Rattle.vr_job_text.specs.declared.reading.PartKind.{PartKind}
 use Rattle.vr_job_text.specs.declared.reading.PartKind.TheVariants as kinds
 use Rattle.vr_job_text.specs.declared.text.Deck.{Deck}
-use Rattle.vr_job_text.specs.Fault.{deck_fault, form_fault}
+use Rattle.vr_job_text.specs.Fault.{deck_fault}
 
 -- the deck of some lines, or their first fault
 abbrev pub deck_read : Result DeckText LineFault → Result DeckText TextFault

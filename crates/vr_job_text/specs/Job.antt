@@ -1,9 +1,9 @@
 -- The job that a text says, or its first fault. A text is laid out first; the text of each step is read
 -- where the step ends, at the next EXEC card or at the end of the text, so its fault goes before the
 -- faults of later cards.
-use Rattle.std.specs.Prelude.{◌≡◌, ◌⊎◌, ℕ, List, [], ◌∷◌, ◌++◌, length, slice_get, sum_by}
+use Rattle.std.specs.Prelude.{◌≡◌, ◌⊎◌, ℕ, List, [], ◌∷◌, length, slice_get, sum_by}
 use Rattle.std.specs.Prelude.{Option, Some, None}
-use Rattle.std.specs.Prelude.{Result, Ok, Err}
+use Rattle.std.specs.Prelude.{Ok, Err}
 use Rattle.vr_amsparse.specs.declared.command.Node.{Node}
 use Rattle.vr_job_text.specs.declared.card.Program.{Program}
 use Rattle.vr_job_text.specs.declared.card.Program.TheVariants as programs

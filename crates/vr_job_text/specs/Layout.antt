@@ -5,7 +5,6 @@ use Rattle.std.specs.Prelude.{ℕ, ◌+◌, ◌==◌, Bool, false, not, ◌&&◌
 use Rattle.std.specs.Prelude.{length, codes, bytes_eq, Option, Some, None, Result, Ok, Err}
 use Rattle.std.specs.Prelude.{if◌then◌else◌}
 use Rattle.std.specs.List.{list_any}
-use Rattle.vr_text.specs.Lines.{Line}
 use Rattle.vr_deck_text.specs.Words.{without_end}
 use Rattle.vr_job_text.specs.declared.card.Card.{Card}
 use Rattle.vr_job_text.specs.declared.card.Card.TheVariants.{Nothing, Step as StepCard, Data as DataCard}

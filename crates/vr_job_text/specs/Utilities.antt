@@ -1,6 +1,6 @@
 -- What a step of IDCAMS has: its commands, and data cards that REPRO may read as a file by the name on
 -- their DD card. The commands are those of Access Method Services Commands.
-use Rattle.std.specs.Prelude.{◌≡◌, ◌⊎◌, ℕ, ◌-◌, List, [], ◌∷◌, ◌++◌, length, map, replicate}
+use Rattle.std.specs.Prelude.{◌⊎◌, ℕ, ◌-◌, List, [], ◌∷◌, ◌++◌, length, map, replicate}
 use Rattle.std.specs.List.{flat_map}
 use Rattle.vr_text.specs.Lines.{Line}
 use Rattle.vr_scan.specs.Token.{Token}

@@ -1,4 +1,4 @@
-use Rattle.std.proofs.Common.{List, drop, subst}
+use Rattle.std.proofs.Common.{List, subst}
 use Rattle.std.proofs.lemmas.List.{drop_all}
 use Rattle.vr_job_text.specs.declared.reading.StepText.{StepText}
 use Rattle.vr_job_text.proofs.StepsRead.{IsReadTo, read_end}
