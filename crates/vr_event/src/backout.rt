@@ -187,7 +187,8 @@ impl<B: Blocks, P: Part> Volume<B, P> {
         ensures store { self.new.store ≡ self.old.store }
         ensures volume { self.new.number ≡ self.old.number }
     {
-        self.file.undone(unit, line, before.part, before.place, after);
+        self.file
+            .undone(unit, line, before.part, before.place, after);
     }
 
     /// Puts back the last before-image that a unit keeps, and enters that (`Again`). Room was asked
