@@ -191,7 +191,7 @@ fn add_area<B: Blocks>(
     ensures owners { OnOk result (OwnersAfter (part_no (NumberedShape chain.old.part))
         stages.Extend space.old space.new) }
     ensures owners_stay { OnErr result (space.new ≡ space.old) }
-    ensures chain { OnOk result (KeepsChain (part_no (NumberedShape chain.old.part))
+    ensures chain { OnOk result (KeepsChain (NumberedShape chain.old.part)
         chain.old.areas chain.new.areas space.old space.new) }
     ensures chain_stays { OnErr result (chain.new ≡ chain.old) }
     ensures more { IsTrue B.tells → IsMoreDue chain.old space.old (B.seen blocks.old)
@@ -237,7 +237,7 @@ pub(crate) fn extend<B: Blocks>(
     ensures owners { OnOk result (OwnersAfter (part_no (NumberedShape chain.old.part))
         stages.Extend space.old space.new) }
     ensures owners_stay { OnErr result (space.new ≡ space.old) }
-    ensures chain { OnOk result (KeepsChain (part_no (NumberedShape chain.old.part))
+    ensures chain { OnOk result (KeepsChain (NumberedShape chain.old.part)
         chain.old.areas chain.new.areas space.old space.new) }
     ensures chain_stays { OnErr result (chain.new ≡ chain.old) }
     ensures more { IsTrue B.tells → IsMoreDue chain.old space.old (B.seen blocks.old)

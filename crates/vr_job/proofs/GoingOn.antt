@@ -8,7 +8,7 @@ use Rattle.vr_types.specs.declared.bound.Bound.{Bound}
 use Rattle.vr_types.specs.Faults.{Faults}
 use Rattle.vr_types.specs.Image.{Image}
 use Rattle.vr_types.specs.Moments.{Guards}
-use Rattle.vr_types.specs.Seen.{Seen}
+use Rattle.vr_types.specs.Seen.{Left, Seen}
 use Rattle.vr_types.specs.declared.fault.DeviceFault.TheVariants.{Write}
 use Rattle.vr_types.specs.declared.geometry.Geometry.{Geometry}
 use Rattle.vr_types.specs.declared.reply.Refusal.TheVariants.{WriteFault}
@@ -38,7 +38,7 @@ use Rattle.vr_worker.specs.Asked.{bound_to}
 use Rattle.vr_job.specs.Committed.{KeepTheCatalog}
 use Rattle.vr_job.specs.Crash.{HaveDoneCommit, IsCommit, IsDoneCommit, IsLeftBy}
 use Rattle.vr_job.specs.Events.{FaultsFollow, HasStopped, IsLeftWhile, IsOfEvents, KeepsAtRest}
-use Rattle.vr_job.specs.Events.{LeavesAtRest, requests_in}
+use Rattle.vr_job.specs.Events.{LeavesAtRest, OwnsAtRest, requests_in}
 use Rattle.vr_job.specs.Faultless.{AreFaultless}
 use Rattle.vr_job.specs.Going.{GoesOn, HasRun, went-then}
 use Rattle.vr_job.specs.Serving.{IsServing, StaysServing}
@@ -48,6 +48,7 @@ use Rattle.vr_job.proofs.Faultless.{NoFault, acted-faultless}
 use Rattle.vr_job.proofs.Keeping.{event-keeps}
 use Rattle.vr_job.proofs.Kept.{AreSized, held-kept}
 use Rattle.vr_job.proofs.Lacking.{SaysWhatLacks, event-lacking}
+use Rattle.vr_job.proofs.Owning.{held-owners}
 use Rattle.vr_job.proofs.ReadFaults.{acted-reads}
 use Rattle.vr_job.proofs.Stopping.{commit-first, commit-went, faults-follow, going-on, stop-of}
 use Rattle.vr_job.proofs.Stopping.{stopped-more}
@@ -232,7 +233,7 @@ module _ {B : Type 0} (seen : B → Seen) (faults : B → Faults) (old new : Vol
         (IsLeftIn old.store.log.geometry old.number (state_now opening old.file) after unit line
         request old.file new.file))
         (stays : old.file.stopped ≢ None → new.blocks ≡ old.blocks)
-        (sized : AreSized (seen new.blocks))
+        (sized : AreSized (seen new.blocks)) (cur : Left (seen new.blocks) (seen new.blocks).cur)
         (lacks : SaysWhatLacks seen opening old new after unit line request) where
       abbrev Left-by : Image → Type 0
       Left-by = IsLeftBy old.file.geometry old.number opening new.file.entries
@@ -312,6 +313,9 @@ module _ {B : Type 0} (seen : B → Seen) (faults : B → Faults) (old new : Vol
                 (subst (λ (g : Geometry). KeepsAtRest seen g new.number opening new.blocks
                 new.file.entries) made-in.geometry
                 (held-kept seen opening new whole-new held sized));
+            owners = subst (λ (g : Geometry). OwnsAtRest seen g opening new.blocks
+                new.file.entries) made-in.geometry
+                (held-owners seen opening new whole-new held cur);
             faults = follow;
             lasting = λ done. rests (sym held-stopped ∙ goes-on held done);
             refused_read = acted-reads old.file new.file made-in.made made-in.entries

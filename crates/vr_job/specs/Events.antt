@@ -23,6 +23,7 @@ use Rattle.vr_job.specs.Crash.{AreInCommit, HaveDoneCommit}
 use Rattle.vr_job.specs.Faultless.{AreFaultless}
 use Rattle.vr_job.specs.Kept.{KeepsItems}
 use Rattle.vr_job.specs.Lacking.{LacksArea}
+use Rattle.vr_job.specs.Owning.{HasOwners}
 use Rattle.vr_job.specs.ReadFaults.{read_faults}
 
 -- An event: the blocks and the history as it began, and the entries that it made.
@@ -55,6 +56,11 @@ abbrev pub KeepsAtRest : {B : Type 0} → (B → Seen) → Geometry → ℕ → 
 KeepsAtRest seen geometry number opening now entries =
     (state_of geometry opening entries).stopped ≡ None → (image : Image) → Left (seen now) image
     → KeepsItems geometry number (state_of geometry opening entries) image
+
+-- And its blocks lead each part to the areas that the history gives it, and no other.
+abbrev pub OwnsAtRest : {B : Type 0} → (B → Seen) → Geometry → State → B → List Entry → Type 0
+OwnsAtRest seen geometry opening now entries = (state_of geometry opening entries).stopped ≡ None
+    → HasOwners geometry (state_of geometry opening entries) (seen now).cur
 
 -- Where an entry answers a request that there is no space, the part of its file lacks room in the
 -- state and the blocks that the event found.
@@ -94,11 +100,11 @@ FaultsFollow made = IsStop made ⊎ AreFaultless made
 
 -- An event, with the blocks and the history as it left them: it answered one request at most; it
 -- touched no block, or each image at each moment of it is as above; and it leaves the volume at
--- rest, with the items of the state wherever no live unit changed them. A fault is entered after a
--- request alone that was answered 905. Where a COMMIT was answered 0, its unit is in every image that
--- a crash may leave from then on. A request is answered 904 only where a read failed in its event, and
--- 905, so that the volume stops, only where a write or a sync failed in it; and 28 only where its part
--- lacks room.
+-- rest, with the items of the state wherever no live unit changed them, and each part with the areas
+-- that the history gives it. A fault is entered after a request alone that was answered 905. Where a
+-- COMMIT was answered 0, its unit is in every image that a crash may leave from then on. A request is
+-- answered 904 only where a read failed in its event, and 905, so that the volume stops, only where a
+-- write or a sync failed in it; and 28 only where its part lacks room.
 pub record IsEvent {B : Type 0} (seen : B → Seen) (counts : B → Faults) (geometry : Geometry)
     (number : ℕ) (opening : State) (event : Event B) (now : B) (entries : List Entry) : Type 0 where
   pub entries_are : entries ≡ event.entries ++ event.made
@@ -107,6 +113,7 @@ pub record IsEvent {B : Type 0} (seen : B → Seen) (counts : B → Faults) (geo
       (IsLeftWhile geometry number opening event.entries event.made)
   pub after : LeavesAtRest seen geometry number opening now entries
   pub items : KeepsAtRest seen geometry number opening now entries
+  pub owners : OwnsAtRest seen geometry opening now entries
   pub faults : FaultsFollow event.made
   pub lasting : HaveDoneCommit event.made → (image : Image) → Left (seen now) image
       → RecoversTo geometry number (state_of geometry opening entries) [] image

@@ -2,6 +2,7 @@ pub mod Crash
 pub mod Events
 pub mod Kept
 pub mod Lacking
+pub mod Owning
 pub mod Committed
 pub mod Faultless
 pub mod ReadFaults

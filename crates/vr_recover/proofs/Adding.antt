@@ -249,7 +249,8 @@ module _ (geometry : Geometry) (entry : CatEntry) (it : AnyPart) (old new : List
 
   owns-still : (shape : Shape) (known : Known) → part_no shape ≢ entry.part
       → OwnsChain shape known old → OwnsChain shape known new
-  owns-still (KeyedShape part) known differs owns = tt
+  owns-still (KeyedShape part) known differs owns =
+      count-stays (record { 0 = part.part }) differs ∙ owns
   owns-still (NumberedShape part) known differs owns =
       count-stays (record { 0 = part.part }) differs ∙ owns
 
@@ -393,7 +394,14 @@ module _ (geometry : Geometry) (entries : List CatEntry) (parts : List AnyPart)
         laid = own.owned;
         only = λ part a now. inl (own.only part a now);
         owns = All-cons (λ (part : AnyPart). OwnsChain (shape_any part) (known_any part) owners)
-            (Keyed first.own) [] tt
+            (Keyed first.own) []
+            (ap (λ (p : KeyedPart). owned_count (record { 0 = p.part }) owners)
+            first.attached.part_is
+            ∙ own.alone (record { 0 = 0 }) 0 (record {
+              shape = catalog_shape geometry;
+              laid = refl;
+              begins = refl;
+            }))
             (All-nil (λ (part : AnyPart). OwnsChain (shape_any part) (known_any part) owners));
         alone = λ part a laid none. own.alone part a laid;
       })

@@ -421,7 +421,7 @@ owned-still geometry before parts owners shapes areas own = record {
         (subst (λ (s : Shape). OwnsChain s here owners) same owns)
       where
         by : (s : Shape) → OwnsChain s here owners → OwnsChain s there owners
-        by (KeyedShape part) owns = tt
+        by (KeyedShape part) owns = owns
         by (NumberedShape part) owns = owns ∙ ap (λ (list : List ℕ). length list) kept
 
     owned-at : (k : ℕ) (one : AnyPart) → slice_get before k ≡ Some one

@@ -272,13 +272,14 @@ OwnersAfter part Post old new = (new ≡ old) ⊎ IsClaimed part old new
 OwnersAfter part Extend old new = (new ≡ old) ⊎ IsClaimed part old new
 OwnersAfter part stage old new = new ≡ old
 
--- The areas that a part keeps in memory go with those that it owns: both stay, or the least free
--- area is the part's now and the last one that it keeps.
-abbrev pub KeepsChain : PartNo → List ℕ → List ℕ → List (Option PartNo) → List (Option PartNo)
+-- The areas that a part keeps in memory go with those that it owns: both stay, or, of a part of
+-- chained areas, the least free area is the part's now and the last one that it keeps.
+abbrev pub KeepsChain : Shape → List ℕ → List ℕ → List (Option PartNo) → List (Option PartNo)
     → Type 0
-KeepsChain part areas after old new = ((after ≡ areas) × (new ≡ old))
+KeepsChain (KeyedShape part) areas after old new = (after ≡ areas) × (new ≡ old)
+KeepsChain (NumberedShape part) areas after old new = ((after ≡ areas) × (new ≡ old))
     ⊎ ((area : ℕ) × (least_free old ≡ Some area) × (after ≡ areas ++ area ∷ [])
-    × (new ≡ slice_set old area (Some part)))
+    × (new ≡ slice_set old area (Some (record { 0 = part.part }))))
 
 -- what a stage of a chain of areas leaves: one interval more is used
 abbrev pub HasMore : Shape → Known → Known → Type 0
@@ -294,9 +295,9 @@ HasOwners (NumberedShape part) areas = length areas ≡ area_count part.geometry
 abbrev pub owned_count : PartNo → List (Option PartNo) → ℕ
 owned_count part areas = length (filter (is_owner part) areas)
 
--- a part of chained areas keeps as many as it owns
+-- a keyed part owns its one area, and a part of chained areas as many as it keeps
 abbrev pub OwnsChain : Shape → Known → List (Option PartNo) → Type 0
-OwnsChain (KeyedShape part) known areas = Unit {0}
+OwnsChain (KeyedShape part) known areas = owned_count (record { 0 = part.part }) areas ≡ 1
 OwnsChain (NumberedShape part) known areas =
     owned_count (record { 0 = part.part }) areas ≡ length known.areas
 

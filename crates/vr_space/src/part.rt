@@ -174,7 +174,7 @@ pub trait Part {
             OwnersAfter (part_no (shape self.old)) kind space.old space.new) }
         ensures owners_stay { OnErr result (space.new ≡ space.old) }
         // What it keeps of its areas goes with the areas that it owns.
-        ensures chain { OnOk result (KeepsChain (part_no (shape self.old)) (known self.old).areas
+        ensures chain { OnOk result (KeepsChain (shape self.old) (known self.old).areas
             (known self.new).areas space.old space.new) }
         ensures chain_stays { OnErr result ((known self.new).areas ≡ (known self.old).areas) }
         // A chain of areas has one interval more.

@@ -113,37 +113,55 @@ pub record HasOneMore (part : PartNo) (areas after : List ℕ) (old new : List (
   pub claimed : HasClaimed part old new
   pub kept : length after ≡ length areas + 1
 
-module _ (part : PartNo) (areas after : List ℕ) (old new : List (Option PartNo))
+-- They are as before where nothing was claimed, whatever the kind of the part.
+pub chain-same : (shape : Shape) (areas after : List ℕ) (old new : List (Option PartNo))
+    → after ≡ areas → new ≡ old → KeepsChain shape areas after old new
+chain-same (KeyedShape keyed) areas after old new kept same = (kept, same)
+chain-same (NumberedShape numbered) areas after old new kept same = inl (kept, same)
+
+pub chain-by : (shape : Shape) (areas after : List ℕ) (old new : List (Option PartNo))
+    → KeepsChain shape areas after old new
+    → ((after ≡ areas) × (new ≡ old)) ⊎ HasOneMore (part_no shape) areas after old new
+chain-by (KeyedShape keyed) areas after old new same = inl same
+chain-by (NumberedShape numbered) areas after old new chain = ⊎_elim (λ same. inl same)
+    (λ more. inr (record {
+      claimed = has-claimed (record { 0 = numbered.part }) old new (more.0, more.1, more.3);
+      kept = ap length more.2 ∙ length-append areas (more.0 ∷ []);
+    }))
+    chain
+
+module _ (part : Shape) (areas after : List ℕ) (old new : List (Option PartNo))
     (chain : KeepsChain part areas after old new) where
-  chain-by : ((after ≡ areas) × (new ≡ old)) ⊎ HasOneMore part areas after old new
-  chain-by = ⊎_elim (λ same. inl same)
-      (λ more. inr (record {
-        claimed = has-claimed part old new (more.0, more.1, more.3);
-        kept = ap length more.2 ∙ length-append areas (more.0 ∷ []);
-      }))
-      chain
+  chained : ((after ≡ areas) × (new ≡ old)) ⊎ HasOneMore (part_no part) areas after old new
+  chained = chain-by part areas after old new chain
 
   -- there are as many areas,
   pub count-kept : length new ≡ length old
-  count-kept = ⊎_elim (λ same. ap length same.1) (λ more. more.claimed.count) chain-by
+  count-kept = ⊎_elim (λ same. ap length same.1) (λ more. more.claimed.count) chained
+
+  count-other : (other : PartNo) → other.0 ≢ (part_no part).0
+      → owned_count other new ≡ owned_count other old
+  count-other other apart = ⊎_elim (λ same. ap (owned_count other) same.1)
+      (λ more. more.claimed.others other apart) chained
 
   -- each other part keeps as many of them as it owns,
-  pub owns-other : (shape : Shape) (known : Known) → (part_no shape).0 ≢ part.0
+  pub owns-other : (shape : Shape) (known : Known) → (part_no shape).0 ≢ (part_no part).0
       → OwnsChain shape known old → OwnsChain shape known new
-  owns-other (KeyedShape keyed) known apart owns = tt
-  owns-other (NumberedShape numbered) known apart owns = ⊎_elim
-      (λ same. ap (owned_count (record { 0 = numbered.part })) same.1 ∙ owns)
-      (λ more. more.claimed.others (record { 0 = numbered.part }) apart ∙ owns) chain-by
+  owns-other (KeyedShape keyed) known apart owns =
+      count-other (record { 0 = keyed.part }) apart ∙ owns
+  owns-other (NumberedShape numbered) known apart owns =
+      count-other (record { 0 = numbered.part }) apart ∙ owns
 
 -- and so does the part.
 pub owns-mine : (shape : Shape) (known later : Known) (old new : List (Option PartNo))
-    → KeepsChain (part_no shape) known.areas later.areas old new → OwnsChain shape known old
+    → KeepsChain shape known.areas later.areas old new → OwnsChain shape known old
     → OwnsChain shape later new
-owns-mine (KeyedShape keyed) known later old new chain owns = tt
+owns-mine (KeyedShape keyed) known later old new chain owns =
+    ap (owned_count (record { 0 = keyed.part })) chain.1 ∙ owns
 owns-mine (NumberedShape numbered) known later old new chain owns = ⊎_elim
     (λ same. ap (owned_count part) same.1 ∙ owns ∙ sym (ap length same.0))
     (λ more. more.claimed.mine ∙ ap (λ (n : ℕ). n + 1) owns ∙ sym more.kept)
-    (chain-by part known.areas later.areas old new chain)
+    (chain-by (NumberedShape numbered) known.areas later.areas old new chain)
   where
     part : PartNo
     part = record { 0 = numbered.part }

@@ -23,7 +23,7 @@ use Rattle.vr_store.specs.Parts.{but_split}
 use Rattle.vr_store.specs.Store.{IsPartSet, IsRestedPart, IsSet, IsStored, OwnsItsChain, PartNow}
 use Rattle.vr_store.specs.Store.{StoreNow, blocks_of, owners_of, part_among}
 use Rattle.vr_store.proofs.Among.{HasShape, among-all, among-number, among-shape}
-use Rattle.vr_store.proofs.Claims.{count-kept, owns-mine, owns-other}
+use Rattle.vr_store.proofs.Claims.{chain-same, count-kept, owns-mine, owns-other}
 use Rattle.vr_store.proofs.Fits.{fits-parts}
 use Rattle.vr_store.proofs.PutNothing.{set-still}
 use Rattle.vr_store.proofs.PartsAt.{IsPartAt}
@@ -55,7 +55,7 @@ module _ (store : StoreNow) (number : ℕ) (before after : PartNow) (new : List 
 
   -- it is set, where its areas go with those that it owns,
   pub set-worked : (a b : Seen) → b.count ≡ a.count → b.size ≡ a.size
-      → KeepsChain (part_no before.shape) before.known.areas after.known.areas store.space space
+      → KeepsChain before.shape before.known.areas after.known.areas store.space space
       → IsSet store a → IsSet worked b
   set-worked a b count size chain before-set =
       let set = set-still store a b count size before-set in
@@ -80,12 +80,12 @@ module _ (store : StoreNow) (number : ℕ) (before after : PartNow) (new : List 
         changed = set.changed;
         idle = set.idle;
         kept = fits-parts new store.parts same-parts (befores_of store.undo) set.kept;
-        areas = count-kept (part_no before.shape) before.known.areas after.known.areas store.space
+        areas = count-kept before.shape before.known.areas after.known.areas store.space
             space chain ∙ set.areas;
         owns = subst (All (OwnsItsChain space)) (sym at.is)
             (all-with (λ (part : PartNow). IsPartSet b part × OwnsItsChain store.space part)
             (OwnsItsChain space) number after
-            (λ part apart both. owns-other (part_no before.shape) before.known.areas
+            (λ part apart both. owns-other before.shape before.known.areas
             after.known.areas store.space space chain part.shape part.known
             (λ same. apart (ap (λ (n : PartNo). n.0) (sym both.0.number) ∙ same
             ∙ ap (λ (n : PartNo). n.0) mine.number
@@ -96,6 +96,13 @@ module _ (store : StoreNow) (number : ℕ) (before after : PartNow) (new : List 
             store.parts set.apart
             (all-both (IsPartSet b) (OwnsItsChain store.space) store.parts set.parts set.owns));
       }
+
+  -- so where the call claimed nothing,
+  pub set-unclaimed : (a b : Seen) → b.count ≡ a.count → b.size ≡ a.size
+      → after.known.areas ≡ before.known.areas → space ≡ store.space → IsSet store a
+      → IsSet worked b
+  set-unclaimed a b count size kept same = set-worked a b count size
+      (chain-same before.shape before.known.areas after.known.areas store.space space kept same)
 
   module _ (volume : ℕ) (state : State) (a b : Seen) (set : IsSet store a)
       (stored : IsStored volume store state a) where

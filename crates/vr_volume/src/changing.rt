@@ -158,7 +158,7 @@ pub fn do_stage<B: Blocks, P: Part, K: Kept>(
         OwnersAfter (part_no (P.shape part.old)) kind space.old space.new) }
     ensures owners_stay { OnErr result (space.new ≡ space.old) }
     // What the part keeps of its areas goes with the areas that it owns.
-    ensures chain { OnOk result (KeepsChain (part_no (P.shape part.old)) (P.known part.old).areas
+    ensures chain { OnOk result (KeepsChain (P.shape part.old) (P.known part.old).areas
         (P.known part.new).areas space.old space.new) }
     ensures chain_stays { OnErr result ((P.known part.new).areas ≡ (P.known part.old).areas) }
     ensures same { IsTrue B.tells → SameRecords (P.shape part.old)

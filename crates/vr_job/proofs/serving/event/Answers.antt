@@ -45,6 +45,7 @@ returns-clause-went g c =
           c.requires.serving.whole
           (λ going. c.act-act.ensures.moments told opening run.held (may opening run.held) going)
           c.act-act.ensures.stopped (λ n block. g.met.B.Blocks.sized new.blocks n block told)
+          (g.met.B.Blocks.cur_may new.blocks told)
           (c.act-act.ensures.lacks told opening run.held (may opening run.held))
           c.act-act.ensures.whole
           (c.act-act.ensures.held told opening run.held (may opening run.held));

@@ -1,4 +1,6 @@
 use Rattle.std.proofs.Common.{Some, inr, ap, ◌∙◌}
+use Rattle.vr_space.specs.Keyed.{Keyed as KeyedPart}
+use Rattle.vr_space.specs.Part.{owned_count}
 use Rattle.vr_space.specs.Rosters.{Numbered}
 use Rattle.vr_part.proofs.Attaching.{free-or-first, owned-first}
 use Rattle.vr_part.proofs.attach.attach_part.Goals as goal
@@ -22,3 +24,8 @@ returns-clause-free g c at has =
     free-or-first c.args.space.now (Some c.args.part) c.args.area c.requires.first at
     (λ other. c.in_ok-chained.ensures.marked.free at has
     (λ first. other (first ∙ ap (λ (p : Numbered). p.first) c.chain_layout_of-layout.ensures)))
+
+pub returns-then-eq-clause-owns : goal.returns-then-eq-clause-owns
+returns-then-eq-clause-owns g c =
+    ap (λ (part : KeyedPart). owned_count (record { 0 = part.part }) c.args.space.now)
+    (c.in_ok-keyed.ensures.attached.part_is ∙ c.layout_of-layout.ensures) ∙ c.requires.alone

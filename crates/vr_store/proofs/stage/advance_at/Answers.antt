@@ -22,7 +22,7 @@ use Rattle.vr_store.proofs.PartsAt.{found-new, laid-at, laid-found, none-laid, o
 use Rattle.vr_store.proofs.Recorded.{at-part, at-shape, number-at, part-number-at, rested-at, set-at}
 use Rattle.vr_store.proofs.Recorded.{shape-at}
 use Rattle.vr_store.proofs.Rooms.{due-at, room-at}
-use Rattle.vr_store.proofs.Worked.{set-worked, stored-met, stored-worked}
+use Rattle.vr_store.proofs.Worked.{set-unclaimed, set-worked, stored-met, stored-worked}
 use Rattle.vr_store.proofs.stage.advance_at.Goals as goal
 
 pub do_stage-requires : goal.do_stage-requires
@@ -92,12 +92,9 @@ returns-in_err-kind-in-Some g c =
       owners_stay = search rules;
       kind = λ told. shape-at (λ (s : Shape). IfOk c.from_residual.result (IsStageOf s)) store.parts
           number before at.found (search rules);
-      set = set-worked store number before after parts space at same a b
+      set = set-unclaimed store number before after parts space at same a b
           c.do_stage.ensures.count c.do_stage.ensures.size
-          (inl (
-            c.in_err-kind-in-Some.ensures.chain_stays,
-            c.in_err-kind-in-Some.ensures.owners_stay,
-          )) c.requires.set;
+          c.in_err-kind-in-Some.ensures.chain_stays c.in_err-kind-in-Some.ensures.owners_stay c.requires.set;
       stored = search rules;
       moments = λ told volume state stored.
           subst (λ (owner : PartNo). Guards a b (IsSafeImage store.log.geometry volume

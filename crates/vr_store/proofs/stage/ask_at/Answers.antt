@@ -12,7 +12,7 @@ use Rattle.vr_store.proofs.PartsAt.{found-new, laid-at, laid-found, none-laid, o
 use Rattle.vr_store.proofs.PartsAt.{same-met}
 use Rattle.vr_store.proofs.Recorded.{at-part, at-shape, number-at, rested-at, set-at, stand-at}
 use Rattle.vr_store.proofs.Rooms.{met-first, room-at, room-still, room_by}
-use Rattle.vr_store.proofs.Worked.{set-worked, stored-met}
+use Rattle.vr_store.proofs.Worked.{set-unclaimed, stored-met}
 use Rattle.vr_store.proofs.stage.ask_at.Goals as goal
 
 pub room-requires : goal.room-requires
@@ -107,9 +107,9 @@ returns g c =
           (λ room is. at-part (λ (one : PartNow). HasMet one.known place) parts number after there
           (met-first before.known after.known place is))
           c.room.ensures.met;
-      set = set-worked store number before after parts store.space at same a b
+      set = set-unclaimed store number before after parts store.space at same a b
           c.room.ensures.keeps.count_same c.room.ensures.keeps.size_same
-          (inl (c.room.ensures.areas, refl)) c.requires.set;
+          c.room.ensures.areas refl c.requires.set;
       stored = λ told volume state stored. stored-met tells told a b c.room.ensures.keeps
           (g.met.B.Blocks.cur_may c.args.blocks.now told) store number before after parts
           at same volume state c.requires.set stored

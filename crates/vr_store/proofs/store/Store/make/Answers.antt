@@ -25,7 +25,7 @@ use Rattle.vr_store.proofs.ReadyParts.{change, kept, left-item, made-state, rest
 use Rattle.vr_store.proofs.ReadyParts.{to-set}
 use Rattle.vr_store.proofs.Recorded.{at-shape, number-at, set-at}
 use Rattle.vr_store.proofs.StoredAfter.{set-logged, stored-made}
-use Rattle.vr_store.proofs.Worked.{set-worked}
+use Rattle.vr_store.proofs.Worked.{set-unclaimed}
 use Rattle.vr_store.proofs.store.Store.make.Goals as goal
 
 pub set_at-requires : goal.set_at-requires
@@ -287,9 +287,9 @@ returns-clause-set g c =
     ensured.records is-set.idle)
     (subst (λ (count : ℕ). All (λ (by : ChangedBy). All (λ n. n < count) by.blocks) changed)
     (sym ensured.count) (c.set_at.ensures.each is-set.changed))
-    (set-worked v number before now parts v.space at
+    (set-unclaimed v number before now parts v.space at
     (ap (λ (s : Shape). part-split laid.number s None) ensured.part)
-    a b ensured.count ensured.size (inl (ensured.areas, refl)) is-set)
+    a b ensured.count ensured.size ensured.areas refl is-set)
 
 pub returns-clause-parts : goal.returns-clause-parts
 returns-clause-parts g c =

@@ -20,7 +20,7 @@ use Rattle.vr_store.proofs.PartsAt.{laid-at, laid-found, none-laid, only-met, pa
 use Rattle.vr_store.proofs.PartsAt.{same-met}
 use Rattle.vr_store.proofs.Recorded.{at-shape, number-at, set-at}
 use Rattle.vr_store.proofs.StoredAfter.{set-logged}
-use Rattle.vr_store.proofs.Worked.{set-worked}
+use Rattle.vr_store.proofs.Worked.{set-unclaimed}
 use Rattle.vr_store.proofs.store.Store.put_taken.Goals as goal
 
 pub set_back-requires-clause-on : goal.set_back-requires-clause-on
@@ -354,8 +354,8 @@ returns-clause-set g c =
     set-logged (record v { parts = parts }) v.log changed b refl is-set.sound is-set.idle
     (subst (λ (count : ℕ). All (λ (by : ChangedBy). All (λ n. n < count) by.blocks) changed)
     (sym c.set_back.ensures.count) (c.set_back.ensures.each is-set.changed))
-    (set-worked v number before now parts v.space at same a b c.set_back.ensures.count
-    c.set_back.ensures.size (inl (c.set_back.ensures.areas, refl)) is-set)
+    (set-unclaimed v number before now parts v.space at same a b c.set_back.ensures.count
+    c.set_back.ensures.size c.set_back.ensures.areas refl is-set)
 
 pub returns-clause-parts : goal.returns-clause-parts
 returns-clause-parts g c =

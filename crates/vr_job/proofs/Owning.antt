@@ -1,0 +1,278 @@
+-- Who owns the areas of a volume that is held: each part those that it reaches in the blocks.
+use Rattle.std.proofs.Common.{◌≡◌, ◌≢◌, ◌∙◌, ℕ, zero, suc, ◌+◌, ◌≤◌, ◌||◌, Bool, true, false}
+use Rattle.std.proofs.Common.{cond, List, [], ◌∷◌, Option, Some, None, refl, sym, ap, subst, arith}
+use Rattle.std.proofs.Common.{eqb, filter, get_or, length}
+use Rattle.std.specs.Prelude.{All, Contains}
+use Rattle.std.specs.List.{AllPairs, list_any}
+use Rattle.std.specs.Option.{option_map}
+use Rattle.std.proofs.lemmas.Bool.{false≢true}
+use Rattle.std.proofs.lemmas.Bool.Decides.{Decides-eqb}
+use Rattle.std.proofs.lemmas.Cmp.{nat_eq_equiv}
+use Rattle.std.proofs.lemmas.List.{get_or_default}
+use Rattle.std.proofs.lemmas.List.Elements.{All-cons, All-contains, All-contains_itself, All-nil}
+use Rattle.std.proofs.lemmas.List.Elements.{All-weaker}
+use Rattle.std.proofs.lemmas.Map.Made.{IsDistinct-from_AllPairs, length-le_from_is_member}
+use Rattle.std.proofs.lemmas.Map.Views.{Contains-from_any, list_any-from_Contains}
+use Rattle.vr_types.specs.Geometry.{area_count, head_block}
+use Rattle.vr_types.specs.Seen.{Left, Seen}
+use Rattle.vr_types.specs.Space.{is_owner}
+use Rattle.vr_types.specs.declared.geometry.Geometry.{Geometry}
+use Rattle.vr_types.specs.declared.unit.PartNo.{PartNo}
+use Rattle.vr_catalog.specs.Catalog.{entries_in}
+use Rattle.vr_catalog.specs.declared.entry.CatEntry.{CatEntry}
+use Rattle.vr_attach.specs.Laid.{ReachesArea, shape_in}
+use Rattle.vr_attach.proofs.CallerLemmas.{area-owner, laid-as, stays-reached}
+use Rattle.vr_chained.proofs.Reached.{chain-once}
+use Rattle.vr_history.specs.State.{State}
+use Rattle.vr_mount.specs.Areas.{AreOwners, IsReachedIn}
+use Rattle.vr_space.specs.Keyed.{Keyed}
+use Rattle.vr_space.specs.Known.{Known}
+use Rattle.vr_space.specs.Numbered.{IsFilled}
+use Rattle.vr_space.specs.Part.{KeyedShape, Knows, NumberedShape, OwnsChain, Shape, StaysIn}
+use Rattle.vr_space.specs.Part.{owned_count}
+use Rattle.vr_space.specs.Rosters.{IsOwnArea, chain_of}
+use Rattle.vr_space.proofs.CallerLemmas.{rest-sound, sound-image}
+use Rattle.vr_store.specs.Store.{IsRestedPart, IsSet, IsStored, OwnsItsChain, StoreNow, owners_of}
+use Rattle.vr_store.proofs.Among.{HasShape, among-shape}
+use Rattle.vr_store.proofs.CallerLemmas.{among-all, rested-at}
+use Rattle.vr_record_file.specs.Now.{state_now}
+use Rattle.vr_event.specs.Volume.{IsHeld, IsWhole, OwnLaid, VolumeNow}
+use Rattle.vr_job.specs.Owning.{HasOwners}
+
+-- ---- how many areas a part has
+
+-- the areas of a part, the first of which has this number
+abbrev owned_at : PartNo → ℕ → List (Option PartNo) → List ℕ
+owned_at part area [] = []
+owned_at part area (owner ∷ owners) =
+    cond (is_owner part owner) (area ∷ owned_at part (area + 1) owners)
+    (owned_at part (area + 1) owners)
+
+owned-counted : (part : PartNo) (area : ℕ) (owners : List (Option PartNo))
+    → length (owned_at part area owners) ≡ owned_count part owners
+owned-counted part area [] = refl
+owned-counted part area (owner ∷ owners) =
+    by_test (is_owner part owner) (owned-counted part (area + 1) owners)
+  where
+    by_test : (test : Bool)
+        → length (owned_at part (area + 1) owners) ≡ owned_count part owners
+        → length (cond test (area ∷ owned_at part (area + 1) owners)
+        (owned_at part (area + 1) owners))
+        ≡ length (cond test (owner ∷ filter (is_owner part) owners)
+        (filter (is_owner part) owners))
+    by_test true further = ap suc further
+    by_test false further = further
+
+owned-among : (part : PartNo) (area n : ℕ) (owners : List (Option PartNo))
+    → get_or owners n None ≡ Some part
+    → list_any (eqb (area + n)) (owned_at part area owners) ≡ true
+owned-among part area n [] is = absurd cc
+owned-among part area zero (owner ∷ owners) is =
+    ap (λ (test : Bool). list_any (eqb (area + 0)) (cond test
+    (area ∷ owned_at part (area + 1) owners) (owned_at part (area + 1) owners)))
+    (ap (is_owner part) is ∙ (Decides-eqb part.0 part.0).1 refl)
+    ∙ ap (λ (here : Bool). here || list_any (eqb (area + 0)) (owned_at part (area + 1) owners))
+    ((Decides-eqb (area + 0) area).1 (omega arith))
+owned-among part area (suc n) (owner ∷ owners) is = by_test (is_owner part owner)
+    (subst (λ (m : ℕ). list_any (eqb m) (owned_at part (area + 1) owners) ≡ true) (omega arith)
+    (owned-among part (area + 1) n owners is))
+  where
+    by_test : (test : Bool)
+        → list_any (eqb (area + suc n)) (owned_at part (area + 1) owners) ≡ true
+        → list_any (eqb (area + suc n)) (cond test (area ∷ owned_at part (area + 1) owners)
+        (owned_at part (area + 1) owners)) ≡ true
+    by_test true further = or-right (eqb (area + suc n) area) further
+      where
+        or-right : (here : Bool) {there : Bool} → there ≡ true → (here || there) ≡ true
+        or-right true is = refl
+        or-right false is = is
+    by_test false further = further
+
+-- areas of a part, none of which comes twice, are at most as many as it owns
+owned-most : (part : PartNo) (owners : List (Option PartNo)) (areas : List ℕ)
+    → AllPairs (λ (x y : ℕ). x ≢ y) areas
+    → All (λ (area : ℕ). get_or owners area None ≡ Some part) areas
+    → length areas ≤ owned_count part owners
+owned-most part owners areas once own = omega (
+  arith,
+  length-le_from_is_member nat_eq_equiv areas (owned_at part 0 owners)
+      (IsDistinct-from_AllPairs {eq = eqb} Decides-eqb areas once)
+      (λ area has. subst (λ (n : ℕ). list_any (eqb n) (owned_at part 0 owners) ≡ true) (omega arith)
+      (owned-among part 0 area owners
+      (All-contains (λ (one : ℕ). get_or owners one None ≡ Some part) areas area own
+      (Contains-from_any {eq = eqb} (λ x y same. (Decides-eqb x y).0 same) area areas has)))),
+  owned-counted part 0 owners,
+)
+
+-- and where they are as many, they are all that it owns
+owned-all : (part : PartNo) (owners : List (Option PartNo)) (areas : List ℕ)
+    → AllPairs (λ (x y : ℕ). x ≢ y) areas
+    → All (λ (area : ℕ). get_or owners area None ≡ Some part) areas
+    → owned_count part owners ≡ length areas → (area : ℕ) → get_or owners area None ≡ Some part
+    → Contains areas area
+owned-all part owners areas once own count area is =
+    by_test (list_any (eqb area) areas) refl
+  where
+    pairs : (Contains areas area → ⊥) → AllPairs (λ (x y : ℕ). x ≢ y) (area ∷ areas)
+    pairs apart zero zero d less within = absurd (omega (arith, less))
+    pairs apart zero (suc j) d less within = λ same. apart (
+      j,
+      omega (arith, within),
+      get_or_default areas j area d (omega (arith, within)) ∙ sym same,
+    )
+    pairs apart (suc i) zero d less within = absurd (omega (arith, less))
+    pairs apart (suc i) (suc j) d less within =
+        once i j d (omega (arith, less)) (omega (arith, within))
+
+    by_test : (test : Bool) → list_any (eqb area) areas ≡ test → Contains areas area
+    by_test true among =
+        Contains-from_any {eq = eqb} (λ x y same. (Decides-eqb x y).0 same) area areas among
+    by_test false none = absurd (omega (
+      arith,
+      count,
+      owned-most part owners (area ∷ areas)
+          (pairs (λ has. false≢true (sym none
+          ∙ list_any-from_Contains {eq = eqb} nat_eq_equiv area areas has)))
+          (All-cons (λ (area : ℕ). get_or owners area None ≡ Some part) area areas is own),
+    ))
+
+one-alone : (area : ℕ) → AllPairs (λ (x y : ℕ). x ≢ y) (area ∷ [])
+one-alone area i j d less within = absurd (omega (arith, less, within))
+
+-- ---- the areas that parts reach
+
+module _ (number : ℕ) (store : StoreNow) (state : State) (now : Seen) (set : IsSet store now)
+    (stored : IsStored number store state now) (left : Left now now.cur) where
+  abbrev geometry : Geometry
+  geometry = store.log.geometry
+
+  abbrev entries : List CatEntry
+  entries = entries_in (state.contents 0)
+
+  module _ (part : PartNo) (shape : Shape)
+      (laid : shape_in geometry entries part.0 ≡ Some shape) where
+    there : HasShape store.parts part.0 shape
+    there = among-shape store.parts part.0 shape (stored.whole part.0 shape laid)
+
+    rested : IsRestedPart store state now there.part
+    rested = rested-at store now set number state part.0 there.part there.found stored
+
+    abbrev known : Known
+    known = there.part.known
+
+    knows : Knows shape known now
+    knows = subst (λ (s : Shape). Knows s known now) there.is rested.knows
+
+    owns : OwnsChain shape known store.space
+    owns = subst (λ (s : Shape). OwnsChain s known store.space) there.is
+        (among-all (OwnsItsChain store.space) store.parts part.0 there.part set.owns there.found)
+
+    stays : StaysIn shape (owners_of store) now.cur
+    stays = subst (λ (s : Shape). StaysIn s (owners_of store) now.cur) there.is
+        (sound-image there.part.shape (owners_of store) now
+        (rest-sound there.part.shape (owners_of store) now rested.rests) now.cur
+        (record { each = λ n below inside. left.each n below })).within
+
+    -- it owns each area that it reaches
+    reached-own : (area : ℕ) → ReachesArea geometry shape now.cur area
+        → get_or store.space area None ≡ Some part
+    reached-own area reaches = by_owner (get_or store.space area None)
+        (sym (area-owner geometry store.space area (head_block geometry area) (omega arith)
+        (omega arith))
+        ∙ stays-reached geometry entries part.0 shape (owners_of store) now.cur area laid stays
+        reaches (head_block geometry area) (omega arith) (omega arith)
+        ∙ ap Some (laid-as geometry entries part.0 shape laid).number)
+      where
+        by_owner : (owner : Option PartNo)
+            → option_map (λ (one : PartNo). one.0) owner ≡ Some part.0 → owner ≡ Some part
+        by_owner None is = absurd cc
+        by_owner (Some one) is =
+            let same : one.0 ≡ part.0 = cc in
+            ap (λ (n : ℕ). Some (record { 0 = n })) same
+
+  -- and reaches each area that it owns
+  own-reached : (part : PartNo) (shape : Shape)
+      → shape_in geometry entries part.0 ≡ Some shape
+      → (area : ℕ) → get_or store.space area None ≡ Some part
+      → ReachesArea geometry shape now.cur area
+  own-reached part (KeyedShape keyed) laid area is =
+      home.1 ∙ ap (head_block geometry) (All-contains (λ (one : ℕ). home.0 ≡ one) (home.0 ∷ []) area
+      (All-cons (λ (one : ℕ). home.0 ≡ one) home.0 [] refl (All-nil (λ (one : ℕ). home.0 ≡ one)))
+      (owned-all part store.space (home.0 ∷ []) (one-alone home.0)
+      (All-cons (λ (one : ℕ). get_or store.space one None ≡ Some part) home.0 []
+      (reached-own part (KeyedShape keyed) laid home.0 home.1)
+      (All-nil (λ (one : ℕ). get_or store.space one None ≡ Some part)))
+      (ap (λ (n : ℕ). owned_count (record { 0 = n }) store.space)
+      (sym (laid-as geometry entries part.0 (KeyedShape keyed) laid).number)
+      ∙ owns part (KeyedShape keyed) laid) area is))
+    where
+      home : (at : ℕ) × (keyed.head ≡ head_block geometry at) × (keyed.area ≡ geometry.area)
+      home = (laid-as geometry entries part.0 (KeyedShape keyed) laid).areas
+  own-reached part (NumberedShape chain) laid area is =
+      owned-all part store.space (chain_of chain now.cur)
+      (chain-once chain (IsOwnArea chain (owners_of store)) (IsFilled chain) now.cur
+      (area_count chain.geometry) chain.first (stays part (NumberedShape chain) laid))
+      (All-weaker (Contains (chain_of chain now.cur))
+      (λ (one : ℕ). get_or store.space one None ≡ Some part)
+      (λ one has. reached-own part (NumberedShape chain) laid one has) (chain_of chain now.cur)
+      (All-contains_itself (chain_of chain now.cur)))
+      (ap (λ (n : ℕ). owned_count (record { 0 = n }) store.space)
+      (sym (laid-as geometry entries part.0 (NumberedShape chain) laid).number)
+      ∙ owns part (NumberedShape chain) laid
+      ∙ ap (λ (areas : List ℕ). length areas)
+      (knows part (NumberedShape chain) laid).blocks.chain.areas) area is
+
+  pub stored-owners : OwnLaid geometry entries store.space
+      → AreOwners geometry entries now.cur store.space
+  stored-owners unlaid = record {
+    count = set.areas;
+    owned = λ part area reached.
+        reached-own part reached.shape reached.laid area reached.reaches;
+    only = λ part area is. by_shape part area is (shape_in geometry entries part.0) refl;
+  }
+    where
+      by_shape : (part : PartNo) (area : ℕ) → get_or store.space area None ≡ Some part
+          → (found : Option Shape) → shape_in geometry entries part.0 ≡ found
+          → IsReachedIn geometry entries now.cur part.0 area
+      by_shape part area is None none = absurd (omega (
+        arith,
+        unlaid part none,
+        owned-most part store.space (area ∷ []) (one-alone area)
+            (All-cons (λ (one : ℕ). get_or store.space one None ≡ Some part) area [] is
+            (All-nil (λ (one : ℕ). get_or store.space one None ≡ Some part))),
+      ))
+      by_shape part area is (Some shape) laid = record {
+        shape = shape;
+        laid = laid;
+        reaches = own-reached part shape laid area is;
+      }
+
+-- So it is of a volume that is held.
+pub held-owners : {B : Type 0} (seen : B → Seen) (opening : State) (volume : VolumeNow B)
+    → IsWhole seen volume → IsHeld seen opening volume
+    → Left (seen volume.blocks) (seen volume.blocks).cur
+    → (state_now opening volume.file).stopped ≡ None
+    → HasOwners volume.file.geometry (state_now opening volume.file) (seen volume.blocks).cur
+held-owners seen opening volume whole held left none = record {
+  owners = volume.store.space;
+  are = subst (λ (g : Geometry). AreOwners g entries (seen volume.blocks).cur volume.store.space)
+      (whole.geometry stops)
+      (stored-owners volume.number volume.store (state_now opening volume.file)
+      (seen volume.blocks) (whole.set stops) (held.stored stops) left
+      (by-store (held.unlaid stops)));
+  owned = held.owned;
+}
+  where
+    stops : volume.file.stopped ≡ None
+    stops = held.file.now.stopped ∙ none
+
+    entries : List CatEntry
+    entries = entries_in ((state_now opening volume.file).contents 0)
+
+    -- by the shape that the store has, and the catalog of the state
+    by-store : OwnLaid volume.file.geometry volume.file.catalog volume.store.space
+        → OwnLaid volume.store.log.geometry entries volume.store.space
+    by-store is = subst (λ (g : Geometry). OwnLaid g entries volume.store.space)
+        (sym (whole.geometry stops))
+        (subst (λ (catalog : List CatEntry).
+        OwnLaid volume.file.geometry catalog volume.store.space) held.file.now.catalog is)
