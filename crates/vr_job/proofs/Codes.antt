@@ -1,7 +1,9 @@
--- The condition code of a job is 8 at most, so that its status tells a job that ran from the others.
-use Rattle.std.proofs.Common.{◌≡◌, ◌≤◌, ◌==◌, ◌⊎◌, inl, inr, ℕ, Bool, true, false, List, [], ◌∷◌}
+-- The condition code of a job is 16 at most.
+use Rattle.std.proofs.Common.{Option, ◌≡◌, ◌≤◌, ◌==◌, ◌⊎◌, inl, inr, ℕ, Bool, true, false, List, [], ◌∷◌, ◌++◌}
 use Rattle.std.proofs.Common.{arith, if◌then◌else◌, refl, subst, sym, ◌∙◌}
+use Rattle.std.specs.Prelude.{All}
 use Rattle.std.proofs.Math.Nat.{max-le}
+use Rattle.std.proofs.lemmas.List.Elements.{All-cons, All-head, All-nil, All-tail}
 use Rattle.vr_types.specs.declared.reply.Refusal.{Refusal}
 use Rattle.vr_types.specs.declared.reply.Refusal.TheVariants.{EndOfData, Duplicate, NotFound}
 use Rattle.vr_types.specs.declared.reply.Refusal.TheVariants.{NoAddress, NoSpace, NoPosition, NoGet}
@@ -14,10 +16,22 @@ use Rattle.vr_types.specs.declared.reply.Reply.TheVariants.{Done, Refused}
 use Rattle.vr_history.specs.declared.entry.Entry.{Entry}
 use Rattle.vr_history.specs.declared.entry.What.{What}
 use Rattle.vr_history.specs.declared.entry.What.TheVariants.{Asked, Undone, Claimed, Split, Faulted}
-use Rattle.vr_trace.specs.Code.{deck_code, entry_code, greatest, history_code, job_code}
-use Rattle.vr_trace.specs.Code.{reply_severity, severity, severity_of, step_code}
+use Rattle.vr_trace.specs.Code.{deck_code, decks_code, entry_code, greatest, history_code, job_code}
+use Rattle.vr_trace.specs.Code.{reply_severity, report_code, severity, severity_of, step_code}
 use Rattle.vr_trace.specs.declared.kept.KeptDeck.{KeptDeck}
 use Rattle.vr_trace.specs.declared.kept.KeptStep.{KeptStep}
+use Rattle.vr_trace.specs.declared.kept.KeptStep.TheVariants.{Decks, Utilities}
+use Rattle.vr_trace.specs.declared.report.StepReport.{StepReport}
+use Rattle.vr_ams_list.proofs.CallerLemmas.{report-few}
+use Rattle.vr_catalog.specs.declared.entry.CatEntry.{CatEntry}
+use Rattle.vr_job_text.specs.Job.{deck_steps}
+use Rattle.vr_job_text.specs.declared.job.JobStep.{JobStep}
+use Rattle.vr_job_text.specs.declared.job.JobStep.TheVariants as steps
+use Rattle.vr_job_text.specs.declared.text.Step.{Step}
+use Rattle.vr_job.specs.Done.{AreFew, HasRun, IsNothing, IsRunDone, NotBegun, NotRun}
+use Rattle.vr_job.specs.Reported.{AreReportedFrom}
+use Rattle.vr_types.specs.Faults.{Faults}
+use Rattle.vr_types.specs.Seen.{Seen}
 use Rattle.vr_job_ends.specs.Ends.{IsStatus, status_by, steps_shown}
 use Rattle.vr_job_ends.specs.declared.job_end.End.{End}
 use Rattle.vr_job_ends.specs.declared.job_end.End.TheVariants.{Ran}
@@ -72,20 +86,63 @@ history-few deck entries = greatest-few (entry_code deck) (entry-few deck) entri
 deck-few : (histories : List (List Entry)) (deck : KeptDeck) → deck_code histories deck ≤ 8
 deck-few histories deck = greatest-few (history_code deck.number) (history-few deck.number) histories
 
-step-few : (histories : List (List Entry)) (step : KeptStep)
-    → step_code histories step.decks ≤ 8
-step-few histories step = greatest-few (deck_code histories) (deck-few histories) step.decks
+step-few : (histories : List (List Entry)) (step : KeptStep) → decks_code histories step ≤ 8
+step-few histories (Decks step) =
+    greatest-few (deck_code histories) (deck-few histories) step.decks
+step-few histories (Utilities name) = omega arith
 
-job-few : (histories : List (List Entry)) (steps : List KeptStep) → job_code histories steps ≤ 8
-job-few histories steps =
-    greatest-few (λ (step : KeptStep). step_code histories step.decks) (step-few histories) steps
+-- ---- reports
+
+abbrev IsFew : StepReport → Type 0
+IsFew report = report.code ≤ 16
+
+reports-few : (reports : List StepReport) → All IsFew reports → greatest report_code reports ≤ 16
+reports-few [] few = omega arith
+reports-few (report ∷ reports) few =
+    max-le (All-head IsFew report reports few) (reports-few reports (All-tail IsFew report reports few))
+
+-- those of the steps of a job
+reported-few : (before : List Step) (catalogs : List (List CatEntry))
+    (histories : List (List Entry)) (job : List JobStep) (reports : List StepReport)
+    → AreReportedFrom before catalogs histories job reports → All IsFew reports
+reported-few before catalogs histories [] reports is = subst (All IsFew) (sym is) (All-nil IsFew)
+reported-few before catalogs histories (steps.Decks step ∷ job) reports is =
+    reported-few (before ++ step ∷ []) catalogs histories job reports is
+reported-few before catalogs histories (steps.Utilities step ∷ job) [] is = All-nil IsFew
+reported-few before catalogs histories (steps.Utilities step ∷ job) (report ∷ reports) is =
+    All-cons IsFew report reports
+    (subst IsFew (sym is.0.is) (report-few is.0.shown step.commands))
+    (reported-few before catalogs histories job reports is.1)
+
+job-few : (histories : List (List Entry)) (kept : List KeptStep) (reports : List StepReport)
+    → All IsFew reports → job_code histories kept reports ≤ 16
+job-few histories kept reports few = max-le
+    (omega (arith, greatest-few (decks_code histories) (step-few histories) kept))
+    (reports-few reports few)
 
 -- the status of a job whose steps ran
 pub ran-few : (faults faults' : ℕ) (trace : Trace) (status : ℕ) → IsStatus faults faults' trace status
-    → trace.end ≡ Ran → (status ≤ 8) ⊎ (status ≡ 28)
-ran-few faults faults' trace status (inl is) ran =
-    inl (subst (λ n. n ≤ 8) (sym (is ∙ by)) (job-few trace.histories (steps_shown trace.job)))
+    → All IsFew trace.reports → trace.end ≡ Ran → (status ≤ 16) ⊎ (status ≡ 28)
+ran-few faults faults' trace status (inl is) few ran = inl (subst (λ n. n ≤ 16) (sym (is ∙ by))
+    (job-few trace.histories (steps_shown trace.job) trace.reports few))
   where
     by : status_by trace.end trace ≡ status_by Ran trace
     by = subst (λ (end : End). status_by trace.end trace ≡ status_by end trace) ran refl
-ran-few faults faults' trace status (inr is) ran = inr is.0
+ran-few faults faults' trace status (inr is) few ran = inr is.0
+
+pub none-few : (trace : Trace) → IsNothing trace → AreFew trace.reports
+none-few trace nothing = subst (All IsFew) (sym nothing.reports) (All-nil IsFew)
+
+-- what was done for the words of a run has few reports
+pub done-few : {D : Type 0} (tells : Bool) (seen : D → Seen) (faults : D → Faults)
+    (in_memory lines : Bool) (left left' : Option (List ℕ)) (fails fails' : ℕ) (old new : List D)
+    (trace : Trace) (end : End)
+    → IsRunDone tells seen faults in_memory lines left left' fails fails' old new trace end
+    → AreFew trace.reports
+done-few tells seen faults in_memory lines left left' fails fails' old new trace end
+    (NotBegun line end_is nothing not_begun same_left same_fails) = none-few trace nothing
+done-few tells seen faults in_memory lines left left' fails fails' old new trace end
+    (NotRun line end_is nothing begun ends) = none-few trace nothing
+done-few tells seen faults in_memory lines left left' fails fails' old new trace end
+    (HasRun job begun has_begun read run) =
+    reported-few [] _ trace.histories job.steps trace.reports run.run.reported

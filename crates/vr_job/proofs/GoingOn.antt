@@ -2,6 +2,7 @@
 use Rattle.std.proofs.Common.{◌≡◌, ◌≢◌, inl, inr, ⊎_elim, ◌∙◌, ℕ, Bool, true, List, [], ◌∷◌, ◌++◌}
 use Rattle.std.proofs.Common.{Option, Some, None, refl, sym, ap, subst, ◌≤◌, ◌⊎◌, append_assoc, arith}
 use Rattle.std.proofs.Common.{length, max}
+use Rattle.std.specs.Prelude.{is_some}
 use Rattle.std.specs.List.{AllByRecursion}
 use Rattle.std.proofs.lemmas.List.{append-nil, append_cancel_left}
 use Rattle.vr_types.specs.declared.bound.Bound.{Bound}
@@ -39,7 +40,7 @@ use Rattle.vr_job.specs.Committed.{KeepTheCatalog}
 use Rattle.vr_job.specs.Crash.{HaveDoneCommit, IsCommit, IsDoneCommit, IsLeftBy}
 use Rattle.vr_job.specs.Events.{FaultsFollow, HasStopped, IsLeftWhile, IsOfEvents, KeepsAtRest}
 use Rattle.vr_job.specs.Events.{LeavesAtRest, OwnsAtRest, requests_in}
-use Rattle.vr_job.specs.Faultless.{AreFaultless}
+use Rattle.vr_job.specs.Faultless.{AreFaultless, has_stopped}
 use Rattle.vr_job.specs.Going.{GoesOn, HasRun, went-then}
 use Rattle.vr_job.specs.Serving.{IsServing, StaysServing}
 use Rattle.vr_job.proofs.Crashing.{held-left, left-more}
@@ -50,6 +51,7 @@ use Rattle.vr_job.proofs.Kept.{AreSized, held-kept}
 use Rattle.vr_job.proofs.Lacking.{SaysWhatLacks, event-lacking}
 use Rattle.vr_job.proofs.Owning.{held-owners}
 use Rattle.vr_job.proofs.ReadFaults.{acted-reads}
+use Rattle.vr_job.proofs.ShownStops.{acted-shows}
 use Rattle.vr_job.proofs.Stopping.{commit-first, commit-went, faults-follow, going-on, stop-of}
 use Rattle.vr_job.proofs.Stopping.{stopped-more}
 use Rattle.vr_job.proofs.Undoing.{shows-same}
@@ -120,6 +122,8 @@ module _ {B : Type 0} (seen : B → Seen) (faults : B → Faults) (old new : Vol
     writes = acted.writes;
     stops = λ same. (no-fault same).stopped;
     faultless = λ same. (no-fault same).faultless;
+    shows = acted-shows (faults old.blocks) (faults new.blocks) act after unit line request old.file
+        new.file acted;
   }
     where
       no-fault : (faults new.blocks).writes ≡ (faults old.blocks).writes → NoFault old.file new.file
@@ -449,6 +453,8 @@ module _ {B : Type 0} (seen : B → Seen) (old mid : VolumeNow B) (numbers : Lis
     writes = omega (arith, ap (λ (v : VolumeNow B). (faults v.blocks).writes) same);
     stops = λ as_before. ap (λ (v : VolumeNow B). v.file.stopped) same;
     faultless = λ as_before before. subst AreFaultless (sym entries-stay) before;
+    shows = λ before. ap is_some (ap (λ (v : VolumeNow B). v.file.stopped) same) ∙ before
+        ∙ ap has_stopped (sym entries-stay);
   }
 
   -- and the volume serves as before

@@ -16,6 +16,8 @@ pub mod Lacking
 pub mod Owning
 pub mod Placing
 pub mod RunCommitted
+pub mod Reported
+pub mod ShownStops
 pub mod Stamps
 pub mod Faultless
 pub mod Stopping

@@ -2,7 +2,7 @@
 use Rattle.std.proofs.Common.{◌≡◌, ◌∙◌, ◌<◌, ◌≤◌, ◌+◌, ◌^◌, inl, inr, ⊎_elim, ℕ, zero, suc, Bool}
 use Rattle.std.proofs.Common.{List, [], ◌∷◌, ◌++◌, Result, Ok, Err, Some, None, Option, arith, refl}
 use Rattle.std.proofs.Common.{sym, ap, subst, get_or, length, map}
-use Rattle.std.specs.Prelude.{All, Contains, IsErr, IsOk, IsTrue, is_ok, slice_get}
+use Rattle.std.specs.Prelude.{All, Contains, IsErr, IsOk, IsTrue, is_ok, is_some, slice_get}
 use Rattle.std.proofs.lemmas.List.{append-nil, map-append}
 use Rattle.std.proofs.lemmas.List.Elements.{All-cons, All-nil}
 use Rattle.vr_types.specs.Faults.{Faults}
@@ -10,6 +10,8 @@ use Rattle.vr_types.specs.Seen.{Seen}
 use Rattle.vr_catalog.specs.declared.entry.CatEntry.{CatEntry}
 use Rattle.vr_history.specs.Merged.{in_order, last_stamp, numbered_from, part_of_deck}
 use Rattle.vr_history.specs.declared.entry.Entry.{Entry}
+use Rattle.vr_job_text.specs.Job.{deck_steps}
+use Rattle.vr_job_text.specs.declared.job.JobStep.{JobStep}
 use Rattle.vr_job_text.specs.declared.text.Step.{Step}
 use Rattle.vr_event.specs.Volume.{VolumeNow}
 use Rattle.vr_recover.specs.declared.open_no.OpenNo.{OpenNo}
@@ -22,10 +24,13 @@ use Rattle.vr_job_ends.specs.declared.job_end.End.TheVariants.{Line, Ran, Unsync
 use Rattle.vr_trace.specs.Laws.{AreRising, entry_of, of_deck}
 use Rattle.vr_trace.specs.declared.ending.EndLine.{EndLine}
 use Rattle.vr_trace.specs.declared.ending.EndLine.TheVariants.{DeviceFault, StampsUsedUp}
+use Rattle.vr_trace.specs.declared.report.StepReport.{StepReport}
 use Rattle.vr_worker.specs.declared.no.RunNo.{RunNo}
 use Rattle.vr_worker.specs.declared.no.RunNo.TheVariants as nos
-use Rattle.vr_job.specs.Going.{Follows}
+use Rattle.vr_job.specs.Faultless.{has_stopped}
+use Rattle.vr_job.specs.Going.{Follows, ShowsStop}
 use Rattle.vr_job.specs.OpenEnds.{IsOpenLine, open_line}
+use Rattle.vr_job.specs.Reported.{AreReportedFrom}
 use Rattle.vr_job.specs.Shelf.{Answer, AreClosing, AreOpen, Closing, HaveClosed, HaveOpened, HaveRun, HaveRunWhere}
 use Rattle.vr_job.specs.Shelf.{IsClosing, IsRest, IsUnsynced, Opening, catalog_of, end_of, entries_on}
 use Rattle.vr_job.specs.ShelfRun.{AreEmpty, AreVolumeRuns, AsAsked, ByClosing, ByOpening, IsShelfEnd, IsShelfRun}
@@ -33,6 +38,7 @@ use Rattle.vr_job.specs.ShelfRun.{VolumeOf, WereRun, run_end, run_line}
 use Rattle.vr_job.specs.VolumeRun.{HasFaultCause, IsFaultEnd, IsNotOpen}
 use Rattle.vr_job.specs.VolumeRun.{IsOpen, IsUnopened, IsVolumeRun}
 use Rattle.vr_job.proofs.Devices.{same-some}
+use Rattle.vr_job.proofs.Reported.{reported-from, reported-none}
 use Rattle.vr_job.proofs.VolumeRuns.{ended-rose, volume-run, was-run}
 
 -- ---- ends
@@ -94,7 +100,12 @@ of-none : (steps : List Step) → AreOfSteps steps []
 of-none [] = refl
 of-none (step ∷ steps) = ([], [], refl, (λ k entry near. absurd (omega (arith, near))), of-none steps)
 
-module _ {D : Type 0} (tells : Bool) (seen : D → Seen) (faults : D → Faults) (steps : List Step) where
+module _ {D : Type 0} (tells : Bool) (seen : D → Seen) (faults : D → Faults)
+    (job : List JobStep) where
+  -- its steps of decks
+  abbrev steps : List Step
+  steps = deck_steps job
+
   abbrev Since : VolumeNow D → VolumeNow D → Type 0
   Since = IsSinceSteps entries_on (Follows tells seen faults) steps
 
@@ -564,18 +575,31 @@ module _ {D : Type 0} (tells : Bool) (seen : D → Seen) (faults : D → Faults)
 
   -- ---- the whole
 
+  -- a volume that was opened shows that it hasn't stopped
+  open-shows : (openings : List (Opening D)) (number place : ℕ) (volume : VolumeNow D)
+      → AreOpen tells seen faults number openings
+      → slice_get (volumes_in openings) place ≡ Some volume → ShowsStop volume.file
+  open-shows [] number place volume opens_so is = absurd cc
+  open-shows (opening ∷ openings) number zero volume opens_so is =
+      let same : opening.volume ≡ volume = cc in
+      subst (λ (v : VolumeNow D). ShowsStop v.file) same
+      (ap is_some opens_so.0.going ∙ ap has_stopped (sym opens_so.0.begins))
+  open-shows (opening ∷ openings) number (suc place) volume opens_so is =
+      open-shows openings (number + 1) place volume opens_so.1 is
+
   module _ (devices unopened shelf : List D) (volumes ran : List (VolumeNow D))
-      (histories : List (List Entry)) (by : Result (Unit {0}) RunNo) (unsynced : Option ℕ)
+      (histories : List (List Entry)) (reports : List StepReport)
+      (by : Result (Unit {0}) RunNo) (unsynced : Option ℕ)
       (closed : HaveClosed tells seen faults ran shelf histories unsynced) where
     abbrev closings : List (Closing D)
     closings = closed.each
 
     abbrev Run : End → Type 0
-    Run end = IsShelfRun tells seen faults steps end
+    Run end = IsShelfRun tells seen faults job end reports
         (histories ++ map (λ (device : D). []) unopened) devices (shelf ++ unopened)
 
     module _ (value : Unit {0}) (opened : HaveOpened tells seen faults devices volumes unopened (Ok value))
-        (has_run : HaveRun tells seen faults steps by volumes ran) where
+        (has_run : HaveRun tells seen faults job by reports volumes ran) where
       abbrev openings : List (Opening D)
       openings = opened.first
 
@@ -595,6 +619,11 @@ module _ {D : Type 0} (tells : Bool) (seen : D → Seen) (faults : D → Faults)
       kept-are = ap (λ (them : List D). histories ++ map (λ (device : D). []) them)
           opened.rest_is.1
           ∙ append-nil histories ∙ closed.histories_are ∙ entries-are openings closings since
+
+      shows : (place : ℕ) (volume : VolumeNow D) → slice_get volumes place ≡ Some volume
+          → ShowsStop volume.file
+      shows place volume there = open-shows openings 0 place volume opened.opens
+          (ap (λ (them : List (VolumeNow D)). slice_get them place) (sym opened.volumes_are) ∙ there)
 
       ran-entries : map entries_on ran ≡ map (λ (one : VolumeOf D). one.entries) all
       ran-entries = ap (λ (them : List (VolumeNow D)). map entries_on them) closed.volumes_are
@@ -627,6 +656,16 @@ module _ {D : Type 0} (tells : Bool) (seen : D → Seen) (faults : D → Faults)
             (subst (ComeInSteps steps) ran-entries has_run.in_steps);
         gapless = subst (AreGapless steps) (sym kept-are)
             (subst (AreGapless steps) ran-entries has_run.gapless);
+        reported = subst (λ (them : List (List Entry)). AreReportedFrom []
+            (map (λ (one : VolumeOf D). one.catalog) all) them job reports) (sym kept-are)
+            (subst (λ (them : List (List CatEntry)). AreReportedFrom [] them
+            (map (λ (one : VolumeOf D). one.entries) all) job reports)
+            (ap (λ (them : List (VolumeNow D)). map catalog_of them) opened.volumes_are
+            ∙ catalogs-are openings closings since)
+            (subst (λ (them : List (List Entry)). AreReportedFrom [] (map catalog_of volumes) them
+            job reports) ran-entries
+            (reported-from tells seen faults volumes ran shows [] job reports has_run.reported)));
+        all_reported = has_run.all_reported;
         stamps = λ used.
             let shown = has_run.stamps (stamps used) in
             let there = subst (λ (them : List (VolumeNow D)). Contains them shown.volume)
@@ -644,7 +683,7 @@ module _ {D : Type 0} (tells : Bool) (seen : D → Seen) (faults : D → Faults)
     -- all volumes were run
     ran-all : (value : Unit {0})
         (opened : HaveOpened tells seen faults devices volumes unopened (Ok value))
-        (has_run : HaveRun tells seen faults steps by volumes ran) (end : End)
+        (has_run : HaveRun tells seen faults job by reports volumes ran) (end : End)
         → AreOwed end 0 opened.first closings → IsTrue tells
         → WereRun tells seen faults end 0 (volumes-of opened.first closings)
     ran-all value opened has_run end owed told = each-ran end 0 opened.first closings opened.opens
@@ -653,7 +692,7 @@ module _ {D : Type 0} (tells : Bool) (seen : D → Seen) (faults : D → Faults)
     opened-run : (value : Unit {0})
         → HaveOpened tells seen faults devices volumes unopened (Ok value)
         → (asked : Result (Unit {0}) RunNo) → by ≡ asked
-        → HaveRun tells seen faults steps by volumes ran → (failed : Option ℕ)
+        → HaveRun tells seen faults job by reports volumes ran → (failed : Option ℕ)
         → unsynced ≡ failed → Run (end_of (Ok value) asked failed)
     opened-run value opened (Err fault) is has_run failed same =
         let owed = owed-asked fault 0 opened.first closings in
@@ -680,8 +719,8 @@ module _ {D : Type 0} (tells : Bool) (seen : D → Seen) (faults : D → Faults)
 
     unopened-shelf : (end : EndLine)
         → HaveOpened tells seen faults devices volumes unopened (Err end) → ran ≡ volumes
-        → Run (Line end)
-    unopened-shelf end opened same = record {
+        → reports ≡ [] → Run (Line end)
+    unopened-shelf end opened same none = record {
       volumes = all;
       old_are = opened.devices_are
           ∙ ap (λ (them : List D). map (λ (one : Opening D). one.device) openings ++ them) rest.3
@@ -710,6 +749,11 @@ module _ {D : Type 0} (tells : Bool) (seen : D → Seen) (faults : D → Faults)
       in_steps = subst (ComeInSteps steps) (sym kept-are) (none-in-steps all all-empty);
       gapless = subst (AreGapless steps) (sym kept-are)
           (gapless-none (λ (one : VolumeOf D). one.entries) steps all (each-empty all all-empty));
+      reported = subst (AreReportedFrom [] (map (λ (one : VolumeOf D). one.catalog) all)
+          (histories ++ map (λ (device : D). []) unopened) job) (sym none)
+          (reported-none [] (map (λ (one : VolumeOf D). one.catalog) all)
+          (histories ++ map (λ (device : D). []) unopened) job);
+      all_reported = tt;
       stamps = λ used. absurd (open-line-stamps (length openings) fault.line.0
           (sym fault.line.1 ∙ line-is end StampsUsedUp used));
       ends = ByOpening (length openings) one end
@@ -771,8 +815,8 @@ module _ {D : Type 0} (tells : Bool) (seen : D → Seen) (faults : D → Faults)
     -- volumes that were opened, run and closed
     pub shelf-run : (opened : Answer)
         → HaveOpened tells seen faults devices volumes unopened opened
-        → HaveRunWhere (is_ok opened) tells seen faults steps by volumes ran
+        → HaveRunWhere (is_ok opened) tells seen faults job by reports volumes ran
         → Run (end_of opened by unsynced)
     shelf-run (Ok value) opened has_run =
         opened-run value opened by refl has_run unsynced refl
-    shelf-run (Err end) opened has_run = unopened-shelf end opened has_run.0
+    shelf-run (Err end) opened has_run = unopened-shelf end opened has_run.0 has_run.2

@@ -8,7 +8,8 @@ use Rattle.vr_types.specs.Seen.{Seen}
 use Rattle.vr_types.specs.declared.fault.Failed.{Failed}
 use Rattle.vr_history.specs.declared.entry.Entry.{Entry}
 use Rattle.vr_event.specs.Volume.{VolumeNow}
-use Rattle.vr_job_text.specs.declared.text.Step.{Step}
+use Rattle.vr_job_text.specs.declared.job.JobStep.{JobStep}
+use Rattle.vr_trace.specs.declared.report.StepReport.{StepReport}
 use Rattle.vr_trace.specs.declared.ending.EndLine.{EndLine}
 use Rattle.vr_worker.specs.Decks.{ArePlaced}
 use Rattle.vr_worker.specs.declared.no.RunNo.{RunNo}
@@ -337,12 +338,13 @@ module _ {D : Type 0} (tells : Bool) (seen : D → Seen) (faults : D → Faults)
             ∙ length-map is.each (λ (one : Closing D). one.entries) ∙ sym all,
       )
 
-  pub ran-count : (steps : List Step) (result : Result (Unit {0}) RunNo)
+  pub ran-count : (steps : List JobStep) (result : Result (Unit {0}) RunNo)
+      (reports : List StepReport)
       (old new : List (VolumeNow D)) (are_open : Bool)
-      → HaveRunWhere are_open tells seen faults steps result old new
+      → HaveRunWhere are_open tells seen faults steps result reports old new
       → length new ≡ length old
-  ran-count steps result old new true is = is.since.count
-  ran-count steps result old new false is = ap (λ (them : List (VolumeNow D)). length them) is.0
+  ran-count steps result reports old new true is = is.since.count
+  ran-count steps result reports old new false is = ap (λ (them : List (VolumeNow D)). length them) is.0
 
   -- ---- what is known of volumes that are open
 

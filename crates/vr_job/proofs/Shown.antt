@@ -3,7 +3,8 @@ use Rattle.std.proofs.Common.{◌≡◌, ◌∙◌, ℕ, Bool, List, Option, ap,
 use Rattle.vr_types.specs.Faults.{Faults}
 use Rattle.vr_types.specs.Seen.{Seen}
 use Rattle.vr_history.specs.declared.entry.Entry.{Entry}
-use Rattle.vr_job_text.specs.declared.text.JobText.{JobText}
+use Rattle.vr_job_text.specs.declared.job.Job.{Job}
+use Rattle.vr_trace.specs.declared.report.StepReport.{StepReport}
 use Rattle.vr_job_ends.specs.declared.job_end.End.{End}
 use Rattle.vr_job_ends.specs.declared.job_end.Trace.{Trace}
 use Rattle.vr_job.specs.ShelfRun.{IsShelfRun}
@@ -13,19 +14,23 @@ module _ (old new : Trace) (end : End) (same : new ≡ record old { end = end })
   nothing-shown : IsNothing old → IsNothing new
   nothing-shown nothing = record {
     job = ap (λ (trace : Trace). trace.job) same ∙ nothing.job;
+    reports = ap (λ (trace : Trace). trace.reports) same ∙ nothing.reports;
     histories = ap (λ (trace : Trace). trace.histories) same ∙ nothing.histories;
   }
 
   module _ {D : Type 0} (tells : Bool) (seen : D → Seen) (faults : D → Faults) where
-    run-on-shown : (job : JobText) (lines : Bool) (begun left : List D) (by : End)
+    run-on-shown : (job : Job) (lines : Bool) (begun left : List D) (by : End)
         → HasRunOn tells seen faults job lines begun left old by
         → HasRunOn tells seen faults job lines begun left new by
     run-on-shown job lines begun left by run = record {
       kept = ap (λ (trace : Trace). trace.job) same ∙ run.kept;
       lines_are = ap (λ (trace : Trace). trace.lines) same ∙ run.lines_are;
-      run = subst (λ (histories : List (List Entry)).
-          IsShelfRun tells seen faults job.steps by histories begun left)
-          (sym (ap (λ (trace : Trace). trace.histories) same)) run.run;
+      run = subst (λ (reports : List StepReport).
+          IsShelfRun tells seen faults job.steps by reports new.histories begun left)
+          (sym (ap (λ (trace : Trace). trace.reports) same))
+          (subst (λ (histories : List (List Entry)).
+          IsShelfRun tells seen faults job.steps by old.reports histories begun left)
+          (sym (ap (λ (trace : Trace). trace.histories) same)) run.run);
     }
 
     pub run-shown : (in_memory lines : Bool) (left left' : Option (List ℕ)) (fails fails' : ℕ)

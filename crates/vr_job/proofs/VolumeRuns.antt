@@ -54,6 +54,7 @@ goes-start seen faults volume whole = record {
   writes = omega arith;
   stops = λ same. refl;
   faultless = λ same before. before;
+  shows = λ before. before;
 }
 
 -- what a crash may leave after calls that put nothing, it might have left before

@@ -1,12 +1,13 @@
 -- What is done for the words of the program. The rules are this project's own.
-use Rattle.std.specs.Prelude.{◌≡◌, ◌<◌, ◌≤◌, ◌⊎◌, ℕ, Bool, true, false, List, []}
+use Rattle.std.specs.Prelude.{◌≡◌, ◌<◌, ◌≤◌, ◌⊎◌, ℕ, All, Bool, true, false, List, []}
 use Rattle.std.specs.Prelude.{Option, Some, None, length, min, ◌^◌}
 use Rattle.std.specs.Prelude.{◌-◌}
 use Rattle.vr_types.specs.Faults.{Faults}
 use Rattle.vr_types.specs.Seen.{Seen}
-use Rattle.vr_job_text.specs.declared.text.JobText.{JobText}
+use Rattle.vr_job_text.specs.declared.job.Job.{Job}
 use Rattle.vr_trace.specs.declared.ending.EndLine.{EndLine}
 use Rattle.vr_trace.specs.declared.ending.EndLine.TheVariants.{Formatted, NoCommand, NoMemory, Shelf}
+use Rattle.vr_trace.specs.declared.report.StepReport.{StepReport}
 use Rattle.vr_job_ends.specs.Ends.{TakesMemory}
 use Rattle.vr_job_ends.specs.Reading.{IsInputEnd, IsJobRead}
 use Rattle.vr_job_ends.specs.declared.job_end.End.{End}
@@ -15,9 +16,14 @@ use Rattle.vr_job_ends.specs.declared.job_end.Trace.{Trace}
 use Rattle.vr_job.specs.Formats.{AreAllowed, AreFormatted, IsFormatEnd}
 use Rattle.vr_job.specs.ShelfRun.{IsShelfRun}
 
--- the trace has no job and no history
+-- the code of each report is 16 at most
+abbrev pub AreFew : List StepReport → Type 0
+AreFew reports = All (λ (report : StepReport). report.code ≤ 16) reports
+
+-- the trace has no job, no report and no history
 pub record IsNothing (trace : Trace) : Type 0 where
   pub job : trace.job ≡ None
+  pub reports : trace.reports ≡ []
   pub histories : trace.histories ≡ []
 
 -- ---- formats
@@ -48,16 +54,16 @@ HasNotBegun tells seen faults false old new line = ((length old ≡ 0) ⊎ (16 <
     × (line ≡ Shelf (length old)) × (new ≡ old)
 HasNotBegun tells seen faults true old new line = IsFormatEnd tells seen faults 1 64 15 old new line
 
--- The job was read, and its decks were run on the volumes of the devices, from where the run began.
+-- The job was read, and its steps were run on the volumes of the devices, from where the run began.
 pub record HasRunOn {D : Type 0} (tells : Bool) (seen : D → Seen) (faults : D → Faults)
-    (job : JobText) (lines : Bool) (begun new : List D) (trace : Trace) (end : End) : Type 0 where
+    (job : Job) (lines : Bool) (begun new : List D) (trace : Trace) (end : End) : Type 0 where
   pub kept : trace.job ≡ Some job
   pub lines_are : trace.lines ≡ lines
-  pub run : IsShelfRun tells seen faults job.steps end trace.histories begun new
+  pub run : IsShelfRun tells seen faults job.steps end trace.reports trace.histories begun new
 
 -- How the run of a job comes to its end, with what the source had left and how often it had failed,
 -- before and after: the run doesn't begin, and nothing is read; or the input isn't a job, or memory
--- ran out; or the job is read and its decks are run.
+-- ran out; or the job is read and its steps are run.
 pub data IsRunDone {D : Type 0} (tells : Bool) (seen : D → Seen) (faults : D → Faults)
     (in_memory lines : Bool) (left left' : Option (List ℕ)) (fails fails' : ℕ) (old new : List D)
     (trace : Trace) (end : End) : Type 0 where
@@ -67,7 +73,7 @@ pub data IsRunDone {D : Type 0} (tells : Bool) (seen : D → Seen) (faults : D �
   NotRun : (line : EndLine) → end ≡ Line line → IsNothing trace
       → HasBegun tells seen in_memory old new → IsInputEnd left left' fails fails' line
       → IsRunDone tells seen faults in_memory lines left left' fails fails' old new trace end
-  HasRun : (job : JobText) (begun : List D) → HasBegun tells seen in_memory old begun
+  HasRun : (job : Job) (begun : List D) → HasBegun tells seen in_memory old begun
       → IsJobRead left left' fails fails' job
       → HasRunOn tells seen faults job lines begun new trace end
       → IsRunDone tells seen faults in_memory lines left left' fails fails' old new trace end

@@ -1,5 +1,6 @@
 -- What goes on of a volume from event to event. The rules are this project's own.
 use Rattle.std.specs.Prelude.{◌≡◌, ◌≢◌, ◌⊎◌, ◌≤◌, ◌+◌, ℕ, Bool, true, IsTrue, List, ◌++◌, None}
+use Rattle.std.specs.Prelude.{is_some}
 use Rattle.std.proofs.Common.{◌∙◌, inl, inr, ⊎_elim, append_assoc, ap, arith, refl, subst, sym}
 use Rattle.vr_types.specs.Faults.{Faults}
 use Rattle.vr_types.specs.Moments.{Guards}
@@ -7,18 +8,23 @@ use Rattle.vr_types.specs.Seen.{Seen}
 use Rattle.vr_history.specs.Merged.{IsStamped}
 use Rattle.vr_history.specs.State.{State}
 use Rattle.vr_history.specs.declared.entry.Entry.{Entry}
-use Rattle.vr_record_file.specs.Now.{has_deck}
+use Rattle.vr_record_file.specs.Now.{FileNow, has_deck}
 use Rattle.vr_event.specs.Volume.{IsHeld, IsWhole, VolumeNow}
 use Rattle.vr_job.specs.Committed.{KeepTheCatalog}
 use Rattle.vr_job.specs.Crash.{IsLeftBy}
 use Rattle.vr_job.specs.Events.{HasStopped, IsOfEvents}
-use Rattle.vr_job.specs.Faultless.{AreFaultless}
+use Rattle.vr_job.specs.Faultless.{AreFaultless, has_stopped}
 use Rattle.vr_job.specs.ReadFaults.{read-faults-append, read_faults}
+
+-- Its history shows whether the volume has stopped.
+abbrev pub ShowsStop : FileNow → Type 0
+ShowsStop file = is_some file.stopped ≡ has_stopped file.entries
 
 -- What goes on from event to event whether or not the device reports its contents: the volume is
 -- whole, its shape and catalog stay, each deck stays entered, entries are added alone, at stamps
 -- that rise, and no count of faults falls. Each reply 904 is one that the count of reads rose for.
--- Where no write failed, the volume isn't stopped, and no fault is entered.
+-- Where no write failed, the volume isn't stopped, and no fault is entered; and where it is, its
+-- history shows it.
 pub record GoesOn {B : Type 0} (seen : B → Seen) (faults : B → Faults) (old new : VolumeNow B)
     : Type 0 where
   pub whole : IsWhole seen new
@@ -36,6 +42,7 @@ pub record GoesOn {B : Type 0} (seen : B → Seen) (faults : B → Faults) (old 
       → new.file.stopped ≡ old.file.stopped
   pub faultless : (faults new.blocks).writes ≡ (faults old.blocks).writes
       → AreFaultless old.file.entries → AreFaultless new.file.entries
+  pub shows : ShowsStop old.file → ShowsStop new.file
 
 -- What goes on where it does, from an opening and the blocks as they were then: the history is
 -- legal, gives what the volume has, and leaves the catalog as it is; each image at each moment
@@ -91,6 +98,7 @@ goes-then {B} seen faults a b c first second = record {
   stops = λ same. second.stops (second-same same) ∙ first.stops (first-same same);
   faultless = λ same before. second.faultless (second-same same)
       (first.faultless (first-same same) before);
+  shows = λ before. second.shows (first.shows before);
 }
   where
     first-same : (faults c.blocks).writes ≡ (faults a.blocks).writes

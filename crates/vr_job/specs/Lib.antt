@@ -6,6 +6,7 @@ pub mod Owning
 pub mod Committed
 pub mod Faultless
 pub mod ReadFaults
+pub mod Reported
 pub mod Going
 pub mod Serving
 pub mod Opened

@@ -1,9 +1,10 @@
 -- A volume that a latch guards, while decks run: what is known of it whenever the latch is free. The
 -- rules are this project's own.
-use Rattle.std.specs.Prelude.{◌≡◌, ℕ, Bool, true, false, IsTrue}
+use Rattle.std.specs.Prelude.{◌≡◌, ℕ, Bool, true, false, IsTrue, is_some}
 use Rattle.vr_types.specs.Faults.{Faults}
 use Rattle.vr_types.specs.Seen.{Seen}
 use Rattle.vr_types.specs.declared.unit.Unit.{Unit as UnitOfRecovery}
+use Rattle.vr_ams_list.specs.Shown.{Shown}
 use Rattle.vr_record_file.specs.Now.{FileNow, is_undoing, number_of}
 use Rattle.vr_event.specs.Volume.{Holds, IsWhole, VolumeNow}
 use Rattle.vr_event.specs.declared.act.Act.{Act}
@@ -20,6 +21,13 @@ unit_of deck file = record { deck = deck; number = number_of file.numbers deck }
 abbrev pub ShowUndoing : FileNow → Type 0
 ShowUndoing file = (unit : UnitOfRecovery) → is_undoing unit file.entries ≡ true
     → (unit ≡ unit_of unit.deck file) × (undoes (deck_entries unit.deck file.entries) ≡ true)
+
+-- what the commands of IDCAMS see of it
+abbrev pub shown_of : {B : Type 0} → VolumeNow B → Shown
+shown_of volume = record {
+  catalog = volume.file.catalog;
+  stopped = is_some volume.file.stopped;
+}
 
 -- The volume is whole, and where the device reports its contents it holds from some opening; and
 -- what has begun to undo shows it.

@@ -1,13 +1,16 @@
 -- The run of a job on the volumes of the devices of a shelf, from their opening to the end. The rules
 -- are this project's own.
 use Rattle.std.specs.Prelude.{◌≡◌, ◌<◌, ◌≤◌, ◌+◌, ◌^◌, ℕ, Bool, List, [], ◌∷◌, Result, Ok, Err}
-use Rattle.std.specs.Prelude.{IsOk, IsTrue, Some, map, slice_get}
+use Rattle.std.specs.Prelude.{IsOk, IsTrue, OnOk, Some, length, map, slice_get}
 use Rattle.vr_types.specs.Faults.{Faults}
 use Rattle.vr_types.specs.Seen.{Seen}
 use Rattle.vr_catalog.specs.declared.entry.CatEntry.{CatEntry}
 use Rattle.vr_history.specs.Merged.{last_stamp}
 use Rattle.vr_history.specs.declared.entry.Entry.{Entry}
+use Rattle.vr_job_text.specs.Job.{deck_steps}
+use Rattle.vr_job_text.specs.declared.job.JobStep.{JobStep}
 use Rattle.vr_job_text.specs.declared.text.Step.{Step}
+use Rattle.vr_trace.specs.declared.report.StepReport.{StepReport}
 use Rattle.vr_worker.specs.Steps.{AreGapless, ComeInSteps, HasAsked}
 use Rattle.vr_job_ends.specs.declared.job_end.End.{End}
 use Rattle.vr_job_ends.specs.declared.job_end.End.TheVariants.{Line, Ran, Unsynced}
@@ -16,6 +19,8 @@ use Rattle.vr_trace.specs.declared.ending.EndLine.TheVariants.{NoMemory, StampsU
 use Rattle.vr_worker.specs.declared.no.RunNo.{RunNo}
 use Rattle.vr_worker.specs.declared.no.RunNo.TheVariants as nos
 use Rattle.vr_job.specs.OpenEnds.{IsOpenLine}
+use Rattle.vr_worker.specs.Reports.{utility_count}
+use Rattle.vr_job.specs.Reported.{AreReportedFrom}
 use Rattle.vr_job.specs.VolumeRun.{IsRun, IsUnopened, IsVolumeRun}
 
 -- how a job ends whose requests weren't all answered
@@ -82,21 +87,27 @@ pub data IsShelfEnd {D : Type 0} (tells : Bool) (seen : D → Seen) (faults : D 
       → AreEmpty volumes → IsShelfEnd tells seen faults volumes by end
 
 -- The decks of the job asked what they request by the catalogs of the volumes; over all volumes the
--- entries of one step come before those of the next, and no stamp is left out; each volume was run;
--- as many devices come back, each at its place, and so does the history of each volume; stamps were
--- used up only where a history shows it; and so the job ended.
+-- entries of one step come before those of the next, and no stamp is left out; the steps of IDCAMS that
+-- ran have these reports, all of them where the job came through; each volume was run; as many devices
+-- come back, each at its place, and so does the history of each volume; stamps were used up only where
+-- a history shows it; and so the job ended.
 pub record IsShelfRun {D : Type 0} (tells : Bool) (seen : D → Seen) (faults : D → Faults)
-    (steps : List Step) (end : End) (histories : List (List Entry)) (old new : List D) : Type 0
+    (steps : List JobStep) (end : End) (reports : List StepReport) (histories : List (List Entry))
+    (old new : List D) : Type 0
   where
     pub volumes : List (VolumeOf D)
     pub old_are : old ≡ map (λ (volume : VolumeOf D). volume.device) volumes
     pub new_are : new ≡ map (λ (volume : VolumeOf D). volume.left) volumes
     pub histories_are : histories ≡ map (λ (volume : VolumeOf D). volume.entries) volumes
-    pub runs : AreVolumeRuns tells seen faults steps end 0 volumes
+    pub runs : AreVolumeRuns tells seen faults (deck_steps steps) end 0 volumes
     pub by : Result (Unit {0}) RunNo
-    pub asked : HasAsked (map (λ (volume : VolumeOf D). volume.catalog) volumes) steps by histories
-    pub in_steps : ComeInSteps steps histories
-    pub gapless : AreGapless steps histories
+    pub asked : HasAsked (map (λ (volume : VolumeOf D). volume.catalog) volumes)
+        (deck_steps steps) by histories
+    pub in_steps : ComeInSteps (deck_steps steps) histories
+    pub gapless : AreGapless (deck_steps steps) histories
+    pub reported : AreReportedFrom [] (map (λ (volume : VolumeOf D). volume.catalog) volumes)
+        histories steps reports
+    pub all_reported : OnOk by (length reports ≡ utility_count steps)
     pub stamps : end ≡ Line StampsUsedUp
         → (number : ℕ) × (volume : VolumeOf D) × IsAt number volume volumes
         × (2 ^ 62 ≤ last_stamp 0 volume.entries)

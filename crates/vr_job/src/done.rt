@@ -1,5 +1,6 @@
 //! What is done for the words of the program, before anything is printed.
 ghost use Rattle.std.specs.Prelude.{◌≡◌, ◌≤◌, ◌⊎◌, IfErr, OnOk, Some, length};
+ghost use Rattle.vr_job_text.specs.Job.{deck_steps};
 ghost use Rattle.vr_job_text.specs.Numbers.{AreNumbered};
 ghost use Rattle.vr_job.specs.Formats.{AreAllowed, AreFormatted, IsFormatEnd};
 ghost use Rattle.vr_job.specs.Done.{HasBegun, HasNotBegun, HasRunOn, IsFormatDone, IsNothing};
@@ -14,9 +15,9 @@ use std::sync::Wait;
 use std::thread::Threads;
 use vr_device::BlockDevice;
 use vr_job_ends::{End, Trace, read_job};
-use vr_job_text::JobText;
+use vr_job_text::Job;
 use vr_outside::{Gate, Source};
-use vr_trace::{EndLine, Histories};
+use vr_trace::{EndLine, Histories, StepReports};
 
 /// The most volumes of a shelf.
 const MOST_VOLUMES: usize = 16;
@@ -43,6 +44,7 @@ pub(crate) fn not_run<D: BlockDevice>(alloc: Global, line: EndLine, shelf: Vec<D
     Done {
         trace: Trace {
             job: None,
+            reports: StepReports::new(alloc),
             end: End::Line(line),
             lines: false,
             histories: Histories::new(alloc),
@@ -120,12 +122,12 @@ fn run_on<R: Threads + Wait + Sync, D: BlockDevice + Send, G: Gate + Sync>(
     rt: &R,
     alloc: Global,
     shelf: Vec<D>,
-    job: JobText,
+    job: Job,
     lines: bool,
     gate: &G,
 ) -> Done<D>
     requires few { length shelf.items ≤ 16 }
-    requires numbered { AreNumbered job.steps }
+    requires numbered { AreNumbered (deck_steps job.steps) }
     ensures { ((result.trace.end ≡ Line NoMemory) × IsNothing result.trace
         × (result.shelf.items ≡ shelf.items))
         ⊎ HasRunOn D.tells D.seen D.faults job lines shelf.items result.shelf.items
@@ -138,21 +140,24 @@ fn run_on<R: Threads + Wait + Sync, D: BlockDevice + Send, G: Gate + Sync>(
 }
 
 /// A job that was run on the volumes of a shelf.
-fn ran<D: BlockDevice>(job: JobText, lines: bool, end: ShelfEnd<D>) -> Done<D>
+fn ran<D: BlockDevice>(job: Job, lines: bool, end: ShelfEnd<D>) -> Done<D>
     ensures job { result.trace.job ≡ Some job }
     ensures lines { result.trace.lines ≡ lines }
     ensures end { result.trace.end ≡ end.end }
+    ensures reports { result.trace.reports ≡ end.reports }
     ensures histories { result.trace.histories ≡ end.histories }
     ensures shelf { result.shelf ≡ end.shelf }
 {
     let ShelfEnd {
         shelf,
+        reports,
         histories,
         end,
     } = end;
     Done {
         trace: Trace {
             job: Some(job),
+            reports,
             end,
             lines,
             histories,

@@ -6,7 +6,8 @@ ghost use Rattle.vr_job_ends.specs.Asked.{Format, Run};
 ghost use Rattle.vr_job_ends.specs.Command.{plan_of};
 ghost use Rattle.vr_job_ends.specs.Ends.{IsPrinted, IsStatus, IsThrough, printed_of};
 ghost use Rattle.vr_job_ends.specs.declared.job_end.End.TheVariants.{Ran};
-ghost use Rattle.vr_job.specs.Done.{IsFormatDone, IsFormatJob, IsNoCommand, IsNothing, IsRunDone};
+ghost use Rattle.vr_job.specs.Done.{AreFew, IsFormatDone, IsFormatJob, IsNoCommand, IsNothing};
+ghost use Rattle.vr_job.specs.Done.{IsRunDone};
 ghost use Rattle.vr_job.specs.Done.{IsRunJob, narrowed};
 
 use crate::done::{Done, format_shelf, not_run, run_shelf};
@@ -40,6 +41,7 @@ fn run_words<R: Threads + Wait + Sync, S: Source, D: BlockDevice + Send, G: Gate
         result.shelf.items result.trace result.trace.end }
     ensures untouched { ((job dir : List ℕ) (lines : Bool)
         → plan_of words.now ≢ Some (Run job dir lines)) → input.new ≡ input.old }
+    ensures few { AreFew result.trace.reports }
 {
     match plan(words) {
         None => not_run(alloc, EndLine::NoCommand, shelf),
@@ -74,8 +76,8 @@ pub fn run_job<R: Threads + Wait + Sync, S: Source, K: Sink, D: BlockDevice + Se
     // What was printed, and the status, are those of the trace.
     ensures status { IsStatus (K.faults output.old) (K.faults output.new) result.trace
         result.status }
-    // Of a job whose steps ran it is 8 at most, or 28, so it says how each other job ended.
-    ensures ran { result.trace.end ≡ Ran → (result.status ≤ 8) ⊎ (result.status ≡ 28) }
+    // Of a job whose steps ran it is 16 at most, or 28.
+    ensures ran { result.trace.end ≡ Ran → (result.status ≤ 16) ⊎ (result.status ≡ 28) }
     ensures printed { IsPrinted (K.taken output.old) (K.taken output.new) (K.faults output.old)
         (K.faults output.new) (printed_of result.trace) }
     // Of a job that came through, no failure of the sink is hidden.

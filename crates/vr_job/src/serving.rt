@@ -12,6 +12,7 @@ ghost use Rattle.vr_job.specs.Serving.{IsServing, StaysServing, is_done, unit_of
 
 use std::alloc::Global;
 use std::marker::Model;
+use vr_ams_list::ShownVolume;
 use vr_catalog::Catalog;
 use vr_device::BlockDevice;
 use vr_event::{Act, Volume};
@@ -220,16 +221,27 @@ impl<D: BlockDevice> Served for Serving<D> {
     }
 }
 
-impl<D: BlockDevice> Cataloged for Serving<D> {
-    ghost use Rattle.vr_job.specs.Going.{follows-catalog};
+impl<D: BlockDevice> ShownVolume for Serving<D> {
+    ghost use Rattle.std.specs.Prelude.{is_some};
+    ghost use Rattle.vr_job.specs.Serving.{shown_of};
 
-    ghost catalog = { λ serving. serving.file.catalog };
+    ghost shown = { λ serving. shown_of serving };
 
     fn catalog(&self) -> &Catalog
         ensures { result.now ≡ self.now.file.catalog }
     {
         self.volume.catalog()
     }
+
+    fn is_stopped(&self) -> bool
+        ensures { result ≡ is_some self.now.file.stopped }
+    {
+        self.volume.is_stopped()
+    }
+}
+
+impl<D: BlockDevice> Cataloged for Serving<D> {
+    ghost use Rattle.vr_job.specs.Going.{follows-catalog};
 
     ghost stays_same = { λ a b follows. follows-catalog D.tells D.seen D.faults a b follows };
 }

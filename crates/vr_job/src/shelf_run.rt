@@ -1,6 +1,7 @@
 //! The run of a job on the volumes of the devices of a shelf, from their opening to the end.
 ghost use Rattle.std.specs.Prelude.{◌≡◌, ◌≤◌, ◌<◌, ◌+◌, ◌^◌, ◌++◌, [], All, IfErr, IfOk, length, map};
 ghost use Rattle.std.specs.Prelude.{vec_capacity};
+ghost use Rattle.vr_job_text.specs.Job.{deck_steps};
 ghost use Rattle.vr_job_text.specs.Numbers.{AreNumbered};
 ghost use Rattle.vr_trace.specs.Volumes.{entries_of};
 ghost use Rattle.vr_worker.specs.Decks.{ArePlaced};
@@ -19,17 +20,18 @@ use std::thread::Threads;
 use vr_device::BlockDevice;
 use vr_history::History;
 use vr_job_ends::End;
-use vr_job_text::Step;
+use vr_job_text::JobStep;
 use vr_outside::Gate;
-use vr_trace::{EndLine, Histories};
+use vr_trace::{EndLine, Histories, StepReports};
 use vr_types::{Failed, OutOfMemory};
 use vr_worker::{RunNo, run_steps};
 
-/// What a run leaves: the devices in their order, the histories of their volumes, and how the job
-/// ended.
+/// What a run leaves: the devices in their order, the reports of the steps of IDCAMS, the histories of
+/// the volumes, and how the job ended.
 #[derive(Drop)]
 pub struct ShelfEnd<D: BlockDevice> {
     pub shelf: Vec<D>,
+    pub reports: StepReports,
     pub histories: Histories,
     pub end: End,
 }
@@ -266,20 +268,22 @@ fn ask_all<R: Threads + Wait + Sync, D: BlockDevice + Send, G: Gate + Sync>(
     alloc: Global,
     are_open: bool,
     volumes: &mut Vec<Serving<D>>,
-    steps: &[Step],
+    steps: &[JobStep],
+    reports: &mut StepReports,
     gate: &G,
 ) -> Result<(), RunNo>
     requires placed { ArePlaced (λ volume. volume.number) volumes.old.items }
     requires begins { All (λ volume. volume.file.entries ≡ []) volumes.old.items }
-    requires numbered { AreNumbered steps.now }
+    requires numbered { AreNumbered (deck_steps steps.now) }
     requires few { length volumes.old.items < 2 ^ 32 }
-    ensures { HaveRunWhere are_open D.tells D.seen D.faults steps.now result volumes.old.items
-        volumes.new.items }
+    requires reports { reports.old ≡ [] }
+    ensures { HaveRunWhere are_open D.tells D.seen D.faults steps.now result reports.new
+        volumes.old.items volumes.new.items }
 {
     if !are_open {
         return Err(RunNo::Memory);
     }
-    run_steps(rt, alloc, volumes, steps, gate)
+    run_steps(rt, alloc, volumes, steps, reports, gate)
 }
 
 /// Runs a job on the volumes of a shelf, in room that was made.
@@ -288,11 +292,11 @@ fn run_in<R: Threads + Wait + Sync, D: BlockDevice + Send, G: Gate + Sync>(
     alloc: Global,
     room: Room<D>,
     devices: Vec<D>,
-    steps: &[Step],
+    steps: &[JobStep],
     gate: &G,
 ) -> ShelfEnd<D>
     requires few { length devices.items ≤ 16 }
-    requires numbered { AreNumbered steps.now }
+    requires numbered { AreNumbered (deck_steps steps.now) }
     requires volumes { (room.volumes.items ≡ [])
         × (length devices.items ≤ vec_capacity room.volumes) }
     requires unopened { (room.unopened.items ≡ [])
@@ -300,8 +304,8 @@ fn run_in<R: Threads + Wait + Sync, D: BlockDevice + Send, G: Gate + Sync>(
     requires shelf { (room.shelf.items ≡ []) × (length devices.items ≤ vec_capacity room.shelf) }
     requires histories { (room.histories.items ≡ [])
         × (length devices.items ≤ vec_capacity room.histories) }
-    ensures { IsShelfRun D.tells D.seen D.faults steps.now result.end result.histories
-        devices.items result.shelf.items }
+    ensures { IsShelfRun D.tells D.seen D.faults steps.now result.end result.reports
+        result.histories devices.items result.shelf.items }
 {
     let Room {
         mut volumes,
@@ -310,18 +314,28 @@ fn run_in<R: Threads + Wait + Sync, D: BlockDevice + Send, G: Gate + Sync>(
         mut histories,
     } = room;
     let opened = open_all(alloc, devices, &mut volumes, &mut unopened);
-    let asked = ask_all(rt, alloc, opened.is_ok(), &mut volumes, steps, gate);
+    let mut reports = StepReports::new(alloc);
+    let asked = ask_all(
+        rt,
+        alloc,
+        opened.is_ok(),
+        &mut volumes,
+        steps,
+        &mut reports,
+        gate,
+    );
     let unsynced = close_all(volumes, &mut shelf, &mut histories);
     give_back(alloc, unopened, &mut shelf, &mut histories);
     ShelfEnd {
         shelf,
+        reports,
         histories: Histories::from_vec(histories),
         end: end_of(opened, asked, unsynced),
     }
 }
 
-/// Opens the volumes of the devices of a shelf, numbered from 0 on, runs the decks of a job on them, one
-/// step after another, and closes them: each device is synced, unless its volume has stopped. The job
+/// Opens the volumes of the devices of a shelf, numbered from 0 on, runs the steps of a job on them, one
+/// after another, and closes them: each device is synced, unless its volume has stopped. The job
 /// comes through; or it ends as the first volume that isn't opened says (`open`), and nothing is asked;
 /// or its stamps are used up (`StampsUsedUp`: the last of a volume is 2^62 or more), or memory ran out
 /// (`NoMemory`), which may come at any time; or all was answered and a device failed to sync
@@ -331,13 +345,13 @@ pub fn run_volumes<R: Threads + Wait + Sync, D: BlockDevice + Send, G: Gate + Sy
     rt: &R,
     alloc: Global,
     shelf: Vec<D>,
-    steps: &[Step],
+    steps: &[JobStep],
     gate: &G,
 ) -> Result<ShelfEnd<D>, Vec<D>>
     requires few { length shelf.items ≤ 16 }
-    requires numbered { AreNumbered steps.now }
+    requires numbered { AreNumbered (deck_steps steps.now) }
     ensures ran { IfOk result (λ end. IsShelfRun D.tells D.seen D.faults steps.now end.end
-        end.histories shelf.items end.shelf.items) }
+        end.reports end.histories shelf.items end.shelf.items) }
     ensures back { IfErr result (λ back. back.items ≡ shelf.items) }
 {
     match make_room(alloc, shelf.len()) {

@@ -1,8 +1,8 @@
 -- Which status a job ends with, and what it prints. The statuses are this project's own.
-use Rattle.std.specs.Prelude.{◌≡◌, ◌⊎◌, ◌<◌, ℕ, Bool, true, false, cond, List, [], ◌++◌}
+use Rattle.std.specs.Prelude.{◌≡◌, ◌⊎◌, ◌<◌, ℕ, Bool, true, false, List, [], ◌++◌}
 use Rattle.std.specs.Prelude.{Option, Some, None}
 use Rattle.vr_outside.specs.Told.{Takes, TakesPart}
-use Rattle.vr_job_text.specs.declared.text.JobText.{JobText}
+use Rattle.vr_job_text.specs.declared.job.Job.{Job}
 use Rattle.vr_trace.specs.Code.{job_code}
 use Rattle.vr_trace.specs.Ends.{HasNumber, end_line_of}
 use Rattle.vr_trace.specs.Listing.{listing_of}
@@ -35,7 +35,7 @@ line_status (Formatted volumes) = 0
 line_status NoMemory = 36
 
 -- what is shown of the steps of a job that ran
-abbrev pub steps_shown : Option JobText → List KeptStep
+abbrev pub steps_shown : Option Job → List KeptStep
 steps_shown None = []
 steps_shown (Some job) = names_of job.steps
 
@@ -43,18 +43,21 @@ abbrev pub lines_shown : Bool → List (List Entry) → List ℕ
 lines_shown false histories = []
 lines_shown true histories = trace_of histories
 
--- by how it ended: the greatest code of the steps that ran, that of a fault of a device, or the status
--- of its line
+-- by how it ended: the greatest code of the steps and of the reports that they left, that of a fault
+-- of a device, or the status of its line
 abbrev pub status_by : End → Trace → ℕ
-status_by Ran trace = job_code trace.histories (steps_shown trace.job)
+status_by Ran trace = job_code trace.histories (steps_shown trace.job) trace.reports
 status_by (Unsynced volume) trace = line_status (DeviceFault volume)
 status_by (Line line) trace = line_status line
 
-abbrev pub printed_by : End → Trace → List ℕ
-printed_by Ran trace = listing_of (steps_shown trace.job) trace.histories
+-- the listing of a job whose steps ran, and the lines of its history where they are asked for
+abbrev pub listing_in : Trace → List ℕ
+listing_in trace = listing_of (steps_shown trace.job) trace.reports trace.histories
     ++ lines_shown trace.lines trace.histories
-printed_by (Unsynced volume) trace = (listing_of (steps_shown trace.job) trace.histories
-    ++ lines_shown trace.lines trace.histories) ++ end_line_of (DeviceFault volume)
+
+abbrev pub printed_by : End → Trace → List ℕ
+printed_by Ran trace = listing_in trace
+printed_by (Unsynced volume) trace = listing_in trace ++ end_line_of (DeviceFault volume)
 printed_by (Line line) trace = end_line_of line
 
 -- the bytes that a job with this trace prints

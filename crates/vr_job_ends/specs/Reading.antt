@@ -9,7 +9,7 @@ use Rattle.vr_job_text.specs.declared.fault.Kind.TheVariants as kinds
 use Rattle.vr_job_text.specs.declared.fault.TextFault.{TextFault}
 use Rattle.vr_job_text.specs.declared.fault.JobFault.{JobFault}
 use Rattle.vr_job_text.specs.declared.fault.JobFault.TheVariants as faults
-use Rattle.vr_job_text.specs.declared.text.JobText.{JobText}
+use Rattle.vr_job_text.specs.declared.job.Job.{Job}
 use Rattle.vr_trace.specs.declared.ending.EndLine.{EndLine}
 use Rattle.vr_trace.specs.declared.ending.EndLine.TheVariants.{NoCommand, ReadFault, InputTooLong}
 use Rattle.vr_trace.specs.declared.ending.EndLine.TheVariants.{Refused, DeviceFault, Damaged}
@@ -32,13 +32,12 @@ kind_shown kinds.Form = shown.Form
 abbrev pub line_of : TextFault → EndLine
 line_of fault = Refused (kind_shown fault.kind) fault.line fault.column
 
--- The input was read to its end, and its text is this job, all of whose steps are of decks.
-pub record IsJobRead (left left' : Option (List ℕ)) (faults faults' : ℕ) (job : JobText) : Type 0
-  where
-    pub text : List ℕ
-    pub all : IsAll left left' text
-    pub is : IsRunJob text job
-    pub steady : faults' ≡ faults
+-- The input was read to its end, and its text is this job, which is run.
+pub record IsJobRead (left left' : Option (List ℕ)) (faults faults' : ℕ) (job : Job) : Type 0 where
+  pub text : List ℕ
+  pub all : IsAll left left' text
+  pub is : IsRunJob text job
+  pub steady : faults' ≡ faults
 
 -- It was read to its end, and this is what is shown of the first fault of its text, or where it has
 -- none, of what isn't run of it.

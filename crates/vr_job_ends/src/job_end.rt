@@ -1,7 +1,8 @@
-//! What a job leaves: how it ended, its text and the histories of its volumes.
+//! What a job leaves: how it ended, its text, the reports of its steps of IDCAMS and the histories of
+//! its volumes.
 
-use vr_job_text::JobText;
-use vr_trace::{EndLine, Histories};
+use vr_job_text::Job;
+use vr_trace::{EndLine, Histories, StepReports};
 
 /// How a job came to its end.
 #[derive(Clone, Copy, PartialEq, Eq)]
@@ -14,11 +15,13 @@ pub enum End {
     Line(EndLine),
 }
 
-/// What a job did: the job that its text is, where it is one; how it ended; whether the lines of its
-/// history are printed too; and the histories of its volumes, with every reply.
+/// What a job did: the job that its text is, where it is one; the reports of its steps of IDCAMS, as
+/// far as these ran; how it ended; whether the lines of its history are printed too; and the
+/// histories of its volumes, with every reply.
 #[derive(Drop)]
 pub struct Trace {
-    pub job: Option<JobText>,
+    pub job: Option<Job>,
+    pub reports: StepReports,
     pub end: End,
     pub lines: bool,
     pub histories: Histories,

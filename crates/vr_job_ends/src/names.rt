@@ -4,8 +4,8 @@ ghost use Rattle.vr_job_ends.specs.Names as names;
 
 use std::alloc::Global;
 use vr_deck_text::DeckFile;
-use vr_job_text::{Deck, Step};
-use vr_trace::{FileNames, KeptDeck, KeptDecks, KeptStep, KeptSteps};
+use vr_job_text::{Deck, JobStep, Step};
+use vr_trace::{FileNames, KeptDeck, KeptDeckStep, KeptDecks, KeptStep, KeptSteps};
 use vr_types::OutOfMemory;
 
 /// Adds the names that a deck has for its files.
@@ -40,18 +40,28 @@ fn add_decks(alloc: Global, kept: &mut KeptDecks, decks: &[Deck]) -> Result<(), 
     Ok(())
 }
 
-/// What is shown of a step.
-fn kept_step(alloc: Global, step: &Step) -> Result<KeptStep, OutOfMemory>
-    ensures { IfOk result (λ kept. kept ≡ names.kept_step step.now) }
+/// What is shown of a step of decks.
+fn kept_deck_step(alloc: Global, step: &Step) -> Result<KeptDeckStep, OutOfMemory>
+    ensures { IfOk result (λ kept. kept ≡ names.kept_deck_step step.now) }
 {
     let name = step.name.copy(alloc)?;
     let mut decks = KeptDecks::new(alloc);
     add_decks(alloc, &mut decks, step.decks.as_slice())?;
-    Ok(KeptStep { name, decks })
+    Ok(KeptDeckStep { name, decks })
+}
+
+/// What is shown of a step.
+fn kept_step(alloc: Global, step: &JobStep) -> Result<KeptStep, OutOfMemory>
+    ensures { IfOk result (λ kept. kept ≡ names.kept_step step.now) }
+{
+    match step {
+        JobStep::Decks(step) => Ok(KeptStep::Decks(kept_deck_step(alloc, step)?)),
+        JobStep::Utilities(step) => Ok(KeptStep::Utilities(step.name.copy(alloc)?)),
+    }
 }
 
 /// Adds what is shown of steps.
-fn add_steps(alloc: Global, kept: &mut KeptSteps, steps: &[Step]) -> Result<(), OutOfMemory>
+fn add_steps(alloc: Global, kept: &mut KeptSteps, steps: &[JobStep]) -> Result<(), OutOfMemory>
     ensures { OnOk result (kept.new ≡ kept.old ++ names.names_of steps.now) }
 {
     for step in steps {
@@ -61,7 +71,7 @@ fn add_steps(alloc: Global, kept: &mut KeptSteps, steps: &[Step]) -> Result<(), 
 }
 
 /// What the listing shows of the steps of a job. Out of memory is its one error.
-pub(crate) fn names_of(alloc: Global, steps: &[Step]) -> Result<KeptSteps, OutOfMemory>
+pub(crate) fn names_of(alloc: Global, steps: &[JobStep]) -> Result<KeptSteps, OutOfMemory>
     ensures { IfOk result (λ kept. kept ≡ names.names_of steps.now) }
 {
     let mut kept = KeptSteps::new(alloc);

@@ -10,7 +10,7 @@ ghost use Rattle.vr_trace.specs.declared.ending.EndLine.TheVariants.{NoMemory};
 use crate::job_end::{End, JobEnd, Trace};
 use crate::names::names_of;
 use std::alloc::Global;
-use vr_job_text::JobText;
+use vr_job_text::Job;
 use vr_outside::{Sink, write_whole};
 use vr_trace::{
     EndLine, Histories, KeptSteps, end_line, fixed_line, job_code, listing, trace_lines,
@@ -38,7 +38,7 @@ fn line_status(line: &EndLine) -> u8
 }
 
 /// What is shown of the steps of a job that ran.
-fn steps_shown(alloc: Global, job: &Option<JobText>) -> Result<KeptSteps, OutOfMemory>
+fn steps_shown(alloc: Global, job: &Option<Job>) -> Result<KeptSteps, OutOfMemory>
     ensures { IfOk result (λ steps. steps ≡ ends.steps_shown job.now) }
 {
     match job {
@@ -75,10 +75,11 @@ fn ran_text(alloc: Global, trace: &Trace) -> Result<(u8, Bytes), OutOfMemory>
     ensures text { IfOk result (λ made. made.1 ≡ ends.printed_by Ran trace.now) }
 {
     let steps = steps_shown(alloc, &trace.job)?;
-    let mut text = listing(alloc, &steps, &trace.histories)?;
+    let reports = trace.reports.as_slice();
+    let mut text = listing(alloc, &steps, reports, &trace.histories)?;
     let lines = lines_shown(alloc, trace.lines, &trace.histories)?;
     text.extend(lines.as_slice())?;
-    Ok((job_code(&steps, &trace.histories), text))
+    Ok((job_code(&steps, reports, &trace.histories), text))
 }
 
 /// The status and the text of a job whose steps ran, where the device of this volume failed to sync as

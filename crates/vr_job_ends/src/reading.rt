@@ -1,6 +1,6 @@
 //! The reading of a job: its input to the end, and the job that its text is.
 ghost use Rattle.std.specs.Prelude.{◌≡◌, ◌≤◌, ◌^◌, IfErr, IfOk, length};
-ghost use Rattle.vr_job_text.specs.Job.{IsRunJob, RefusedBy};
+ghost use Rattle.vr_job_text.specs.Job.{IsRunJob, RefusedBy, deck_steps};
 ghost use Rattle.vr_job_text.specs.Numbers.{AreNumbered};
 ghost use Rattle.vr_job_ends.specs.Input.{CauseOf};
 ghost use Rattle.vr_job_ends.specs.Reading as reading;
@@ -8,7 +8,7 @@ ghost use Rattle.vr_job_ends.specs.Reading.{IsInputEnd, IsJobRead};
 
 use crate::input::{InputFault, read_text};
 use std::alloc::Global;
-use vr_job_text::{JobFault, JobText, Kind, TextFault, parse_run_job, scan_number};
+use vr_job_text::{Job, JobFault, Kind, TextFault, parse_run_job, scan_number};
 use vr_outside::Source;
 use vr_trace::{EndLine, TextKind};
 
@@ -66,20 +66,20 @@ fn fault_line(fault: JobFault) -> EndLine
 }
 
 /// The job of a text, which is let go.
-fn parse_text(alloc: Global, text: Vec<u8>) -> Result<JobText, JobFault>
+fn parse_text(alloc: Global, text: Vec<u8>) -> Result<Job, JobFault>
     requires { length text.items ≤ 2 ^ 26 }
     ensures job { IfOk result (IsRunJob text.items) }
     ensures fault { IfErr result (RefusedBy text.items) }
-    ensures numbers { IfOk result (λ job. AreNumbered job.steps) }
+    ensures numbers { IfOk result (λ job. AreNumbered (deck_steps job.steps)) }
 {
     parse_run_job(alloc, text.as_slice())
 }
 
 /// Reads the input to its end: the job that its text is, or how the job ends without it.
-pub fn read_job<S: Source>(alloc: Global, input: &mut S) -> Result<JobText, EndLine>
+pub fn read_job<S: Source>(alloc: Global, input: &mut S) -> Result<Job, EndLine>
     ensures job { IfOk result (IsJobRead (S.left input.old) (S.left input.new) (S.faults input.old)
         (S.faults input.new)) }
-    ensures numbers { IfOk result (λ job. AreNumbered job.steps) }
+    ensures numbers { IfOk result (λ job. AreNumbered (deck_steps job.steps)) }
     ensures line { IfErr result (IsInputEnd (S.left input.old) (S.left input.new)
         (S.faults input.old) (S.faults input.new)) }
     ensures never_falls { S.faults input.old ≤ S.faults input.new }

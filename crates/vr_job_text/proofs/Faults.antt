@@ -1,5 +1,5 @@
 -- What is a fault of a part is one of the whole.
-use Rattle.std.proofs.Common.{inl, inr, ℕ, List}
+use Rattle.std.proofs.Common.{◌≡◌, inl, inr, ℕ, List, Some}
 use Rattle.vr_text.specs.Lines.{Line}
 use Rattle.vr_scan.specs.Token.{Token}
 use Rattle.vr_scan.specs.Scan.{IsTokens}
@@ -8,7 +8,8 @@ use Rattle.vr_amsparse.specs.declared.command.Node.{Node}
 use Rattle.vr_job_text.specs.declared.fault.JobFault.{JobFault}
 use Rattle.vr_job_text.specs.declared.fault.JobFault.TheVariants.{Text, Memory}
 use Rattle.vr_job_text.specs.declared.job.Job.{Job}
-use Rattle.vr_job_text.specs.Job.{IsJob, CauseOf, RefusedBy, UnrunBy}
+use Rattle.vr_job_text.specs.declared.fault.TextFault.{TextFault}
+use Rattle.vr_job_text.specs.Job.{IsJob, CauseOf, RefusedBy, unrun}
 use Rattle.vr_job_text.specs.Utilities.{AreCommands, ScanFaultBy, TokenFaultBy, UtilityFaultBy}
 
 pub commands_are : (lines : List Line) (names : List (List ℕ)) (tokens : List Token)
@@ -33,7 +34,6 @@ pub fault_refuses : (text : List ℕ) (fault : JobFault) → CauseOf text fault 
 fault_refuses text (Text fault) h = inl h
 fault_refuses text Memory h = tt
 
-pub unrun_refuses : (text : List ℕ) (job : Job) (fault : JobFault) → IsJob text job
-    → UnrunBy job fault → RefusedBy text fault
-unrun_refuses text job (Text fault) is h = inr (record { whole = job; is = is; first = h })
-unrun_refuses text job Memory is h = tt
+pub unrun_refuses : (text : List ℕ) (job : Job) (fault : TextFault) → IsJob text job
+    → unrun job.steps ≡ Some fault → RefusedBy text (Text fault)
+unrun_refuses text job fault is h = inr (record { whole = job; is = is; first = h })

@@ -1,9 +1,12 @@
 -- The job that a text says, or its first fault. A text is laid out first; the text of each step is read
 -- where the step ends, at the next EXEC card or at the end of the text, so its fault goes before the
 -- faults of later cards.
-use Rattle.std.specs.Prelude.{◌≡◌, ◌⊎◌, ℕ, List, [], ◌∷◌, length, slice_get, sum_by}
-use Rattle.std.specs.Prelude.{Option, Some, None}
-use Rattle.std.specs.Prelude.{Ok, Err}
+use Rattle.std.specs.Prelude.{◌≡◌, ◌⊎◌, ℕ, Bool, true, false, not, if◌then◌else◌}
+use Rattle.std.specs.Prelude.{List, [], ◌∷◌, length, sum_by, Option, Some, None, Ok, Err}
+use Rattle.vr_amsparse.specs.declared.command.Command.{Command}
+use Rattle.vr_amsparse.specs.declared.command.Command.TheVariants.{Define, Alter, Delete, Repro}
+use Rattle.vr_amsparse.specs.declared.command.Command.TheVariants.{BuildIndex, Print, ListCatalog}
+use Rattle.vr_amsparse.specs.declared.command.Command.TheVariants.{Verify, Examine, If, Set}
 use Rattle.vr_amsparse.specs.declared.command.Node.{Node}
 use Rattle.vr_job_text.specs.declared.card.Program.{Program}
 use Rattle.vr_job_text.specs.declared.card.Program.TheVariants as programs
@@ -16,7 +19,6 @@ use Rattle.vr_job_text.specs.declared.job.JobStep.TheVariants.{Decks, Utilities}
 use Rattle.vr_job_text.specs.declared.job.UtilityStep.{UtilityStep}
 use Rattle.vr_job_text.specs.declared.reading.Part.{Part}
 use Rattle.vr_job_text.specs.declared.reading.StepText.{StepText}
-use Rattle.vr_job_text.specs.declared.text.JobText.{JobText}
 use Rattle.vr_job_text.specs.declared.text.Step.{Step}
 use Rattle.vr_job_text.specs.Decks.{decks_in}
 use Rattle.vr_job_text.specs.Fault.{form_fault, FaultBy}
@@ -99,28 +101,43 @@ deck_steps [] = []
 deck_steps (Decks step ∷ steps) = step ∷ deck_steps steps
 deck_steps (Utilities step ∷ steps) = deck_steps steps
 
--- the line of the first command of a step, or where it has none that of its card
-abbrev pub line_by : ℕ → Option Node → ℕ
-line_by line None = line
-line_by line (Some node) = node.line
+-- the commands that are run: LISTCAT of names alone, and the modal commands IF and SET
+abbrev pub is_run : Command → Bool
+is_run (Define define) = false
+is_run (Alter alter) = false
+is_run (Delete delete) = false
+is_run (Repro repro) = false
+is_run (BuildIndex build) = false
+is_run (Print print) = false
+is_run (ListCatalog list) = not list.all
+is_run (Verify name) = false
+is_run (Examine name) = false
+is_run (If condition) = true
+is_run (Set setting) = true
 
-abbrev pub first_line : ℕ → List Node → ℕ
-first_line line nodes = line_by line (slice_get nodes 0)
+-- the first command of a step that isn't run yet, whether or not it stands in a branch
+abbrev pub unrun_in : List Node → Option TextFault
+unrun_in [] = None
+unrun_in (node ∷ nodes) =
+    if is_run node.command then unrun_in nodes else Some (form_fault node.line)
 
--- what isn't run yet: the first step of IDCAMS
+-- of two faults the first, where there is one
+abbrev pub first_of : Option TextFault → Option TextFault → Option TextFault
+first_of None later = later
+first_of (Some fault) later = Some fault
+
+-- what isn't run yet of a job: the first such command of its steps of IDCAMS
 abbrev pub unrun : List JobStep → Option TextFault
 unrun [] = None
 unrun (Decks step ∷ steps) = unrun steps
-unrun (Utilities step ∷ steps) = Some (form_fault (first_line step.line step.commands))
+unrun (Utilities step ∷ steps) = first_of (unrun_in step.commands) (unrun steps)
 
--- The text is a job that is run, and these are its steps: all of them are of decks.
-pub record IsRunJob (text : List ℕ) (job : JobText) : Type 0 where
-  pub whole : Job
-  pub is : IsJob text whole
-  pub runs : unrun whole.steps ≡ None
-  pub steps : job.steps ≡ deck_steps whole.steps
+-- The text is this job, and it is run: each command of its steps of IDCAMS is.
+pub record IsRunJob (text : List ℕ) (job : Job) : Type 0 where
+  pub is : IsJob text job
+  pub runs : unrun job.steps ≡ None
 
--- the text is a job that isn't run yet, for this step
+-- the text is a job that isn't run yet, for this command
 pub record IsUnrun (text : List ℕ) (fault : TextFault) : Type 0 where
   pub whole : Job
   pub is : IsJob text whole
@@ -133,10 +150,6 @@ IsRefused text fault = IsFirstFault text fault ⊎ IsUnrun text fault
 abbrev pub RefusedBy : List ℕ → JobFault → Type 0
 RefusedBy text (Text fault) = IsRefused text fault
 RefusedBy text Memory = Unit {0}
-
-abbrev pub UnrunBy : Job → JobFault → Type 0
-UnrunBy job (Text fault) = unrun job.steps ≡ Some fault
-UnrunBy job Memory = Unit {0}
 
 -- how many orders the decks of a job have
 abbrev pub order_count : List Step → ℕ

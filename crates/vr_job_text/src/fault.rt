@@ -71,7 +71,7 @@ pub enum Kind {
     Ams(AmsCause),
     /// A line of a deck is.
     Deck(DeckCause),
-    /// Nothing is wrong, and the line isn't run yet: a step of IDCAMS.
+    /// Nothing is wrong, and the command of the line isn't run yet.
     Form,
 }
 

@@ -1,12 +1,12 @@
 //! What a job is: its steps, of decks and of IDCAMS.
-ghost use Rattle.std.specs.Prelude.{◌≡◌, List, [], ◌∷◌, ◌++◌, OnOk, OnErr, IfOk};
-ghost use Rattle.vr_job_text.specs.Job.{deck_steps, first_line, unrun};
+ghost use Rattle.std.specs.Prelude.{◌≡◌, List, [], ◌∷◌, ◌++◌, OnOk, OnErr};
+ghost use Rattle.vr_job_text.specs.Job.{is_run, unrun, unrun_in};
 
 use crate::fault::{TextFault, form_fault};
-use crate::text::{Step, Steps};
+use crate::text::Step;
 use std::alloc::Global;
 use std::marker::Model;
-use vr_amsparse::{Commands, Node};
+use vr_amsparse::{Command, Commands, Node};
 use vr_types::{Bytes, Items, OutOfMemory};
 
 /// Data cards of a step of IDCAMS: the name on their DD card, by which INFILE names them, and the
@@ -74,21 +74,6 @@ impl JobSteps {
         self.steps.push(step)?;
         Ok(())
     }
-
-    /// The steps of decks among them, in order. Out of memory is its one error.
-    pub fn into_deck_steps(self, alloc: Global) -> Result<Steps, OutOfMemory>
-        ensures { IfOk result (λ steps. steps ≡ deck_steps self) }
-    {
-        let JobSteps { steps } = self;
-        let mut decks = Steps::new(alloc);
-        for step in steps {
-            match step {
-                JobStep::Decks(step) => decks.push(step)?,
-                JobStep::Utilities(_) => {}
-            }
-        }
-        Ok(decks)
-    }
 }
 
 /// A job: its steps.
@@ -97,25 +82,47 @@ pub struct Job {
     pub steps: JobSteps,
 }
 
-/// The line of the first command of a step, or where it has none that of its card.
-fn first_line(line: u32, commands: &[Node]) -> u32
-    ensures { result ≡ first_line line commands.now }
+/// Whether a command is run yet: LISTCAT of names alone is, and IF and SET are.
+fn is_run(command: &Command) -> bool
+    ensures { result ≡ is_run command.now }
 {
-    match commands.first() {
-        None => line,
-        Some(command) => command.line,
+    match command {
+        Command::ListCatalog(list) => !list.all,
+        Command::If(_) | Command::Set(_) => true,
+        Command::Define(_)
+        | Command::Alter(_)
+        | Command::Delete(_)
+        | Command::Repro(_)
+        | Command::BuildIndex(_)
+        | Command::Print(_)
+        | Command::Verify(_)
+        | Command::Examine(_) => false,
     }
 }
 
-/// What isn't run yet of a job, as the fault of its line: the first command of its first step of
-/// IDCAMS, or the card of that step where it has no command. `None` comes exactly where all steps
-/// are of decks.
+/// The first command of a step that isn't run yet, as the fault of its line.
+fn unrun_in(commands: &[Node]) -> Option<TextFault>
+    ensures { result ≡ unrun_in commands.now }
+{
+    for node in commands {
+        if !is_run(&node.command) {
+            return Some(form_fault(node.line));
+        }
+    }
+    None
+}
+
+/// What isn't run yet of a job, as the fault of its line: the first command of its steps of IDCAMS
+/// that isn't run, also one that stands in a branch. `None` comes exactly where the job is run.
 pub fn unrun(job: &Job) -> Option<TextFault>
     ensures { result ≡ unrun job.now.steps }
 {
     for step in job.steps.as_slice() {
         if let JobStep::Utilities(step) = step {
-            return Some(form_fault(first_line(step.line, step.commands.as_slice())));
+            let fault = unrun_in(step.commands.as_slice());
+            if fault.is_some() {
+                return fault;
+            }
         }
     }
     None

@@ -26,4 +26,4 @@ pub use job::{DataCards, Job, JobStep, JobSteps, UtilityStep, unrun};
 pub use laws::{one_value, value_or_fault};
 pub use parse::parse_job;
 pub use running::parse_run_job;
-pub use text::{Deck, Decks, JobText, Step, Steps};
+pub use text::{Deck, Decks, Step};

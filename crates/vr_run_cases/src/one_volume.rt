@@ -10,11 +10,14 @@ use vr_device::MemoryDevice;
 use vr_history::History;
 use vr_job::{End, ShelfEnd, run_volumes};
 use vr_outside::OpenGate;
+use vr_trace::StepReports;
 
-/// What a run leaves: the device, the history of its volume, and how the job ended.
+/// What a run leaves: the device, the reports of its steps of IDCAMS, the history of its volume, and how
+/// the job ended.
 #[derive(Drop)]
 pub struct VolumeEnd {
     pub device: MemoryDevice,
+    pub reports: StepReports,
     pub history: History,
     pub end: End,
 }
@@ -23,6 +26,7 @@ pub struct VolumeEnd {
 fn volume_end(end: ShelfEnd<MemoryDevice>) -> Result<VolumeEnd, Stop> {
     let ShelfEnd {
         mut shelf,
+        reports,
         histories,
         end,
     } = end;
@@ -30,6 +34,7 @@ fn volume_end(end: ShelfEnd<MemoryDevice>) -> Result<VolumeEnd, Stop> {
     match (shelf.pop(), histories.pop()) {
         (Some(device), Some(history)) => Ok(VolumeEnd {
             device,
+            reports,
             history,
             end,
         }),

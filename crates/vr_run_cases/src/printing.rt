@@ -4,14 +4,15 @@ use crate::answers::{Answer, Stop, say_lines};
 use std::alloc::Global;
 use vr_history::History;
 use vr_job_ends::{End, Trace, print_end};
-use vr_job_text::JobText;
+use vr_job_text::Job;
 use vr_outside::MemorySink;
-use vr_trace::Histories;
+use vr_trace::{Histories, StepReports};
 
-/// Writes what a job prints that left this history, or that ended otherwise.
+/// Writes what a job prints that left these reports and this history, or that ended otherwise.
 pub fn say_end(
     alloc: Global,
-    job: JobText,
+    job: Job,
+    reports: StepReports,
     history: History,
     end: End,
     out: &mut String,
@@ -20,6 +21,7 @@ pub fn say_end(
     histories.push(history)?;
     let trace = Trace {
         job: Some(job),
+        reports,
         end,
         lines: false,
         histories,

@@ -128,7 +128,14 @@ pub fn run_on<R: Threads + Wait + Sync>(
 ) -> Result<MemoryDevice, Stop> {
     let job = job_of(alloc, text)?;
     let end = run_job(rt, alloc, device, &job)?;
-    say_end(alloc, job.into_text(), end.history, end.end, out)?;
+    say_end(
+        alloc,
+        job.into_text(),
+        end.reports,
+        end.history,
+        end.end,
+        out,
+    )?;
     Ok(end.device)
 }
 

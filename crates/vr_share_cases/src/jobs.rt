@@ -1,5 +1,6 @@
 //! Jobs that run over volumes in memory.
 ghost use Rattle.std.specs.Prelude.{◌≡◌};
+ghost use Rattle.vr_job_text.specs.Job.{deck_steps};
 ghost use Rattle.vr_job_text.specs.Numbers.{AreNumbered};
 
 use std::alloc::Global;
@@ -10,7 +11,7 @@ use std::thread::Threads;
 use vr_case_volumes::{Answer, Stop, add_lines};
 use vr_device::MemoryDevice;
 use vr_job::{End, ShelfEnd, run_volumes};
-use vr_job_text::{JobFault, JobText, Step, parse_run_job};
+use vr_job_text::{JobFault, JobStep, parse_run_job};
 use vr_outside::Gate;
 use vr_trace::{EndLine, Histories};
 
@@ -23,33 +24,34 @@ const MOST_VOLUMES: usize = 16;
 /// A job whose decks have numbers of their own, as reading a job ensures.
 #[derive(Drop)]
 pub struct Job {
-    text: JobText,
+    text: vr_job_text::Job,
 }
 
 impl Model for Job {
+    ghost use Rattle.vr_job_text.specs.Job.{deck_steps};
     ghost use Rattle.vr_job_text.specs.Numbers.{AreNumbered};
-    ghost use Rattle.vr_job_text.specs.declared.text.JobText.{JobText};
+    ghost use Rattle.vr_job_text.specs.declared.job.Job.{Job as Read};
 
-    ghost Value = { JobText };
+    ghost Value = { Read };
 
     ghost view = { λ job. job.text };
 
-    ghost invariant = { λ job. AreNumbered job.text.steps };
+    ghost invariant = { λ job. AreNumbered (deck_steps job.text.steps) };
 }
 
 impl Job {
     /// The job that was read.
-    fn of(text: JobText) -> Job
-        requires { AreNumbered text.steps }
+    fn of(text: vr_job_text::Job) -> Job
+        requires { AreNumbered (deck_steps text.steps) }
         ensures { result ≡ text }
     {
         Job { text }
     }
 
     /// Its steps.
-    fn steps(&self) -> &[Step]
+    fn steps(&self) -> &[JobStep]
         ensures steps { result.now ≡ self.now.steps }
-        ensures numbered { AreNumbered result.now }
+        ensures numbered { AreNumbered (deck_steps result.now) }
     {
         self.text.steps.as_slice()
     }
@@ -98,6 +100,7 @@ fn left_by(end: ShelfEnd<MemoryDevice>) -> Result<Ran, Stop> {
         shelf,
         histories,
         end,
+        ..
     } = end;
     match end {
         End::Ran => Ok(Ran { shelf, histories }),

@@ -7,7 +7,7 @@ use std::alloc::Global;
 use vr_case_table::{Answer, Answers, Beside, Both, Stop, judge, parted, word_of};
 use vr_case_words::entry_of;
 use vr_history::History;
-use vr_trace::{Histories, KeptDecks, KeptStep, KeptSteps, listing, trace_lines};
+use vr_trace::{Histories, KeptDeckStep, KeptDecks, KeptStep, KeptSteps, listing, trace_lines};
 
 /// How many things a volume may have at a stamp, for each place of the largest histories.
 const SIZES: [u8; 6] = [6; 6];
@@ -55,7 +55,7 @@ pub fn judge_histories(text: &str, out: &mut Answers) -> Answer {
 /// Writes the listing, and then the trace.
 fn say_both(steps: &KeptSteps, histories: &Histories, out: &mut Answers) -> Answer {
     let alloc = out.alloc();
-    say_lines(listing(alloc, steps, histories)?.as_slice(), out);
+    say_lines(listing(alloc, steps, &[], histories)?.as_slice(), out);
     say_lines(trace_lines(alloc, histories)?.as_slice(), out);
     Ok(())
 }
@@ -79,7 +79,7 @@ fn add_step(alloc: Global, steps: &mut KeptSteps, name: &str, decks: &[(u32, &st
     let mut kept = KeptDecks::new(alloc);
     add_decks(alloc, &mut kept, decks)?;
     let name = bytes_of(alloc, name)?;
-    steps.push(KeptStep { name, decks: kept })?;
+    steps.push(KeptStep::Decks(KeptDeckStep { name, decks: kept }))?;
     Ok(())
 }
 

@@ -1,5 +1,7 @@
-//! What the lines before a question have left: the histories, and the steps with their decks.
+//! What the lines before a question have left: the histories, the steps with their decks, and the
+//! reports.
 
+use crate::escapes;
 use crate::lines::say_lines;
 use std::alloc::Global;
 use std::mem::replace;
@@ -7,17 +9,18 @@ use vr_case_table::{Answer, Answers, Stop, long_of, parted, word_of};
 use vr_case_words::entry_of;
 use vr_history::{Entry, History};
 use vr_trace::{
-    FileNames, Histories, KeptDeck, KeptDecks, KeptStep, KeptSteps, Merged, job_code, listing,
-    merge, step_code, trace_lines,
+    FileNames, Histories, KeptDeck, KeptDeckStep, KeptDecks, KeptStep, KeptSteps, Merged,
+    StepReport, StepReports, job_code, listing, merge, step_code, trace_lines,
 };
 use vr_types::{Bytes, OutOfMemory};
 
-/// The histories of the volumes, the steps, and the decks of the next step.
+/// The histories of the volumes, the steps, the decks of the next step, and the reports.
 #[derive(Drop)]
 pub struct HistoryDesk {
     histories: Vec<History>,
     steps: KeptSteps,
     decks: KeptDecks,
+    reports: StepReports,
 }
 
 impl HistoryDesk {
@@ -27,6 +30,7 @@ impl HistoryDesk {
             histories: Vec::new(alloc),
             steps: KeptSteps::new(alloc),
             decks: KeptDecks::new(alloc),
+            reports: StepReports::new(alloc),
         }
     }
 
@@ -40,6 +44,8 @@ impl HistoryDesk {
             "entry" => self.entry(alloc, rest)?,
             "deck" => self.deck(alloc, rest)?,
             "step" => self.step(alloc, rest)?,
+            "utilities" => self.utilities(alloc, rest)?,
+            "report" => self.report(alloc, rest)?,
             _ => return self.show(alloc, verb, out),
         }
         out.ok()
@@ -50,6 +56,7 @@ impl HistoryDesk {
         self.histories = Vec::new(alloc);
         self.steps = KeptSteps::new(alloc);
         self.decks = KeptDecks::new(alloc);
+        self.reports = StepReports::new(alloc);
     }
 
     /// `entry VOLUME STAMP LINE UNIT WHAT`: the next entry of a volume.
@@ -77,14 +84,32 @@ impl HistoryDesk {
     fn step(&mut self, alloc: Global, text: &str) -> Answer {
         let name = bytes_of(alloc, text)?;
         let decks = replace(&mut self.decks, KeptDecks::new(alloc));
-        self.steps.push(KeptStep { name, decks })?;
+        self.steps
+            .push(KeptStep::Decks(KeptDeckStep { name, decks }))?;
+        Ok(())
+    }
+
+    /// `utilities NAME`: a step of IDCAMS.
+    fn utilities(&mut self, alloc: Global, text: &str) -> Answer {
+        self.steps
+            .push(KeptStep::Utilities(bytes_of(alloc, text)?))?;
+        Ok(())
+    }
+
+    /// `report CODE LINES`: the report of the next step of IDCAMS.
+    fn report(&mut self, alloc: Global, text: &str) -> Answer {
+        let (code, lines) = parted(text);
+        let code = (word_of(code)? % 256) as u8;
+        let lines = Bytes::from_vec(escapes::bytes_of(alloc, lines)?);
+        self.reports.push(StepReport { lines, code })?;
         Ok(())
     }
 
     /// Writes what was asked for.
     fn show(&mut self, alloc: Global, verb: &str, out: &mut Answers) -> Answer {
         let histories = Histories::from_vec(replace(&mut self.histories, Vec::new(alloc)));
-        let shown = show(alloc, &self.steps, &histories, verb, out);
+        let reports = self.reports.as_slice();
+        let shown = show(alloc, &self.steps, reports, &histories, verb, out);
         self.histories = histories.into_vec();
         shown
     }
@@ -126,27 +151,30 @@ pub fn bytes_of(alloc: Global, text: &str) -> Result<Bytes, OutOfMemory> {
 fn show(
     alloc: Global,
     steps: &KeptSteps,
+    reports: &[StepReport],
     histories: &Histories,
     verb: &str,
     out: &mut Answers,
 ) -> Answer {
     match verb {
-        "listing" => say_lines(listing(alloc, steps, histories)?.as_slice(), out),
+        "listing" => say_lines(listing(alloc, steps, reports, histories)?.as_slice(), out),
         "trace" => say_lines(trace_lines(alloc, histories)?.as_slice(), out),
-        "codes" => say_codes(steps, histories, out),
+        "codes" => say_codes(steps, reports, histories, out),
         "merged" => say_merged(&merge(alloc, histories)?, out),
         _ => return Err(Stop::Line),
     }
     Ok(())
 }
 
-/// Writes the codes of the steps and that of the job.
-fn say_codes(steps: &KeptSteps, histories: &Histories, out: &mut Answers) {
+/// Writes the codes of the steps of decks and that of the job.
+fn say_codes(steps: &KeptSteps, reports: &[StepReport], histories: &Histories, out: &mut Answers) {
     for step in steps.as_slice() {
-        out.say_number("", u64::from(step_code(&step.decks, histories)));
-        out.say(" ");
+        if let KeptStep::Decks(step) = step {
+            out.say_number("", u64::from(step_code(&step.decks, histories)));
+            out.say(" ");
+        }
     }
-    out.say_number("job ", u64::from(job_code(steps, histories)));
+    out.say_number("job ", u64::from(job_code(steps, reports, histories)));
 }
 
 /// Writes the volume and the stamp of each entry, and whether an entry stands after the last.

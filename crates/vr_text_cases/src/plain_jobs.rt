@@ -3,7 +3,7 @@
 
 use crate::jobs::{say_deck, say_fault, say_order, say_step, say_unrun};
 use crate::look::{Look, What, add_lines, look_at, name_of, number_of, used};
-use crate::plain_utilities::{first_line, say_utilities, utility_fault};
+use crate::plain_utilities::{say_utilities, unrun_line, utility_fault};
 use std::alloc::Global;
 use vr_case_table::{Answer, Answers, Stop};
 use vr_deck_text::{DeckFault, DeckText, parse_deck};
@@ -356,8 +356,8 @@ fn say_steps(alloc: Global, text: &Text, out: &mut Answers) -> Answer {
         }
         if what == What::Utilities {
             say_utilities(alloc, text, at, out)?;
-            let line = first_line(alloc, text, at)?;
-            unrun = unrun.or(Some(line));
+            let line = unrun_line(alloc, text, at)?;
+            unrun = unrun.or(line);
         }
     }
     say_unrun(unrun, out);

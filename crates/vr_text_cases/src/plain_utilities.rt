@@ -9,7 +9,7 @@ use crate::plain_jobs::{
 };
 use crate::tokens::cause_number;
 use std::alloc::Global;
-use vr_amsparse::{AmsFault, Commands, DataNames, parse};
+use vr_amsparse::{AmsFault, Command, Commands, DataNames, Node, parse};
 use vr_case_table::{Answer, Answers, Stop};
 use vr_scan::{ScanFault, scan};
 use vr_text::Lines;
@@ -107,16 +107,29 @@ pub fn utility_fault(
     }
 }
 
-/// The line of the first command of a step, or that of its card.
-pub fn first_line(alloc: Global, text: &Text, begin: usize) -> Result<u32, Stop> {
+/// The line of the first command of a step that isn't run.
+pub fn unrun_line(alloc: Global, text: &Text, begin: usize) -> Result<Option<u32>, Stop> {
     match read_step(alloc, text, begin, end_of(text, begin)) {
-        Ok(Ok(commands)) => match commands.as_slice().first() {
-            Some(node) => Ok(node.line),
-            None => Ok(number(begin)),
-        },
+        Ok(Ok(commands)) => Ok(first_unrun(commands.as_slice())),
         Ok(Err(_)) => Err(Stop::Line),
         Err(stop) => Err(stop),
     }
+}
+
+/// The line of the first command that isn't run, looked for from the last one on.
+fn first_unrun(nodes: &[Node]) -> Option<u32> {
+    let mut line = None;
+    for node in nodes.iter().rev() {
+        let runs = match &node.command {
+            Command::ListCatalog(list) => !list.all,
+            Command::If(_) | Command::Set(_) => true,
+            _ => false,
+        };
+        if !runs {
+            line = Some(node.line);
+        }
+    }
+    line
 }
 
 /// Writes the data and the commands of a step.

@@ -12,3 +12,5 @@ pub use Rattle.vr_trace.proofs.Merges.{deck_grows, requests_grow, deck_stays}
 pub use Rattle.vr_trace.proofs.Worst.{worst}
 -- a deck's requests are among its entries; the entries of a list of histories, one by one
 pub use Rattle.vr_trace.proofs.Volumes.{entries_again, on_one, requests_of_deck}
+-- inserting one by one sorts
+pub use Rattle.vr_trace.proofs.Insertions.{IsInsertion, sorted_views}

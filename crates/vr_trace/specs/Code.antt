@@ -1,5 +1,5 @@
 -- Return and condition codes. The return codes are those of Using Data Sets; the condition codes of
--- deck steps are this project's own.
+-- steps of decks are this project's own. Those of steps of IDCAMS come with their reports.
 use Rattle.std.specs.Prelude.{ℕ, max, ◌==◌, if◌then◌else◌, List, [], ◌∷◌}
 use Rattle.vr_types.specs.declared.reply.Refusal.{Refusal}
 use Rattle.vr_types.specs.declared.reply.Refusal.TheVariants.{EndOfData, Duplicate, NotFound}
@@ -16,6 +16,8 @@ use Rattle.vr_history.specs.declared.entry.What.{What}
 use Rattle.vr_history.specs.declared.entry.What.TheVariants.{Asked, Undone, Claimed, Split, Faulted}
 use Rattle.vr_trace.specs.declared.kept.KeptDeck.{KeptDeck}
 use Rattle.vr_trace.specs.declared.kept.KeptStep.{KeptStep}
+use Rattle.vr_trace.specs.declared.kept.KeptStep.TheVariants.{Decks, Utilities}
+use Rattle.vr_trace.specs.declared.report.StepReport.{StepReport}
 
 -- 12 for a fault of the device, 8 for a request that was refused for another cause
 abbrev pub refused_code : Refusal → ℕ
@@ -105,6 +107,15 @@ deck_code histories deck = numbers_code histories deck.number
 abbrev pub step_code : List (List Entry) → List KeptDeck → ℕ
 step_code histories decks = greatest (deck_code histories) decks
 
--- the greatest of the codes of the steps
-abbrev pub job_code : List (List Entry) → List KeptStep → ℕ
-job_code histories steps = greatest (λ (step : KeptStep). step_code histories step.decks) steps
+-- what a step makes of the code of its job by its decks
+abbrev pub decks_code : List (List Entry) → KeptStep → ℕ
+decks_code histories (Decks step) = step_code histories step.decks
+decks_code histories (Utilities name) = 0
+
+abbrev pub report_code : StepReport → ℕ
+report_code report = report.code
+
+-- the greatest of the codes of the steps of decks and of the reports of the steps of IDCAMS
+abbrev pub job_code : List (List Entry) → List KeptStep → List StepReport → ℕ
+job_code histories steps reports =
+    max (greatest (decks_code histories) steps) (greatest report_code reports)

@@ -1,4 +1,4 @@
--- The listing of a job of deck steps. Its lines are this project's own.
+-- The listing of a job. Its lines are this project's own.
 use Rattle.std.specs.Prelude.{ℕ, ◌==◌, cond, nat_le, if◌then◌else◌, List, [], ◌∷◌, ◌++◌, codes}
 use Rattle.std.specs.List.{flat_map}
 use Rattle.vr_types.specs.declared.reply.Reply.{Reply}
@@ -8,7 +8,10 @@ use Rattle.vr_history.specs.declared.entry.What.{What}
 use Rattle.vr_history.specs.declared.entry.What.TheVariants.{Asked, Undone, Claimed, Split, Faulted}
 use Rattle.vr_history.specs.Merged.{Numbered, merged}
 use Rattle.vr_trace.specs.declared.kept.KeptDeck.{KeptDeck}
+use Rattle.vr_trace.specs.declared.kept.KeptDeckStep.{KeptDeckStep}
 use Rattle.vr_trace.specs.declared.kept.KeptStep.{KeptStep}
+use Rattle.vr_trace.specs.declared.kept.KeptStep.TheVariants.{Decks, Utilities}
+use Rattle.vr_trace.specs.declared.report.StepReport.{StepReport}
 use Rattle.vr_trace.specs.Code.{step_code, job_code}
 use Rattle.vr_trace.specs.Lines.{field, verb_of, file_of, result_of, values_of}
 
@@ -60,13 +63,29 @@ decks_lines entries decks = flat_map (deck_lines entries) (by_number decks)
 abbrev pub step_line : List ℕ → List ℕ → List ℕ
 step_line name said = codes "STEP " ++ name ++ said ++ 10 ∷ []
 
-abbrev pub step_listing : List (List Entry) → KeptStep → List ℕ
+-- what a step of decks prints
+abbrev pub step_listing : List (List Entry) → KeptDeckStep → List ℕ
 step_listing histories step =
     step_line step.name (codes " DECKS") ++ decks_lines (merged histories) step.decks
     ++ step_line step.name (field (codes " CODE ") (step_code histories step.decks))
 
+-- what a step of IDCAMS of this name prints
+abbrev pub report_listing : List ℕ → StepReport → List ℕ
+report_listing name report =
+    step_line name (codes " IDCAMS") ++ report.lines
+    ++ step_line name (field (codes " CODE ") report.code)
+
+-- what steps print: each step of IDCAMS takes the next report, and prints nothing where none is left
+abbrev pub steps_listing : List (List Entry) → List KeptStep → List StepReport → List ℕ
+steps_listing histories [] reports = []
+steps_listing histories (Decks step ∷ steps) reports =
+    step_listing histories step ++ steps_listing histories steps reports
+steps_listing histories (Utilities name ∷ steps) [] = steps_listing histories steps []
+steps_listing histories (Utilities name ∷ steps) (report ∷ reports) =
+    report_listing name report ++ steps_listing histories steps reports
+
 -- the listing of the steps that ran, over the histories of volumes 0 and on
-abbrev pub listing_of : List KeptStep → List (List Entry) → List ℕ
-listing_of steps histories =
-    flat_map (step_listing histories) steps ++ field (codes "JOB CODE ") (job_code histories steps)
-    ++ 10 ∷ []
+abbrev pub listing_of : List KeptStep → List StepReport → List (List Entry) → List ℕ
+listing_of steps reports histories =
+    steps_listing histories steps reports
+    ++ field (codes "JOB CODE ") (job_code histories steps reports) ++ 10 ∷ []

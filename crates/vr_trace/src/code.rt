@@ -4,7 +4,8 @@ ghost use Rattle.vr_trace.specs.Code as coded;
 ghost use Rattle.vr_trace.specs.Volumes.{entries_of};
 
 use crate::histories::Histories;
-use crate::kept::{KeptDecks, KeptSteps};
+use crate::kept::{KeptDecks, KeptStep, KeptSteps};
+use crate::report::StepReport;
 use vr_history::{Entry, History, What};
 use vr_types::{Refusal, Reply};
 
@@ -29,13 +30,42 @@ pub(crate) fn feedback(reply: &Reply) -> u16
     }
 }
 
-/// The condition code of a job: the greatest of those of its steps, 0 where there is none.
-pub fn job_code(steps: &KeptSteps, histories: &Histories) -> u8
-    ensures { result ≡ coded.job_code histories.now steps.now }
+/// The condition code of a job: the greatest of those of its steps of decks and of the reports of its
+/// steps of IDCAMS, 0 where there is none.
+pub fn job_code(steps: &KeptSteps, reports: &[StepReport], histories: &Histories) -> u8
+    ensures { result ≡ coded.job_code histories.now steps.now reports.now }
+{
+    steps_code(steps.as_slice(), histories).max(reports_code(reports))
+}
+
+/// The greatest of the codes of the steps of decks.
+fn steps_code(steps: &[KeptStep], histories: &Histories) -> u8
+    ensures { result ≡ coded.greatest (coded.decks_code histories.now) steps.now }
 {
     let mut code = 0u8;
-    for step in steps.as_slice() {
-        code = code.max(step_code(&step.decks, histories));
+    for step in steps {
+        code = code.max(decks_code(step, histories));
+    }
+    code
+}
+
+/// What a step makes of it by its decks.
+fn decks_code(step: &KeptStep, histories: &Histories) -> u8
+    ensures { result ≡ coded.decks_code histories.now step.now }
+{
+    match step {
+        KeptStep::Decks(step) => step_code(&step.decks, histories),
+        KeptStep::Utilities(_) => 0,
+    }
+}
+
+/// The greatest of the codes of reports.
+fn reports_code(reports: &[StepReport]) -> u8
+    ensures { result ≡ coded.greatest coded.report_code reports.now }
+{
+    let mut code = 0u8;
+    for report in reports {
+        code = code.max(report.code);
     }
     code
 }

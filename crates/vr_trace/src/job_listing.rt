@@ -1,4 +1,4 @@
-//! The listing of a job of deck steps.
+//! The listing of a job.
 ghost use Rattle.std.specs.Prelude.{◌≡◌, ◌++◌, ◌∷◌, [], codes, map, OnOk, IfOk};
 ghost use Rattle.std.specs.Fmt.{decimal};
 ghost use Rattle.std.specs.List.{flat_map};
@@ -10,27 +10,39 @@ ghost use Rattle.vr_trace.specs.Numbering.{numbered_of, held_decks};
 
 use crate::code::{job_code, step_code};
 use crate::histories::Histories;
-use crate::kept::{FileNames, KeptDeck, KeptDecks, KeptStep, KeptSteps};
+use crate::kept::{FileNames, KeptDeck, KeptDeckStep, KeptDecks, KeptStep, KeptSteps};
 use crate::line::{NEW_LINE, verb, write_field, write_file, write_result, write_values};
 use crate::merging::{Merged, NumberedEntry, merge};
+use crate::report::StepReport;
 use std::alloc::Global;
 use vr_history::What;
 use vr_types::{Bytes, OutOfMemory, Reply, Request};
 
-/// What a job prints whose steps ran and left the volumes with these histories: for each step its
-/// decks by their numbers, each with a line for each of its requests on any volume, in the order of
-/// the merged history; and the codes. Out of memory is its one error.
+/// What a job prints whose steps ran and left these reports, and the volumes with these histories: for
+/// each step of decks its decks by their numbers, each with a line for each of its requests on any
+/// volume, in the order of the merged history; for each step of IDCAMS the lines of the next report,
+/// as long as one is left; and the codes. Out of memory is its one error.
 pub fn listing(
     alloc: Global,
     steps: &KeptSteps,
+    reports: &[StepReport],
     histories: &Histories,
 ) -> Result<Bytes, OutOfMemory>
-    ensures { IfOk result (λ text. text ≡ listed.listing_of steps.now histories.now) }
+    ensures { IfOk result (λ text. text
+        ≡ listed.listing_of steps.now reports.now histories.now) }
 {
     let merged = merge(alloc, histories)?;
     let mut out = Bytes::new(alloc);
-    write_steps(alloc, &mut out, steps.as_slice(), histories, &merged)?;
-    write_code(alloc, &mut out, b"JOB CODE ", job_code(steps, histories))?;
+    write_steps(
+        alloc,
+        &mut out,
+        steps.as_slice(),
+        reports,
+        histories,
+        &merged,
+    )?;
+    let code = job_code(steps, reports, histories);
+    write_code(alloc, &mut out, b"JOB CODE ", code)?;
     Ok(out)
 }
 
@@ -42,48 +54,72 @@ fn write_code(alloc: Global, out: &mut Bytes, keyword: &[u8], code: u8) -> Resul
     out.push(NEW_LINE)
 }
 
-/// Writes the lines of the steps.
+/// Writes the lines of the steps: each step of IDCAMS takes the next report.
 fn write_steps(
     alloc: Global,
     out: &mut Bytes,
     steps: &[KeptStep],
+    reports: &[StepReport],
     histories: &Histories,
     merged: &Merged<'_>,
 ) -> Result<(), OutOfMemory>
     requires { merged.now ≡ merging.merged histories.now }
     ensures { OnOk result (out.new
-        ≡ out.old ++ flat_map (listed.step_listing histories.now) steps.now) }
+        ≡ out.old ++ listed.steps_listing histories.now steps.now reports.now) }
 {
+    let mut left = reports;
     for step in steps {
-        write_step(alloc, out, step, histories, merged)?;
+        match step {
+            KeptStep::Decks(step) => write_step(alloc, out, step, histories, merged)?,
+            KeptStep::Utilities(name) => {
+                if let Some((report, later)) = left.split_first() {
+                    write_report(alloc, out, name.as_slice(), report)?;
+                    left = later;
+                }
+            }
+        }
     }
     Ok(())
 }
 
-/// Writes the lines of a step.
+/// Writes the lines of a step of decks.
 fn write_step(
     alloc: Global,
     out: &mut Bytes,
-    step: &KeptStep,
+    step: &KeptDeckStep,
     histories: &Histories,
     merged: &Merged<'_>,
 ) -> Result<(), OutOfMemory>
     requires { merged.now ≡ merging.merged histories.now }
     ensures { OnOk result (out.new ≡ out.old ++ listed.step_listing histories.now step.now) }
 {
-    write_heading(out, step.name.as_slice())?;
+    write_heading(out, step.name.as_slice(), b" DECKS")?;
     write_decks(alloc, out, &step.decks, merged.as_slice())?;
     let code = step_code(&step.decks, histories);
     write_step_code(alloc, out, step.name.as_slice(), code)
 }
 
-/// Writes the first line of a step.
-fn write_heading(out: &mut Bytes, name: &[u8]) -> Result<(), OutOfMemory>
-    ensures { OnOk result (out.new ≡ out.old ++ listed.step_line name.now (codes " DECKS")) }
+/// Writes the lines of a step of IDCAMS.
+fn write_report(
+    alloc: Global,
+    out: &mut Bytes,
+    name: &[u8],
+    report: &StepReport,
+) -> Result<(), OutOfMemory>
+    ensures { OnOk result (out.new ≡ out.old ++ listed.report_listing name.now report.now) }
+{
+    write_heading(out, name, b" IDCAMS")?;
+    out.extend(report.lines.as_slice())?;
+    write_step_code(alloc, out, name, report.code)
+}
+
+/// Writes the first line of a step, with its program.
+fn write_heading(out: &mut Bytes, name: &[u8], program: &[u8]) -> Result<(), OutOfMemory>
+    ensures { OnOk result (out.new ≡ out.old ++ listed.step_line name.now program.now) }
 {
     out.extend(b"STEP ")?;
     out.extend(name)?;
-    out.extend(b" DECKS")?;
+    out.extend(program)?;
     out.push(NEW_LINE)
 }
 

@@ -106,11 +106,18 @@ impl KeptDecks {
     }
 }
 
-/// A deck step: its name, and its decks.
+/// A step of decks: its name, and its decks.
 #[derive(Drop)]
-pub struct KeptStep {
+pub struct KeptDeckStep {
     pub name: Bytes,
     pub decks: KeptDecks,
+}
+
+/// A step: one of decks, or one of IDCAMS, of which the name is shown.
+#[derive(Drop)]
+pub enum KeptStep {
+    Decks(KeptDeckStep),
+    Utilities(Bytes),
 }
 
 /// The steps of a job, in order.

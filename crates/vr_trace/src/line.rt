@@ -10,7 +10,7 @@ use vr_text::write_literal;
 use vr_types::{Bytes, Kind, OutOfMemory, Place, Refusal, Reply, Request, Unit, four_at};
 
 /// What ends a line.
-pub(crate) const NEW_LINE: u8 = b'\n';
+pub const NEW_LINE: u8 = b'\n';
 
 /// Writes a number in digits.
 pub(crate) fn write_number(alloc: Global, out: &mut Bytes, number: u64) -> Result<(), OutOfMemory>
@@ -20,8 +20,8 @@ pub(crate) fn write_number(alloc: Global, out: &mut Bytes, number: u64) -> Resul
     out.extend(digits.as_bytes())
 }
 
-/// Writes a keyword and a number.
-pub(crate) fn write_field(
+/// Writes a keyword and a number in digits. Out of memory is its one error.
+pub fn write_field(
     alloc: Global,
     out: &mut Bytes,
     keyword: &[u8],

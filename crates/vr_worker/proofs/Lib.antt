@@ -20,3 +20,6 @@ pub mod Kept
 pub mod Merging
 pub mod Gapless
 pub mod Sequences
+pub mod DeckSteps
+pub mod Reporting
+pub mod JobRuns

@@ -27,7 +27,7 @@ use Rattle.vr_worker.proofs.Merging.{none-merged}
 use Rattle.vr_worker.proofs.Numbering.{step-fresh}
 
 -- what is owed where a call is done, where it isn't
-err-vacuous : (result : Result (Unit {0}) RunNo) (fault : RunNo) (P : Type 0)
+pub err-vacuous : (result : Result (Unit {0}) RunNo) (fault : RunNo) (P : Type 0)
     → IsErrAnd result (λ (other : RunNo). other ≡ fault) → OnOk result P
 err-vacuous (Ok value) fault P fails = absurd fails
 err-vacuous (Err other) fault P fails = tt
@@ -47,14 +47,14 @@ of-none (step ∷ steps) entries none =
     ([], [], none, All-nil (IsOfStep step), of-none steps [] refl)
 
 -- and entries of some steps are those of more
-of-more : (steps more : List Step) (entries : List Entry) → AreOfSteps steps entries
+pub of-more : (steps more : List Step) (entries : List Entry) → AreOfSteps steps entries
     → AreOfSteps (steps ++ more) entries
 of-more [] more entries none = of-none more entries none
 of-more (step ∷ steps) more entries (first, rest, both, all, of) =
     (first, rest, both, all, of-more steps more rest of)
 
 -- another step's come after them
-of-then : (steps : List Step) (step : Step) (entries more : List Entry)
+pub of-then : (steps : List Step) (step : Step) (entries more : List Entry)
     → AreOfSteps steps entries → All (IsOfStep step) more
     → AreOfSteps (steps ++ step ∷ []) (entries ++ more)
 of-then [] step entries more none own = (
@@ -281,16 +281,31 @@ module _ {V : Type 0} (number : V → ℕ) (entries : V → List Entry) (follows
     pub failed-since : AreSinceSteps entries follows steps first now
     failed-since = since-some entries follows steps (i + 1) first now since-next
 
-  -- after all of them
-  pub all-asked : (steps : List Step) (i : ℕ) (now : List V) → take i steps ≡ steps
-      → HaveDone number entries follows (map catalog first) (take i steps) first now
-      → HasAsked {E = RunNo} (map catalog first) steps (Ok tt) (map entries now)
-  all-asked steps i now whole done = record {
-    count = i;
-    next = λ deck. [];
-    asked = λ deck. done.asked deck
-        ∙ sym (append-nil (steps_ask (map catalog first) (take i steps) deck));
-    prefixes = λ deck. (steps_ask (map catalog first) (take 1 (drop i steps)) deck, refl);
-    whole = whole;
-    rising = done.rising;
-  }
+  -- where they stop after some of the steps
+  module _ (steps : List Step) (i : ℕ) (now : List V)
+      (done : HaveDone number entries follows (map catalog first) (take i steps) first now) where
+    pub stopped-since : AreSinceSteps entries follows steps first now
+    stopped-since = since-some entries follows steps i first now done.since
+
+    pub stopped-steps : ComeInSteps steps (map entries now)
+    stopped-steps = subst (λ (them : List Step). ComeInSteps them (map entries now))
+        (take-append-drop i steps)
+        (of-more (take i steps) (drop i steps) (map entry_of (merged (map entries now)))
+        done.in_steps)
+
+    pub stopped-gapless : AreGapless steps (map entries now)
+    stopped-gapless = subst (λ (them : List Step). AreGapless them (map entries now))
+        (take-append-drop i steps)
+        (gapless-more (take i steps) (drop i steps) (map entries now) done.gapless)
+
+    pub stopped-asked : (result : Result (Unit {0}) RunNo) → OnOk result (take i steps ≡ steps)
+        → HasAsked (map catalog first) steps result (map entries now)
+    stopped-asked result whole = record {
+      count = i;
+      next = λ deck. [];
+      asked = λ deck. done.asked deck
+          ∙ sym (append-nil (steps_ask (map catalog first) (take i steps) deck));
+      prefixes = λ deck. (steps_ask (map catalog first) (take 1 (drop i steps)) deck, refl);
+      whole = whole;
+      rising = done.rising;
+    }

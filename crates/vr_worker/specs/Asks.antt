@@ -1,11 +1,16 @@
 -- What the decks of a job request, by the catalogs of the volumes. The rules are this project's
 -- own.
-use Rattle.std.specs.Prelude.{◌≡◌, ℕ, ◌==◌, if◌then◌else◌, List, [], ◌++◌, flat_map}
+use Rattle.std.specs.Prelude.{◌≡◌, ℕ, ◌==◌, if◌then◌else◌, List, [], ◌++◌, flat_map, map}
+use Rattle.vr_ams_list.specs.Shown.{Shown}
 use Rattle.vr_types.specs.declared.bound.Bound.{Bound}
 use Rattle.vr_catalog.specs.declared.entry.CatEntry.{CatEntry}
 use Rattle.vr_bind.specs.Bound.{bound_requests}
 use Rattle.vr_job_text.specs.declared.text.Deck.{Deck}
 use Rattle.vr_job_text.specs.declared.text.Step.{Step}
+
+-- the catalogs of volumes, as they are shown
+abbrev pub catalogs_of : {V : Type 0} → (V → Shown) → List V → List (List CatEntry)
+catalogs_of {V} shown volumes = map (λ (volume : V). (shown volume).catalog) volumes
 
 -- the requests of a deck, as each deck number has them: none at another number
 abbrev pub of_deck : ℕ → List Bound → ℕ → List Bound

@@ -6,3 +6,4 @@ pub mod Ready
 pub mod Asks
 pub mod Runs
 pub mod Steps
+pub mod Reports

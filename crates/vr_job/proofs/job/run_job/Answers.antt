@@ -1,6 +1,7 @@
-use Rattle.std.proofs.Common.{List, codes, subst, sym}
+use Rattle.std.proofs.Common.{List, ap, codes, subst, sym}
 use Rattle.std.specs.Prelude.{bytes_eq}
-use Rattle.vr_job.specs.Done.{IsRunDone}
+use Rattle.vr_job_ends.specs.declared.job_end.Trace.{Trace}
+use Rattle.vr_job.specs.Done.{AreFew, IsRunDone}
 use Rattle.vr_job.proofs.Codes.{ran-few}
 use Rattle.vr_job.proofs.Shown.{run-shown}
 use Rattle.vr_job.proofs.job.run_job.Goals as goal
@@ -9,6 +10,8 @@ pub returns-clause-ran : goal.returns-clause-ran
 returns-clause-ran g c = ran-few (g.K.Sink.faults c.args.output.now)
     (g.K.Sink.faults c.print_end.new.output) c.print_end.result.trace c.print_end.result.status
     c.print_end.ensures.status
+    (subst AreFew (sym (ap (λ (trace : Trace). trace.reports) c.print_end.ensures.trace))
+    c.run_words-done.ensures.few)
 
 pub returns-clause-runs : goal.returns-clause-runs
 returns-clause-runs g c = λ job dir lines asked.

@@ -4,6 +4,7 @@ use Rattle.vr_job_ends.specs.Asked.{Format, Run, asked_of}
 use Rattle.vr_job_ends.specs.declared.command.Plan.{Plan}
 use Rattle.vr_job_ends.proofs.CallerLemmas.{asks_plan}
 use Rattle.vr_job.specs.Done.{IsRunDone}
+use Rattle.vr_job.proofs.Codes.{done-few, none-few}
 use Rattle.vr_job.proofs.job.run_words.Goals as goal
 
 pub format_shelf-requires : goal.format_shelf-requires
@@ -29,3 +30,20 @@ returns-in-Some-Run-clause-runs g c = λ job dir lines asked.
     subst (λ (name : List ℕ). Done (bytes_eq name (codes "-")) lines) dirs
     (subst (λ (traced : Bool). Done (bytes_eq plan.dir.now (codes "-")) traced) traces
     (subst (λ (in_memory : Bool). Done in_memory plan.trace) c.eq.ensures c.run_shelf.ensures.done))
+
+pub returns-in-Some-Run-clause-few : goal.returns-in-Some-Run-clause-few
+returns-in-Some-Run-clause-few g c =
+    let B = g.D.BlockDevice in
+    let S = g.S.Source in
+    let done = c.run_shelf in
+    done-few B.tells B.seen B.faults c.eq.result c.in-Some-Run.trace
+    (S.left c.args.input.now) (S.left done.new.input) (S.faults c.args.input.now)
+    (S.faults done.new.input) c.args.shelf.items done.result.shelf.items done.result.trace
+    done.result.trace.end done.ensures.done
+
+pub returns-in-Some-Format-clause-few : goal.returns-in-Some-Format-clause-few
+returns-in-Some-Format-clause-few g c =
+    none-few c.format_shelf.result.trace c.format_shelf.ensures.nothing
+
+pub returns-in-None-clause-few : goal.returns-in-None-clause-few
+returns-in-None-clause-few g c = none-few c.not_run.result.trace c.not_run.ensures.nothing

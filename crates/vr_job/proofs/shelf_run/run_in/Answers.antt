@@ -30,6 +30,7 @@ close_all-unsynced-requires-clause-few g c =
     omega (
       arith,
       ran-count D.tells D.seen D.faults c.args.steps.now c.ask_all-asked.result
+          c.ask_all-asked.new.reports
           c.open_all-opened.new.volumes.items c.ask_all-asked.new.volumes.items c.is_ok.result
           c.ask_all-asked.ensures,
       c.open_all-opened.ensures.count,
@@ -42,6 +43,7 @@ close_all-unsynced-requires-clause-room g c =
     omega (
       arith,
       ran-count D.tells D.seen D.faults c.args.steps.now c.ask_all-asked.result
+          c.ask_all-asked.new.reports
           c.open_all-opened.new.volumes.items c.ask_all-asked.new.volumes.items c.is_ok.result
           c.ask_all-asked.ensures,
       c.open_all-opened.ensures.count,
@@ -55,6 +57,7 @@ close_all-unsynced-requires-clause-histories_room g c =
     omega (
       arith,
       ran-count D.tells D.seen D.faults c.args.steps.now c.ask_all-asked.result
+          c.ask_all-asked.new.reports
           c.open_all-opened.new.volumes.items c.ask_all-asked.new.volumes.items c.is_ok.result
           c.ask_all-asked.ensures,
       c.open_all-opened.ensures.count,
@@ -71,6 +74,7 @@ give_back-requires-clause-room g c =
           closed.new.shelf.items (entries_of closed.new.histories.items) closed.result
           closed.ensures.closed).0,
       ran-count D.tells D.seen D.faults c.args.steps.now c.ask_all-asked.result
+          c.ask_all-asked.new.reports
           c.open_all-opened.new.volumes.items c.ask_all-asked.new.volumes.items c.is_ok.result
           c.ask_all-asked.ensures,
       c.open_all-opened.ensures.count,
@@ -89,6 +93,7 @@ give_back-requires-clause-histories_room g c =
           closed.ensures.closed).1,
       length-map closed.new.histories.items (λ (kept : Kept). kept.entries),
       ran-count D.tells D.seen D.faults c.args.steps.now c.ask_all-asked.result
+          c.ask_all-asked.new.reports
           c.open_all-opened.new.volumes.items c.ask_all-asked.new.volumes.items c.is_ok.result
           c.ask_all-asked.ensures,
       c.open_all-opened.ensures.count,
@@ -106,17 +111,18 @@ returns g c =
     let kept = entries_of closed.new.histories.items in
     let run = shelf-run D.tells D.seen D.faults steps devices unopened closed.new.shelf.items
     c.open_all-opened.new.volumes.items c.ask_all-asked.new.volumes.items kept
-    c.ask_all-asked.result closed.result closed.ensures.closed c.open_all-opened.result
+    c.ask_all-asked.new.reports c.ask_all-asked.result closed.result closed.ensures.closed c.open_all-opened.result
     c.open_all-opened.ensures.opened
     (subst (λ (b : Bool). HaveRunWhere b D.tells D.seen D.faults steps c.ask_all-asked.result
+    c.ask_all-asked.new.reports
     c.open_all-opened.new.volumes.items c.ask_all-asked.new.volumes.items) c.is_ok.ensures.value
     c.ask_all-asked.ensures) in
     subst (λ (histories : List (List Entry)). IsShelfRun D.tells D.seen D.faults steps
-    c.end_of.result histories devices c.give_back.new.shelf.items)
+    c.end_of.result c.ask_all-asked.new.reports histories devices c.give_back.new.shelf.items)
     (sym (c.from_vec.ensures ∙ c.give_back.ensures.histories))
     (subst (λ (shelf : List g.row.D.Denot). IsShelfRun D.tells D.seen D.faults steps
-    c.end_of.result (kept ++ map (λ _. []) unopened) devices shelf)
+    c.end_of.result c.ask_all-asked.new.reports (kept ++ map (λ _. []) unopened) devices shelf)
     (sym c.give_back.ensures.shelf)
     (subst (λ (end : End). IsShelfRun D.tells D.seen D.faults steps end
-    (kept ++ map (λ _. []) unopened) devices (closed.new.shelf.items ++ unopened))
+    c.ask_all-asked.new.reports (kept ++ map (λ _. []) unopened) devices (closed.new.shelf.items ++ unopened))
     (sym c.end_of.ensures) run))

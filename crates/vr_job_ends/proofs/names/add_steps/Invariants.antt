@@ -1,5 +1,5 @@
 use Rattle.std.proofs.Common.{◌≡◌, ◌++◌, map, take}
-use Rattle.vr_job_ends.specs.Names.{kept_deck, kept_step}
+use Rattle.vr_job_ends.specs.Names.{kept_step}
 use Rattle.vr_job_ends.proofs.names.add_steps.Given as goal
 
 -- those so far are added

@@ -1,0 +1,68 @@
+//! The detail lines of LISTCAT.
+ghost use Rattle.std.specs.Prelude.{◌≡◌, ◌++◌, map, IfOk, OnOk};
+ghost use Rattle.std.specs.List.{flat_map};
+ghost use Rattle.vr_ams_list.specs.Held.{held_entries};
+ghost use Rattle.vr_ams_list.specs.Listing as stated;
+
+use crate::order::listed_entries;
+use crate::shown::ShownVolume;
+use std::alloc::Global;
+use vr_catalog::{CatEntry, EntryKind};
+use vr_trace::{NEW_LINE, write_field};
+use vr_types::{Bytes, Name, OutOfMemory};
+
+/// The lines of the entries of the volumes that have these names, or of all, by name; and how many
+/// they are.
+pub(crate) fn detail_lines<V: ShownVolume>(
+    alloc: Global,
+    volumes: &[V],
+    names: &[Name],
+) -> Result<Bytes, OutOfMemory>
+    ensures { IfOk result (λ lines.
+        lines ≡ stated.detail_lines (map V.shown volumes.now) names.now) }
+{
+    let entries = listed_entries(alloc, volumes, names)?;
+    lines_of(alloc, entries.as_slice())
+}
+
+/// A line for each entry, and how many they are.
+fn lines_of(alloc: Global, entries: &[&CatEntry]) -> Result<Bytes, OutOfMemory>
+    ensures { IfOk result (λ lines. lines ≡ stated.lines_of (held_entries entries.now)) }
+{
+    let mut out = Bytes::new(alloc);
+    write_entries(&mut out, entries)?;
+    write_field(alloc, &mut out, b"ENTRIES ", entries.len() as u64)?;
+    out.push(NEW_LINE)?;
+    Ok(out)
+}
+
+/// Writes a line for each entry.
+fn write_entries(out: &mut Bytes, entries: &[&CatEntry]) -> Result<(), OutOfMemory>
+    ensures { OnOk result
+        (out.new ≡ out.old ++ flat_map stated.entry_line (held_entries entries.now)) }
+{
+    for entry in entries {
+        write_entry(out, entry)?;
+    }
+    Ok(())
+}
+
+/// Writes the line of an entry.
+fn write_entry(out: &mut Bytes, entry: &CatEntry) -> Result<(), OutOfMemory>
+    ensures { OnOk result (out.new ≡ out.old ++ stated.entry_line entry.now) }
+{
+    out.extend(kind_word(entry.entry_kind))?;
+    out.extend(b" ")?;
+    out.extend(entry.name.as_slice())?;
+    out.push(NEW_LINE)
+}
+
+fn kind_word(kind: EntryKind) -> &'static [u8]
+    ensures { result.now ≡ stated.kind_word kind }
+{
+    match kind {
+        EntryKind::Cluster => b"CLUSTER",
+        EntryKind::Alternate => b"AIX",
+        EntryKind::Path => b"PATH",
+    }
+}
