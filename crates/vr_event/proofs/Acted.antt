@@ -212,13 +212,3 @@ acted_made before now Done after unit line request old new is =
     answered-made before now after unit line request old new is.by
 acted_made before now (Again given) after unit line request old new is =
     stepped-made after unit line request given old new is.by.1
-
--- A write that failed before any lock was taken.
-pub failed-for : (after : ℕ) (unit : UnitOfRecovery) (line : ℕ) (request : Request)
-    (old new : FileNow) → new ≡ failed after unit line request old
-    → new ≡ failed after unit line request (record old { locks = new.locks })
-failed-for after unit line request old new leaves =
-    let same : new.locks ≡ old.locks = ap (λ (f : FileNow). f.locks) leaves in
-    leaves ∙ ap (λ (locks : List Lock). failed after unit line request (record old {
-      locks = locks;
-    })) (sym same)

@@ -18,7 +18,8 @@ use Rattle.vr_event.specs.declared.act.Act.{Act}
 use Rattle.vr_event.specs.Cause.{HasGetCause, IsEnteredFor}
 use Rattle.vr_event.specs.EndedFile.{IsEnded}
 use Rattle.vr_event.specs.declared.act.Act.TheVariants.{Again, Done}
-use Rattle.vr_event.proofs.Causes.{cause-still, entered-refused, entered-with}
+use Rattle.vr_event.proofs.Causes.{cause-read, cause-still, entered-refused, entered-with}
+use Rattle.vr_event.proofs.Causes.{stopped-by-failing}
 
 -- a write fails after locks were taken, or before
 failed-locks : (after : ℕ) (unit : UnitOfRecovery) (line : ℕ) (request : Request)
@@ -37,6 +38,7 @@ module _ {before now : Faults} {after : ℕ} {unit : UnitOfRecovery} {line : ℕ
     reads = entered.cause.reads;
     writes = entered.cause.writes;
     by = inl entered;
+    quiet = λ stays. entered.cause.unwritten entered.going;
   }
 
   -- with one, or with the fault of a write,
@@ -48,43 +50,54 @@ module _ {before now : Faults} {after : ℕ} {unit : UnitOfRecovery} {line : ℕ
     by = ⊎_elim (λ entered. inl entered)
         (λ fails. inr (inr (failed-locks after unit line request old new fails.0, fails.1)))
         got.entered;
+    quiet = got.quiet;
   }
 
-  -- with that fault,
-  pub acted-failed : before.reads ≤ now.reads → before.writes < now.writes
-      → new ≡ failed after unit line request old
-      → IsActed before now Done after unit line request old new
-  acted-failed reads writes leaves = record {
+  -- with that fault, once locks were taken or before,
+  pub acted-failed-locked : before.reads ≤ now.reads → before.writes < now.writes
+      → new ≡ failed after unit line request (record old { locks = new.locks })
+      → old.stopped ≡ None → IsActed before now Done after unit line request old new
+  acted-failed-locked reads writes leaves going = record {
     reads = reads;
     writes = omega arith;
-    by = inr (inr (failed-locks after unit line request old new leaves, writes));
+    by = inr (inr (leaves, writes));
+    quiet = λ stays. absurd (stopped-by-failing after unit line request old
+        (record old { locks = new.locks }) new leaves going stays);
   }
 
+  pub acted-failed : before.reads ≤ now.reads → before.writes < now.writes
+      → new ≡ failed after unit line request old → old.stopped ≡ None
+      → IsActed before now Done after unit line request old new
+  acted-failed reads writes leaves going = acted-failed-locked reads writes
+      (failed-locks after unit line request old new leaves) going
+
   -- refused for a read that failed,
-  pub acted-read : before.reads < now.reads → before.writes ≤ now.writes
+  pub acted-read : before.reads < now.reads → now.writes ≡ before.writes
       → new ≡ with_event after unit line (Asked request (Refused ReadFault))
       (record old { files = new.files; files_room = new.files_room })
       → IsActed before now Done after unit line request old new
-  acted-read reads writes leaves = acted-entered (entered-refused ReadFault leaves (record {
-    reads = omega arith;
-    writes = writes;
-    read = λ is. reads;
-    write = λ is. absurd cc;
-  }))
+  acted-read reads writes leaves =
+      acted-entered (entered-refused ReadFault leaves (cause-read before now reads writes) refl)
 
   -- as the end of its unit,
-  pub acted-ended : before.reads ≤ now.reads → before.writes ≤ now.writes → EndsUnit request
-      → IsEnded after unit line request old new
+  pub acted-ended : now ≡ before → EndsUnit request → IsEnded after unit line request old new
       → IsActed before now Done after unit line request old new
-  acted-ended reads writes ends leaves =
-      record { reads = reads; writes = writes; by = inr (inl (ends, leaves)) }
+  acted-ended same ends leaves = record {
+    reads = omega (arith, ap (λ (f : Faults). f.reads) same);
+    writes = omega (arith, ap (λ (f : Faults). f.writes) same);
+    by = inr (inl (ends, leaves, same));
+    quiet = λ stays. ap (λ (f : Faults). f.writes) same;
+  }
 
   -- or a step of it was done.
-  pub acted-again : before.reads ≤ now.reads → before.writes ≤ now.writes
-      → HasStepped after unit line request old new
+  pub acted-again : now ≡ before → HasStepped after unit line request old new
       → IsActed before now (Again request) after unit line request old new
-  acted-again reads writes stepped =
-      record { reads = reads; writes = writes; by = (refl, stepped) }
+  acted-again same stepped = record {
+    reads = omega (arith, ap (λ (f : Faults). f.reads) same);
+    writes = omega (arith, ap (λ (f : Faults). f.writes) same);
+    by = (refl, stepped, same);
+    quiet = λ stays. ap (λ (f : Faults). f.writes) same;
+  }
 
 -- an ENDREQ that is done is entered with its reply
 pub entered-done : (after : ℕ) (unit : UnitOfRecovery) (line : ℕ) (request : Request)
@@ -94,7 +107,7 @@ pub entered-done : (after : ℕ) (unit : UnitOfRecovery) (line : ℕ) (request :
     → IsEnteredFor faults faults after unit line request old new
 entered-done after unit line request old new faults leaves =
     entered-with (replies.Done 0 None None) leaves
-    (cause-still faults (replies.Done 0 None None) refl)
+    (cause-still faults (replies.Done 0 None None) refl) refl
 
 -- ---- faults
 
@@ -115,6 +128,12 @@ pub read-failed : {T : Type 0} (before now : Faults) (result : Result T DeviceFa
     → result ≡ Err Read → HasCause before now result → before.reads < now.reads
 read-failed before now result is cause =
     cause.read (subst (λ (r : Result _ DeviceFault). IsErrOf r Read) (sym is) refl)
+
+-- and where it is of a read, no write failed
+pub read-alone : {T : Type 0} (before now : Faults) (result : Result T DeviceFault)
+    → result ≡ Err Read → HasCause before now result → now.writes ≡ before.writes
+read-alone before now result is cause =
+    cause.unwritten (subst (λ (r : Result _ DeviceFault). IsErrOf r Read) (sym is) refl)
 
 -- ---- room
 

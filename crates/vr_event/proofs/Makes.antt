@@ -42,7 +42,7 @@ use Rattle.vr_history.specs.RefusedRecord.{absent, conflict_in, duplicate, gone}
 use Rattle.vr_history.specs.RefusedRecord.{has_record, held, held_by, key_changed, length_changed}
 use Rattle.vr_history.specs.Replies.{CanEnd, IsAnswered, MayReply, done_by, first_of}
 use Rattle.vr_history.specs.Effects.{image_kept, with_change}
-use Rattle.vr_history.specs.Legal.{state_of}
+use Rattle.vr_history.specs.Legal.{is_write_fault, state_of}
 use Rattle.vr_history.specs.State.{Logged, State, is_kept, is_live, is_logged}
 use Rattle.vr_history.specs.declared.entry.Entry.{Entry}
 use Rattle.vr_history.specs.declared.entry.What.TheVariants.{Asked}
@@ -500,9 +500,10 @@ pub entered-change : {before now : Faults} {after : ℕ} {unit : UnitOfRecovery}
     {request : Request} (reply : Reply) (old mid new : FileNow)
     → mid ≡ record old { locks = mid.locks }
     → new ≡ with_event after unit line (Asked request reply) (lets_go unit.deck request mid)
-    → HasReplyCause before now reply → IsEnteredFor before now after unit line request old new
+    → HasReplyCause before now reply → is_write_fault reply ≡ false
+    → IsEnteredFor before now after unit line request old new
 entered-change {after = after} {unit = unit} {line = line} {request = request} reply old mid new is
-    leaves cause = record {
+    leaves cause going = record {
       entered = record {
         reply = reply;
         leaves = subst (λ (f : FileNow). f ≡ with_event after unit line (Asked request reply)
@@ -511,4 +512,5 @@ entered-change {after = after} {unit = unit} {line = line} {request = request} r
             (lets_go unit.deck request f)) is)) refl;
       };
       cause = cause;
+      going = going;
     }

@@ -103,6 +103,8 @@ calm-cause faults refusal calm = record {
   writes = omega arith;
   read = λ is. absurd (calm.read (let same : refusal ≡ ReadFault = cc in ap (λ (r : Refusal). Some r) same));
   write = λ is. absurd (calm.write (let same : refusal ≡ WriteFault = cc in ap (λ (r : Refusal). Some r) same));
+  calm = λ given. refl;
+  unwritten = λ given. refl;
 }
 
 module _ (opening : State) (file : FileNow) (unit : UnitOfRecovery) (request : Request)

@@ -30,13 +30,14 @@ HasStepped after unit line request old new = (new ≡ old)
     × (new ≡ with_event after unit line (Undone part place) old))
 
 -- The request was entered: with a reply, beside which only locks and positions changed; as the end
--- of its unit; or a write failed, which stops the volume, once the locks of the request were taken or
--- before. A reply is a fault of the device only where the count of that fault rose.
+-- of its unit, and no fault was counted; or a write failed, which stops the volume, once the locks of
+-- the request were taken or before. A reply is a fault of the device only where the count of that
+-- fault rose.
 abbrev pub IsAnsweredFor : Faults → Faults → ℕ → UnitOfRecovery → ℕ → Request → FileNow → FileNow
     → Type 0
 IsAnsweredFor before now after unit line request old new =
     IsEnteredFor before now after unit line request old new
-    ⊎ (EndsUnit request × IsEnded after unit line request old new)
+    ⊎ (EndsUnit request × IsEnded after unit line request old new × (now ≡ before))
     ⊎ ((new ≡ failed after unit line request (record old { locks = new.locks }))
     × (before.writes < now.writes))
 
@@ -45,14 +46,17 @@ abbrev pub ByAct : Act → Faults → Faults → ℕ → UnitOfRecovery → ℕ 
 ByAct Done before now after unit line request old new =
     IsAnsweredFor before now after unit line request old new
 ByAct (Again given) before now after unit line request old new =
-    (given ≡ request) × HasStepped after unit line request old new
+    (given ≡ request) × HasStepped after unit line request old new × (now ≡ before)
 
--- An event of a request: what was entered is by what it came to, and no count of faults fell.
+-- An event of a request: what was entered is by what it came to, and no count of faults fell. No
+-- fault is hidden: where the volume didn't stop in it no write or sync failed; and where besides
+-- its reply isn't that a read failed, no read did, by what it came to.
 pub record IsActed (before now : Faults) (act : Act) (after : ℕ) (unit : UnitOfRecovery) (line : ℕ)
     (request : Request) (old new : FileNow) : Type 0 where
   pub reads : before.reads ≤ now.reads
   pub writes : before.writes ≤ now.writes
   pub by : ByAct act before now after unit line request old new
+  pub quiet : new.stopped ≡ old.stopped → now.writes ≡ before.writes
 
 -- A request of a deck may be asked: it is of the deck's current unit, and where that has begun to
 -- undo it is a BACKOUT.

@@ -1,5 +1,5 @@
 //! What is decided of a request, entered.
-ghost use Rattle.std.specs.Prelude.{◌≡◌, ◌<◌, ◌-◌, ◌^◌, IsSome, IsTrue, None, OnErr, OnOk};
+ghost use Rattle.std.specs.Prelude.{◌≡◌, ◌<◌, ◌-◌, ◌^◌, IsSome, IsTrue, None, OnErr, OnOk, false};
 ghost use Rattle.vr_types.specs.declared.reply.Refusal.TheVariants.{WriteFault};
 ghost use Rattle.vr_types.specs.declared.reply.Reply.TheVariants as replies;
 ghost use Rattle.vr_types.specs.declared.request.FileRef as files;
@@ -10,7 +10,8 @@ ghost use Rattle.vr_history.specs.State.{State};
 ghost use Rattle.vr_history.specs.Step.{case_of, stand_refused};
 ghost use Rattle.vr_record_file.specs.Now.{CanSet, MayBeAsked, failed, state_now};
 ghost use Rattle.vr_types.specs.Faults.{Faults};
-ghost use Rattle.vr_event.specs.Cause.{HasGetCause, HasReplyCause, IsEnteredFor, reply_of};
+ghost use Rattle.vr_event.specs.Cause.{HasGetCause, HasOutcomeCause, HasReplyCause};
+ghost use Rattle.vr_event.specs.Cause.{IsEnteredFor, is_faulted};
 ghost use Rattle.vr_event.specs.Getting.{HasEntered, IsAsked, IsEntered, MayEnd};
 ghost use Rattle.vr_event.specs.declared.getting.Outcome.TheVariants as outcomes;
 ghost use Rattle.vr_event.specs.Volume.{IsHeld, IsWhole};
@@ -111,6 +112,7 @@ impl<B: Blocks, P: Part> Volume<B, P> {
         ensures entered { OnOk result
             (IsEntered after unit line request.now self.old.file self.new.file) }
         ensures replied { OnOk result ((before now : Faults) → HasReplyCause before now reply
+            → is_faulted reply ≡ false
             → IsEnteredFor before now after unit line request.now self.old.file self.new.file) }
         ensures same { OnErr result (self.new ≡ self.old) }
         ensures blocks { self.new.blocks ≡ self.old.blocks }
@@ -148,6 +150,7 @@ impl<B: Blocks, P: Part> Volume<B, P> {
         ensures whole { IsWhole B.seen self.old → IsWhole B.seen self.new }
         ensures entered { HasEntered after unit line request self.old.file self.new.file }
         ensures cause { (before now : Faults) → HasReplyCause before now reply
+            → is_faulted reply ≡ false
             → HasGetCause before now after unit line request self.old.file self.new.file }
         ensures blocks { self.new.blocks ≡ self.old.blocks }
         ensures store { self.new.store ≡ self.old.store }
@@ -180,6 +183,7 @@ impl<B: Blocks, P: Part> Volume<B, P> {
         ensures whole { IsWhole B.seen self.old → IsWhole B.seen self.new }
         ensures entered { IsEntered after unit line request self.old.file self.new.file }
         ensures replied { (before now : Faults) → HasReplyCause before now reply
+            → is_faulted reply ≡ false
             → IsEnteredFor before now after unit line request self.old.file self.new.file }
         ensures blocks { self.new.blocks ≡ self.old.blocks }
         ensures store { self.new.store ≡ self.old.store }
@@ -209,7 +213,7 @@ impl<B: Blocks, P: Part> Volume<B, P> {
             outcome → IsHeld B.seen opening self.new }
         ensures whole { IsWhole B.seen self.old → IsWhole B.seen self.new }
         ensures entered { HasEntered after unit line request self.old.file self.new.file }
-        ensures cause { (before now : Faults) → HasReplyCause before now (reply_of outcome)
+        ensures cause { (before now : Faults) → HasOutcomeCause before now outcome
             → HasGetCause before now after unit line request self.old.file self.new.file }
         ensures blocks { self.new.blocks ≡ self.old.blocks }
         ensures store { self.new.store ≡ self.old.store }

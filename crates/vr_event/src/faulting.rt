@@ -47,7 +47,7 @@ impl<B: Blocks, P: Part> Volume<B, P> {
             → IsHeld B.seen opening self.new }
         ensures whole { IsWhole B.seen self.old → IsWhole B.seen self.new }
         ensures acted { (before now : Faults) → before.reads < now.reads
-            → before.writes ≤ now.writes
+            → now.writes ≡ before.writes
             → IsActed before now acts.Done after unit line request self.old.file self.new.file }
         ensures blocks { self.new.blocks ≡ self.old.blocks }
         ensures store { self.new.store ≡ self.old.store }

@@ -23,8 +23,8 @@ ghost use Rattle.vr_record_file.specs.Now.{CanSet, IsStateOf, MayBeAsked, state_
 ghost use Rattle.vr_record_file.specs.Now.{with_event};
 ghost use Rattle.vr_volume.specs.Crashes.{RecoversTo};
 ghost use Rattle.vr_event.specs.Acting.{IsActed};
-ghost use Rattle.vr_event.specs.Cause.{HasGetCause, HasReplyCause, is_fault as faults, is_faulted};
-ghost use Rattle.vr_event.specs.Cause.{reply_of};
+ghost use Rattle.vr_event.specs.Cause.{HasGetCause, HasOutcomeCause, is_fault as faults};
+ghost use Rattle.vr_event.specs.Cause.{is_faulted, reply_of};
 ghost use Rattle.vr_event.specs.Getting as getting;
 ghost use Rattle.vr_event.specs.declared.act.Act.TheVariants as acts;
 ghost use Rattle.vr_event.specs.declared.getting.Outcome.TheVariants as outcomes;
@@ -276,7 +276,7 @@ fn looked_at<B: Blocks, P: Part>(
         → IsSought whole (Some place) → getting.MayEnd whole result) }
     ensures same { store.new ≡ store.old }
     ensures keeps { Keeps B.tells (B.seen blocks.old) (B.seen blocks.new) }
-    ensures cause { HasReplyCause (B.faults blocks.old) (B.faults blocks.new) (reply_of result) }
+    ensures cause { HasOutcomeCause (B.faults blocks.old) (B.faults blocks.new) result }
 {
     match store.look(alloc, blocks, part, &place) {
         Err(no) => Outcome::Refused(refusal_of(no)),
@@ -304,7 +304,7 @@ fn looked<B: Blocks, P: Part>(
         → IsSought whole at → getting.MayEnd whole result) }
     ensures same { store.new ≡ store.old }
     ensures keeps { Keeps B.tells (B.seen blocks.old) (B.seen blocks.new) }
-    ensures cause { HasReplyCause (B.faults blocks.old) (B.faults blocks.new) (reply_of result) }
+    ensures cause { HasOutcomeCause (B.faults blocks.old) (B.faults blocks.new) result }
 {
     match at {
         None => unless_fault(answered(alloc, case, None, None)),
@@ -340,7 +340,7 @@ fn sought<B: Blocks, P: Part>(
         → getting.MayEnd whole result) }
     ensures same { store.new ≡ store.old }
     ensures keeps { Keeps B.tells (B.seen blocks.old) (B.seen blocks.new) }
-    ensures cause { HasReplyCause (B.faults blocks.old) (B.faults blocks.new) (reply_of result) }
+    ensures cause { HasOutcomeCause (B.faults blocks.old) (B.faults blocks.new) result }
 {
     match place_sought(alloc, blocks, store, catalog, case, part) {
         Err(no) => Outcome::Refused(refusal_of(no)),
@@ -370,7 +370,7 @@ fn decide<'a, B: Blocks, P: Part>(
         → getting.MayEnd case result }
     ensures same { store.new ≡ store.old }
     ensures keeps { Keeps B.tells (B.seen blocks.old) (B.seen blocks.new) }
-    ensures cause { HasReplyCause (B.faults blocks.old) (B.faults blocks.new) (reply_of result) }
+    ensures cause { HasOutcomeCause (B.faults blocks.old) (B.faults blocks.new) result }
 {
     let base = base_of(request);
     let areas = store.areas_of(base);
@@ -424,8 +424,8 @@ impl<B: Blocks, P: Part> Volume<B, P> {
         ensures store { self.new.store ≡ self.old.store }
         ensures number { self.new.number ≡ self.old.number }
         ensures keeps { Keeps B.tells (B.seen self.old.blocks) (B.seen self.new.blocks) }
-        ensures cause { HasReplyCause (B.faults self.old.blocks) (B.faults self.new.blocks)
-            (reply_of result) }
+        ensures cause { HasOutcomeCause (B.faults self.old.blocks) (B.faults self.new.blocks)
+            result }
     {
         decide(
             alloc,

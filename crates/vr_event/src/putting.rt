@@ -100,6 +100,7 @@ fn make_kept<B: Blocks, P: Part>(
         → before.part ≡ part → before.place ≡ place.now
         → IsPrepared prepared.now unit before old
         → store.old.undo ≡ with_kept unit before old → store.new.undo ≡ old) }
+    ensures quiet { OnOk result (B.faults blocks.new ≡ B.faults blocks.old) }
     ensures writes { IfErr result (λ no. no ≡ nos.Write
         → (B.faults blocks.old).writes < (B.faults blocks.new).writes) }
     ensures reads_rise { (B.faults blocks.old).reads ≤ (B.faults blocks.new).reads }
@@ -172,6 +173,7 @@ pub(crate) fn put_at_place<B: Blocks, P: Part>(
         → (IsLogFull store.old.log.geometry (used_by store.old.log.records)
         (putting.need_at store.old unit part place.now (option_copied old.entry)) → ⊥)
         → file.new ≡ file.old) }
+    ensures quiet { OnOk result (B.faults blocks.new ≡ B.faults blocks.old) }
     ensures writes { IfErr result (λ no. no ≡ nos.Write
         → (B.faults blocks.old).writes < (B.faults blocks.new).writes) }
     ensures reads_rise { (B.faults blocks.old).reads ≤ (B.faults blocks.new).reads }

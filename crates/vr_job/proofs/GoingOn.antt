@@ -55,6 +55,7 @@ use Rattle.vr_job.proofs.ShownStops.{acted-shows}
 use Rattle.vr_job.proofs.Stopping.{commit-first, commit-went, faults-follow, going-on, stop-of}
 use Rattle.vr_job.proofs.Stopping.{stopped-more}
 use Rattle.vr_job.proofs.Undoing.{shows-same}
+use Rattle.vr_job.proofs.Unfailed.{acted-unfailed, acted-unread}
 use Rattle.vr_job.proofs.WriteFaults.{acted-rose}
 
 -- stamps rise on
@@ -104,8 +105,9 @@ module _ {B : Type 0} (seen : B → Seen) (faults : B → Faults) (old new : Vol
       new.file acted
 
   -- what goes on over it, whether or not the device reports its contents,
-  pub event-on : IsWhole seen new → new.number ≡ old.number → GoesOn seen faults old new
-  event-on whole number = record {
+  pub event-on : IsWhole seen new → new.number ≡ old.number
+      → (old.file.stopped ≢ None → new.blocks ≡ old.blocks) → GoesOn seen faults old new
+  event-on whole number untouched = record {
     whole = whole;
     number = number;
     geometry = made-in.geometry;
@@ -121,6 +123,9 @@ module _ {B : Type 0} (seen : B → Seen) (faults : B → Faults) (old new : Vol
         (faults new.blocks) act after unit line request acted;
     writes = acted.writes;
     stops = λ same. (no-fault same).stopped;
+    quiet = acted.quiet;
+    stays = λ stamp is. (no-fault (ap (λ (b : B). (faults b).writes)
+        (untouched (λ none. some-none stamp (sym is ∙ none))))).stopped ∙ is;
     faultless = λ same. (no-fault same).faultless;
     shows = acted-shows (faults old.blocks) (faults new.blocks) act after unit line request old.file
         new.file acted;
@@ -326,6 +331,11 @@ module _ {B : Type 0} (seen : B → Seen) (faults : B → Faults) (old new : Vol
                 (faults old.blocks) (faults new.blocks) act after unit line request acted;
             failed_write = λ stop. acted-rose old.file new.file made-in.made made-in.entries stop
                 (faults old.blocks) (faults new.blocks) act after unit line request acted;
+            unfailed = λ faultless. acted-unfailed old.file new.file made-in.made made-in.entries
+                faultless (faults old.blocks) (faults new.blocks) act after unit line request acted;
+            unread = λ faultless none. acted-unread old.file new.file made-in.made made-in.entries
+                faultless none (faults old.blocks) (faults new.blocks) act after unit line request
+                acted;
             lacks = event-lacking seen faults opening old new act after unit line request acted
                 made-in.made made-in.entries (steps held) whole run.held lacks;
           },
@@ -452,6 +462,8 @@ module _ {B : Type 0} (seen : B → Seen) (old mid : VolumeNow B) (numbers : Lis
     reads = omega (arith, ap (λ (v : VolumeNow B). (faults v.blocks).reads) same);
     writes = omega (arith, ap (λ (v : VolumeNow B). (faults v.blocks).writes) same);
     stops = λ as_before. ap (λ (v : VolumeNow B). v.file.stopped) same;
+    quiet = λ as_before. ap (λ (v : VolumeNow B). (faults v.blocks).writes) same;
+    stays = λ stamp is. ap (λ (v : VolumeNow B). v.file.stopped) same ∙ is;
     faultless = λ as_before before. subst AreFaultless (sym entries-stay) before;
     shows = λ before. ap is_some (ap (λ (v : VolumeNow B). v.file.stopped) same) ∙ before
         ∙ ap has_stopped (sym entries-stay);

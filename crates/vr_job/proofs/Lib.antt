@@ -23,6 +23,7 @@ pub mod Faultless
 pub mod Stopping
 pub mod ReadFaults
 pub mod WriteFaults
+pub mod Unfailed
 pub mod Devices
 pub mod Shown
 pub mod Codes

@@ -49,12 +49,12 @@ by-reply before now request (Refused NotAllowed) same rose = omega (arith, same)
 by-reply before now request (Refused NoFile) same rose = omega (arith, same)
 
 -- where a write failed, the request, refused,
-abbrev refused_write : ℕ → UnitOfRecovery → ℕ → Request → FileNow → Entry
+abbrev pub refused_write : ℕ → UnitOfRecovery → ℕ → Request → FileNow → Entry
 refused_write after unit line request file =
     entry_next file.entries after unit line (Asked request (Refused WriteFault))
 
 -- and the fault
-abbrev fault : ℕ → UnitOfRecovery → ℕ → Request → FileNow → Entry
+abbrev pub fault : ℕ → UnitOfRecovery → ℕ → Request → FileNow → Entry
 fault after unit line request file =
     entry_next (asked_failing after unit line request file).entries 0 unit line (Faulted Write)
 
@@ -71,7 +71,7 @@ module _ (old new : FileNow) (made : List Entry)
       ∙ sym (append-nil old.entries))
 
   -- one entry more
-  one-read : (after : ℕ) (unit : UnitOfRecovery) (line : ℕ) (what : What) (mid : FileNow)
+  pub one-read : (after : ℕ) (unit : UnitOfRecovery) (line : ℕ) (what : What) (mid : FileNow)
       → new ≡ with_event after unit line what mid → mid.entries ≡ old.entries
       → read_faults made ≡ read_fault what
   one-read after unit line what mid leaves same =
@@ -90,17 +90,23 @@ module _ (old new : FileNow) (made : List Entry)
       (λ claim. one-read after unit line (Claimed claim.0 claim.1) old claim.2 refl)
       (λ back. one-read after unit line (Undone back.1 back.2) old back.3 refl) later) step) is
 
-  -- a write failed
-  failed-read : (after : ℕ) (unit : UnitOfRecovery) (line : ℕ) (request : Request) (mid : FileNow)
-      → new ≡ failed after unit line request mid → mid.entries ≡ old.entries
-      → read_faults made ≡ 0
-  failed-read after unit line request mid fails same = counted
+  -- a write failed: the request, refused, and the fault
+  pub failed-two : (after : ℕ) (unit : UnitOfRecovery) (line : ℕ) (request : Request)
+      (mid : FileNow) → new ≡ failed after unit line request mid → mid.entries ≡ old.entries
+      → made ≡ refused_write after unit line request mid ∷ fault after unit line request mid ∷ []
+  failed-two after unit line request mid fails same = append_cancel_left old.entries made
       (refused_write after unit line request mid ∷ fault after unit line request mid ∷ [])
-      (ap (λ (f : FileNow). f.entries) fails
+      (sym entries ∙ ap (λ (f : FileNow). f.entries) fails
       ∙ append_assoc mid.entries (refused_write after unit line request mid ∷ [])
       (fault after unit line request mid ∷ [])
       ∙ ap (λ (them : List Entry). them
       ++ refused_write after unit line request mid ∷ fault after unit line request mid ∷ []) same)
+
+  failed-read : (after : ℕ) (unit : UnitOfRecovery) (line : ℕ) (request : Request) (mid : FileNow)
+      → new ≡ failed after unit line request mid → mid.entries ≡ old.entries
+      → read_faults made ≡ 0
+  failed-read after unit line request mid fails same =
+      ap read_faults (failed-two after unit line request mid fails same)
 
   answered-read : (before now : Faults) (after : ℕ) (unit : UnitOfRecovery) (line : ℕ)
       (request : Request) → before.reads ≤ now.reads

@@ -53,6 +53,8 @@ goes-start seen faults volume whole = record {
   reads = omega arith;
   writes = omega arith;
   stops = λ same. refl;
+  quiet = λ same. refl;
+  stays = λ stamp is. is;
   faultless = λ same before. before;
   shows = λ before. before;
 }
@@ -137,6 +139,11 @@ module _ {D : Type 0} (tells : Bool) (seen : D → Seen) (faults : D → Faults)
 
   ended-going : (faults device).writes ≡ (faults first).writes → end.file.stopped ≡ None
   ended-going same = on.stops (none-failed same) ∙ opens_so.going
+
+  -- and where it didn't stop, none did up to what the requests left
+  ended-unfailed : end.file.stopped ≡ None → (faults end.blocks).writes ≡ (faults first).writes
+  ended-unfailed goes = on.quiet (goes ∙ sym opens_so.going)
+      ∙ ap (λ (f : Faults). f.writes) opens_so.quiet
 
   -- what was synced is forced, unless the volume had stopped
   unstopped-forced : result ≡ Ok tt → IsTrue tells → end.file.stopped ≡ None
@@ -230,6 +237,7 @@ module _ {D : Type 0} (tells : Bool) (seen : D → Seen) (faults : D → Faults)
       events = run.events;
       closes = ended.closed.keeps;
       goes = λ same. sym run.held.file.now.stopped ∙ ended-going same;
+      unfailed = λ goes. ended-unfailed (run.held.file.now.stopped ∙ goes);
       kept = λ goes image left.
           let stops = run.held.file.now.stopped ∙ goes in
           subst (λ (g : Geometry). RecoversTo g end.number (state_now opening end.file) [] image)

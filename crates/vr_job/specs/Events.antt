@@ -104,7 +104,9 @@ FaultsFollow made = IsStop made ⊎ AreFaultless made
 -- that the history gives it. A fault is entered after a request alone that was answered 905. Where a
 -- COMMIT was answered 0, its unit is in every image that a crash may leave from then on. A request is
 -- answered 904 only where a read failed in its event, and 905, so that the volume stops, only where a
--- write or a sync failed in it; and 28 only where its part lacks room.
+-- write or a sync failed in it; and 28 only where its part lacks room. No failure is hidden: an event
+-- in which the volume didn't stop is one in which no write or sync failed, and where besides no
+-- request was answered 904 no read did.
 pub record IsEvent {B : Type 0} (seen : B → Seen) (counts : B → Faults) (geometry : Geometry)
     (number : ℕ) (opening : State) (event : Event B) (now : B) (entries : List Entry) : Type 0 where
   pub entries_are : entries ≡ event.entries ++ event.made
@@ -119,6 +121,9 @@ pub record IsEvent {B : Type 0} (seen : B → Seen) (counts : B → Faults) (geo
       → RecoversTo geometry number (state_of geometry opening entries) [] image
   pub refused_read : (counts event.blocks).reads + read_faults event.made ≤ (counts now).reads
   pub failed_write : IsStop event.made → (counts event.blocks).writes < (counts now).writes
+  pub unfailed : AreFaultless event.made → (counts now).writes ≡ (counts event.blocks).writes
+  pub unread : AreFaultless event.made → read_faults event.made ≡ 0
+      → (counts now).reads ≡ (counts event.blocks).reads
   pub lacks : LackAreas geometry (state_of geometry opening event.entries) (seen event.blocks)
       event.made
 

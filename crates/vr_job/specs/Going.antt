@@ -1,6 +1,6 @@
 -- What goes on of a volume from event to event. The rules are this project's own.
-use Rattle.std.specs.Prelude.{◌≡◌, ◌≢◌, ◌⊎◌, ◌≤◌, ◌+◌, ℕ, Bool, true, IsTrue, List, ◌++◌, None}
-use Rattle.std.specs.Prelude.{is_some}
+use Rattle.std.specs.Prelude.{◌≡◌, ◌≢◌, ◌⊎◌, ◌≤◌, ◌+◌, ℕ, Bool, true, IsTrue, List, ◌++◌}
+use Rattle.std.specs.Prelude.{None, Option, Some, is_some}
 use Rattle.std.proofs.Common.{◌∙◌, inl, inr, ⊎_elim, append_assoc, ap, arith, refl, subst, sym}
 use Rattle.vr_types.specs.Faults.{Faults}
 use Rattle.vr_types.specs.Moments.{Guards}
@@ -23,8 +23,8 @@ ShowsStop file = is_some file.stopped ≡ has_stopped file.entries
 -- What goes on from event to event whether or not the device reports its contents: the volume is
 -- whole, its shape and catalog stay, each deck stays entered, entries are added alone, at stamps
 -- that rise, and no count of faults falls. Each reply 904 is one that the count of reads rose for.
--- Where no write failed, the volume isn't stopped, and no fault is entered; and where it is, its
--- history shows it.
+-- Where no write failed, the volume isn't stopped, and no fault is entered; and where it didn't stop
+-- no write or sync failed. A volume that stopped stays so, and its history shows it.
 pub record GoesOn {B : Type 0} (seen : B → Seen) (faults : B → Faults) (old new : VolumeNow B)
     : Type 0 where
   pub whole : IsWhole seen new
@@ -40,6 +40,9 @@ pub record GoesOn {B : Type 0} (seen : B → Seen) (faults : B → Faults) (old 
   pub writes : (faults old.blocks).writes ≤ (faults new.blocks).writes
   pub stops : (faults new.blocks).writes ≡ (faults old.blocks).writes
       → new.file.stopped ≡ old.file.stopped
+  pub quiet : new.file.stopped ≡ old.file.stopped
+      → (faults new.blocks).writes ≡ (faults old.blocks).writes
+  pub stays : (stamp : ℕ) → old.file.stopped ≡ Some stamp → new.file.stopped ≡ Some stamp
   pub faultless : (faults new.blocks).writes ≡ (faults old.blocks).writes
       → AreFaultless old.file.entries → AreFaultless new.file.entries
   pub shows : ShowsStop old.file → ShowsStop new.file
@@ -96,6 +99,10 @@ goes-then {B} seen faults a b c first second = record {
   );
   writes = omega (arith, first.writes, second.writes);
   stops = λ same. second.stops (second-same same) ∙ first.stops (first-same same);
+  quiet = λ same.
+      let at-first : b.file.stopped ≡ a.file.stopped = stopped-same same in
+      second.quiet (same ∙ sym at-first) ∙ first.quiet at-first;
+  stays = λ stamp is. second.stays stamp (first.stays stamp is);
   faultless = λ same before. second.faultless (second-same same)
       (first.faultless (first-same same) before);
   shows = λ before. second.shows (first.shows before);
@@ -108,6 +115,19 @@ goes-then {B} seen faults a b c first second = record {
     second-same : (faults c.blocks).writes ≡ (faults a.blocks).writes
         → (faults c.blocks).writes ≡ (faults b.blocks).writes
     second-same same = omega (arith, same, first.writes, second.writes)
+
+    -- it didn't stop in the first part
+    stopped-same : c.file.stopped ≡ a.file.stopped → b.file.stopped ≡ a.file.stopped
+    stopped-same same = by_first a.file.stopped refl b.file.stopped refl
+      where
+        by_first : (was : Option ℕ) → a.file.stopped ≡ was → (then : Option ℕ)
+            → b.file.stopped ≡ then → b.file.stopped ≡ a.file.stopped
+        by_first (Some stamp) was then is = first.stays stamp was ∙ sym was
+        by_first None was None is = is ∙ sym was
+        by_first None was (Some stamp) is =
+            let never : ◌≡◌ {A = Option ℕ} (Some stamp) None =
+            sym (second.stays stamp is) ∙ same ∙ was in
+            absurd cc
 
 pub went-then : {B : Type 0} (tells : Bool) (seen : B → Seen) (faults : B → Faults)
     (a b c : VolumeNow B) → WentOn tells seen faults a b → WentOn tells seen faults b c

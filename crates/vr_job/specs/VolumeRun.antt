@@ -56,14 +56,15 @@ opening_of contents owners = opening_state contents (owned_in owners)
 -- its opening, and no entry of it changes the catalog; and each image of each moment is one that a
 -- crash left before, or recovers to the records of the contents and keeps what is withdrawn in them
 -- where the log had nothing to put back, or is left by the history. No fault came as it was opened.
--- From the end of its
--- opening on the run is events, in each of which an image recovers to what is committed by the
--- history before it, perhaps with the unit whose COMMIT it enters; so it came to what the requests
--- left, and then nothing more is put. As long as the device counted no write that failed, the volume
--- wasn't stopped, and each image that a crash may leave at the end recovers to what is committed by
--- all of the history; on a volume that stopped, to what is committed by the history before the fault,
--- with the unit in doubt only where its COMMIT was answered 905. Where the job came through, a crash
--- leaves what is read, unless the volume had stopped: whatever the device has counted.
+-- From the end of its opening on the run is events, in each of which an image recovers to what is
+-- committed by the history before it, perhaps with the unit whose COMMIT it enters; so it came to
+-- what the requests left, and then nothing more is put. As long as the device counted no write that
+-- failed, the volume wasn't stopped; and where it wasn't, the device counted none up to what the
+-- requests left, so that no write or sync that failed is hidden. Then each image that a crash may
+-- leave at the end recovers to what is committed by all of the history; on a volume that stopped, to
+-- what is committed by the history before the fault, with the unit in doubt only where its COMMIT
+-- was answered 905. Where the job came through, a crash leaves what is read, unless the volume had
+-- stopped: whatever the device has counted.
 pub record IsRun {D : Type 0} (tells : Bool) (seen : D → Seen) (faults : D → Faults) (number : ℕ)
     (catalog : List CatEntry) (end : End) (entries : List Entry) (old ended new : D) : Type 0 where
   pub geometry : Geometry
@@ -89,6 +90,8 @@ pub record IsRun {D : Type 0} (tells : Bool) (seen : D → Seen) (faults : D →
   pub closes : Keeps tells (seen ended) (seen new)
   pub goes : (faults new).writes ≡ (faults old).writes
       → (state_of geometry (opening_state contents (owned_in owners)) entries).stopped ≡ None
+  pub unfailed : (state_of geometry (opening_state contents (owned_in owners)) entries).stopped
+      ≡ None → (faults ended).writes ≡ (faults old).writes
   pub kept : (state_of geometry (opening_state contents (owned_in owners)) entries).stopped ≡ None
       → (image : Image) → Left (seen new) image → RecoversTo geometry number
       (state_of geometry (opening_state contents (owned_in owners)) entries) [] image

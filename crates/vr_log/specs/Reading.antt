@@ -85,7 +85,7 @@ IsOwnNo (Fault fault) = ⊥
 IsOwnNo Memory = Unit {0}
 
 -- Neither count falls, each fault is one that its count rose for, and neither rose where there is
--- none.
+-- none. A call ends with its first fault: where that is of a read, no write failed.
 pub record HasReadCause {T : Type 0} (before now : Faults) (result : Result T LogReadNo) : Type 0
   where
     pub reads : before.reads ≤ now.reads
@@ -94,3 +94,4 @@ pub record HasReadCause {T : Type 0} (before now : Faults) (result : Result T Lo
     pub own : IfErr result (λ no. IsOwnNo no → now ≡ before)
     pub read : IsErrOf result (Fault Read) → before.reads < now.reads
     pub write : IsErrOf result (Fault Write) → before.writes < now.writes
+    pub unwritten : IsErrOf result (Fault Read) → now.writes ≡ before.writes

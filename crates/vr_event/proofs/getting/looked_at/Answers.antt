@@ -6,7 +6,7 @@ use Rattle.vr_answer.specs.InHand.{whole}
 use Rattle.vr_event.specs.Cause.{HasReplyCause}
 use Rattle.vr_event.specs.Getting.{MayEnd}
 use Rattle.vr_event.specs.declared.getting.Outcome.TheVariants.{Refused}
-use Rattle.vr_event.proofs.Causes.{cause-calm, cause-look, may-unless}
+use Rattle.vr_event.proofs.Causes.{calm-in, cause-calm, cause-look, may-unless}
 use Rattle.vr_event.proofs.Ended.{may-fail}
 use Rattle.vr_event.proofs.getting.looked_at.Goals as goal
 
@@ -25,11 +25,16 @@ returns-in-Ok-clause-ends g c told volume state is stored read none sought =
 
 pub returns-in-Err-clause-cause : goal.returns-in-Err-clause-cause
 returns-in-Err-clause-cause g c =
-    subst (λ (r : Refusal). HasReplyCause (g.B.Blocks.faults c.args.blocks.now)
-    (g.B.Blocks.faults c.look.new.blocks) (replies.Refused r))
-    (sym c.refusal_of.ensures) (cause-look _ _ c.in-Err.no c.in-Err.ensures.cause)
+    record {
+      reply = subst (λ (r : Refusal). HasReplyCause (g.B.Blocks.faults c.args.blocks.now)
+          (g.B.Blocks.faults c.look.new.blocks) (replies.Refused r))
+          (sym c.refusal_of.ensures) (cause-look _ _ c.in-Err.no c.in-Err.ensures.cause);
+      calm = tt;
+    }
 
 pub returns-in-Ok-clause-cause : goal.returns-in-Ok-clause-cause
 returns-in-Ok-clause-cause g c =
-    cause-calm _ _ _ c.in-Ok.ensures.cause.reads c.in-Ok.ensures.cause.writes
-    c.unless_fault.ensures.calm
+    record {
+      reply = cause-calm _ _ _ c.in-Ok.ensures.cause.ok c.unless_fault.ensures.calm;
+      calm = calm-in c.unless_fault.result c.unless_fault.ensures.calm;
+    }

@@ -1,4 +1,5 @@
-use Rattle.std.proofs.Common.{◌≡◌, ◌∙◌, ℕ, IsTrue, List, [], None, Option, Some, ap, subst, sym}
+use Rattle.std.proofs.Common.{◌≡◌, ◌∙◌, ℕ, IsTrue, List, [], None, Option, Some, ap, refl, subst}
+use Rattle.std.proofs.Common.{sym}
 use Rattle.vr_types.proofs.CallerLemmas.{guards-then}
 use Rattle.vr_types.specs.Moments.{Guards}
 use Rattle.vr_types.specs.declared.geometry.Geometry.{Geometry}
@@ -18,6 +19,7 @@ use Rattle.vr_log.specs.LogNow.{LogNow}
 use Rattle.vr_record_file.specs.Now.{FileNow, MayBeAsked, state_now}
 use Rattle.vr_volume.specs.Crashes.{RecoversTo}
 use Rattle.vr_event.specs.Acting.{IsActed}
+use Rattle.vr_event.specs.Cause.{HasGetCause}
 use Rattle.vr_event.specs.Getting.{IsEntered}
 use Rattle.vr_event.specs.Lacking.{IfNoSpace, IsLacking, LacksRoomIn}
 use Rattle.vr_event.specs.Putting.{AreLaidBy, IfAgain, IsChanging, IsKeyedIn, IsReadyFor}
@@ -28,6 +30,7 @@ use Rattle.vr_event.specs.declared.act.Act.{Act}
 use Rattle.vr_event.specs.declared.act.Act.TheVariants.{Again, Done}
 use Rattle.vr_event.specs.declared.weighing.Weighed.TheVariants as weighed
 use Rattle.vr_event.proofs.ActedLater.{acted-earlier}
+use Rattle.vr_event.proofs.Acts.{acted-got}
 use Rattle.vr_event.proofs.Lacks.{done-unrefused, fact-of}
 use Rattle.vr_event.proofs.PartKinds.{fills-keyed}
 use Rattle.vr_event.proofs.Recovering.{keeps-recovers}
@@ -70,12 +73,26 @@ returns-in-Refused-clause-generation g c going =
     ap (λ (s : StoreNow). s.log.generation) c.enter_refused.ensures.store
     ∙ ap (λ (l : LogNow). l.generation) c.weigh_change.ensures.log
 
+pub returns-in-Refused-clause-acted : goal.returns-in-Refused-clause-acted
+returns-in-Refused-clause-acted g c =
+    let faults = g.B.Blocks.faults in
+    let old = c.args.self.now in
+    let mid = c.weigh_change.new.self in
+    let new = c.enter_refused.new.self in
+    acted-got
+    (subst (λ (b : g.row.B.Denot). HasGetCause (faults old.blocks) (faults b) c.args.after
+    c.args.unit c.args.line c.args.request old.file new.file) (sym c.enter_refused.ensures.blocks)
+    (subst (λ (f : FileNow). HasGetCause (faults old.blocks) (faults mid.blocks) c.args.after
+    c.args.unit c.args.line c.args.request f new.file) c.weigh_change.ensures.file
+    (c.enter_refused.ensures.cause (faults old.blocks) (faults mid.blocks)
+    c.in-Refused.ensures.cause)))
+
 pub returns-in-Stage-clause-acted : goal.returns-in-Stage-clause-acted
 returns-in-Stage-clause-acted g c =
     let faults = g.B.Blocks.faults in
     acted-earlier (faults c.args.self.now.blocks) (faults c.weigh_change.new.self.blocks)
-    (faults c.do_stage.new.self.blocks) c.weigh_change.ensures.cause.reads
-    c.weigh_change.ensures.cause.writes c.args.after c.args.unit c.args.line c.args.request
+    (faults c.do_stage.new.self.blocks) (c.in-Stage.ensures.cause.calm refl)
+    c.args.after c.args.unit c.args.line c.args.request
     c.args.self.now.file c.do_stage.new.self.file c.do_stage.result
     (subst (λ (f : FileNow). IsActed (faults c.weigh_change.new.self.blocks)
     (faults c.do_stage.new.self.blocks) c.do_stage.result c.args.after c.args.unit c.args.line
@@ -86,8 +103,8 @@ pub returns-in-Ready-clause-acted : goal.returns-in-Ready-clause-acted
 returns-in-Ready-clause-acted g c =
     let faults = g.B.Blocks.faults in
     acted-earlier (faults c.args.self.now.blocks) (faults c.weigh_change.new.self.blocks)
-    (faults c.put.new.self.blocks) c.weigh_change.ensures.cause.reads
-    c.weigh_change.ensures.cause.writes c.args.after c.args.unit c.args.line c.args.request
+    (faults c.put.new.self.blocks) (c.in-Ready.ensures.cause.calm c.in-Ready.ensures.fits.1)
+    c.args.after c.args.unit c.args.line c.args.request
     c.args.self.now.file c.put.new.self.file Done
     (subst (λ (f : FileNow). IsActed (faults c.weigh_change.new.self.blocks)
     (faults c.put.new.self.blocks) Done c.args.after c.args.unit c.args.line

@@ -10,7 +10,7 @@ use Rattle.vr_event.specs.Opening.{owned_in}
 use Rattle.vr_event.specs.Volume.{IsHeld, IsWhole, OwnLaid, VolumeNow}
 use Rattle.vr_event.proofs.SpaceHeld.{space-held}
 use Rattle.vr_store.proofs.CallerLemmas.{stored-keeps}
-use Rattle.vr_event.specs.Cause.{HasReplyCause, reply_of}
+use Rattle.vr_event.specs.Cause.{HasOutcomeCause}
 use Rattle.vr_event.proofs.volume.Volume.decide_read.Goals as goal
 
 pub returns-clause-held : goal.returns-clause-held
@@ -65,6 +65,6 @@ returns-clause-ends g c told opening held asked =
 
 pub returns-clause-cause : goal.returns-clause-cause
 returns-clause-cause g c =
-    subst (λ (v : VolumeNow g.row.B.Denot). HasReplyCause (g.B.Blocks.faults v.blocks)
-    (g.B.Blocks.faults c.decide.new.blocks) (reply_of c.decide.result)) c.self.view_is
+    subst (λ (v : VolumeNow g.row.B.Denot). HasOutcomeCause (g.B.Blocks.faults v.blocks)
+    (g.B.Blocks.faults c.decide.new.blocks) c.decide.result) c.self.view_is
     c.decide.ensures.cause

@@ -1,4 +1,4 @@
-use Rattle.std.proofs.Common.{◌≡◌, ◌≢◌, ◌∙◌, [], Err, None, ap, inl, inr, refl, subst, sym}
+use Rattle.std.proofs.Common.{◌≡◌, ◌≢◌, ◌∙◌, [], Err, None, ap, inl, refl, subst, sym}
 use Rattle.vr_types.specs.Moments.{Guards}
 use Rattle.vr_types.specs.declared.fault.DeviceFault.{DeviceFault}
 use Rattle.vr_types.specs.declared.fault.DeviceFault.TheVariants.{Read, Write}
@@ -15,12 +15,10 @@ use Rattle.vr_store.specs.Store.{StoreNow, part_among}
 use Rattle.vr_event.specs.Volume.{IsHeld, IsWhole, VolumeNow}
 use Rattle.vr_event.specs.declared.act.Act.TheVariants as acts
 use Rattle.vr_store.specs.declared.no.LookNo.TheVariants.{Fault}
-use Rattle.vr_event.proofs.Acted.{failed-for}
-use Rattle.vr_event.proofs.Causes.{entered-refused}
 use Rattle.vr_event.proofs.Entering.{held-refused}
 use Rattle.vr_store.proofs.CallerLemmas.{shapes-same}
 use Rattle.vr_event.proofs.Recovering.{owned-recovers}
-use Rattle.vr_event.proofs.Acts.{acted-again}
+use Rattle.vr_event.proofs.Acts.{acted-again, acted-failed, acted-read}
 use Rattle.vr_event.proofs.Replied.{not-failed, replied-over}
 use Rattle.vr_event.proofs.Staged.{geometry-staged, not-staged, owners-claimed, shape-some}
 use Rattle.vr_event.proofs.Staged.{staged-of, state-unclaimed, stepped-entered, taken-none}
@@ -145,7 +143,7 @@ returns-in-Ok-clause-acted g c =
     (subst (λ (b : g.row.B.Denot). IsActed (faults c.self.inside.blocks) (faults b)
     (acts.Again c.args.request) c.args.after c.args.unit c.args.line c.args.request
     c.self.inside.file c.enter_stage.new.self.file) (sym c.enter_stage.ensures.blocks)
-    (acted-again cause.reads cause.writes
+    (acted-again cause.ok
     (stepped-entered c.args.after c.args.unit c.args.line c.args.part c.self.inside.file
     c.enter_stage.new.self.file c.args.request _ _ c.enter_stage.ensures.leaves)))
 
@@ -270,16 +268,10 @@ returns-in-Err-Read-clause-acted g c =
     let cause = c.in-Err-Read.ensures.cause in
     subst (λ (v : VolumeNow g.row.B.Denot). IsActed (faults v.blocks)
     (faults c.advance.new.blocks) acts.Done c.args.after c.args.unit c.args.line c.args.request
-    v.file c.refuse.new.self) c.self.view_is (record {
-      reads = cause.reads;
-      writes = cause.writes;
-      by = inl (entered-refused ReadFault c.refuse.ensures.same (record {
-        reads = cause.reads;
-        writes = cause.writes;
-        read = λ is. cause.read (ap (λ (f : DeviceFault). Err f) c.in-Err-Read.field-0-is);
-        write = λ is. absurd cc;
-      }));
-    })
+    v.file c.refuse.new.self) c.self.view_is
+    (acted-read (cause.read (ap (λ (f : DeviceFault). Err f) c.in-Err-Read.field-0-is))
+    (cause.unwritten (ap (λ (f : DeviceFault). Err f) c.in-Err-Read.field-0-is))
+    c.refuse.ensures.same)
 
 pub returns-in-Err-Write-clause-held : goal.returns-in-Err-Write-clause-held
 returns-in-Err-Write-clause-held g c told opening held asked =
@@ -309,15 +301,11 @@ returns-in-Err-Write-clause-acted g c =
     let cause = c.in-Err-Write.ensures.cause in
     subst (λ (v : VolumeNow g.row.B.Denot). IsActed (faults v.blocks)
     (faults c.advance.new.blocks) acts.Done c.args.after c.args.unit c.args.line c.args.request
-    v.file c.fail_write.new.self) c.self.view_is (record {
-      reads = cause.reads;
-      writes = cause.writes;
-      by = inr (inr (
-        failed-for c.args.after c.args.unit c.args.line c.args.request c.self.inside.file
-            c.fail_write.new.self c.fail_write.ensures.leaves,
-        cause.write (ap (λ (f : DeviceFault). Err f) c.in-Err-Write.field-0-is),
-      ));
-    })
+    v.file c.fail_write.new.self) c.self.view_is
+    (acted-failed cause.reads
+    (cause.write (ap (λ (f : DeviceFault). Err f) c.in-Err-Write.field-0-is))
+    c.fail_write.ensures.leaves
+    (ap (λ (v : VolumeNow g.row.B.Denot). v.file.stopped) c.self.view_is ∙ c.requires.going))
 
 pub returns-in-Err-Read-clause-lacks : goal.returns-in-Err-Read-clause-lacks
 returns-in-Err-Read-clause-lacks g c entered need free is =

@@ -74,11 +74,11 @@ returns-in-Ok-clause-moments g c told opening held keeps =
 pub returns-in-Ok-clause-acted : goal.returns-in-Ok-clause-acted
 returns-in-Ok-clause-acted g c =
     let faults = g.B.Blocks.faults in
-    let cause = c.end.ensures.cause in
+    let cause = c.in-Ok.ensures.cause in
     subst (λ (v : VolumeNow g.row.B.Denot). IsActed (faults v.blocks) (faults c.end.new.blocks)
     acts.Done c.args.after c.args.unit c.args.line c.args.request v.file c.end_unit.new.self)
     c.self.view_is
-    (acted-ended cause.cause.reads cause.cause.writes
+    (acted-ended cause.cause.ok
     (ends-by c.args.kind c.args.request c.requires.ends) c.end_unit.ensures.leaves)
 
 pub returns-in-Err-clause-held : goal.returns-in-Err-clause-held
@@ -136,4 +136,5 @@ returns-in-Err-clause-acted g c =
     c.self.view_is
     (acted-failed cause.cause.reads
     (write-counted (g.B.Blocks.faults c.self.inside.blocks) (g.B.Blocks.faults c.end.new.blocks)
-    c.end.result _ c.in-Err.is cause) c.fail_write.ensures.leaves)
+    c.end.result _ c.in-Err.is cause) c.fail_write.ensures.leaves
+    (ap (λ (v : VolumeNow g.row.B.Denot). v.file.stopped) c.self.view_is ∙ c.requires.going))

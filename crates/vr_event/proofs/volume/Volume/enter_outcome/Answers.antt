@@ -2,9 +2,9 @@ use Rattle.std.proofs.Common.{subst}
 use Rattle.vr_history.specs.Step.{case_of}
 use Rattle.vr_record_file.specs.Now.{state_now}
 use Rattle.vr_event.specs.Getting.{MayEnd}
-use Rattle.vr_event.specs.Cause.{HasReplyCause, reply_of}
-use Rattle.vr_event.specs.declared.getting.Outcome.{Outcome}
+use Rattle.vr_event.specs.Cause.{HasOutcomeCause}
 use Rattle.vr_types.specs.declared.reply.Reply.TheVariants.{Refused}
+use Rattle.vr_event.proofs.Causes.{cause-entered}
 use Rattle.vr_event.proofs.Entries.{may-asked}
 use Rattle.vr_event.proofs.volume.Volume.enter_outcome.Goals as goal
 
@@ -33,9 +33,14 @@ returns-in-Done-clause-held g c told opening held asked may =
 pub returns-in-Refused-clause-cause : goal.returns-in-Refused-clause-cause
 returns-in-Refused-clause-cause g c before now cause =
     c.enter_refused.ensures.cause before now
-    (subst (λ (o : Outcome). HasReplyCause before now (reply_of o)) c.in-Refused.is cause)
+    (subst (HasOutcomeCause before now) c.in-Refused.is cause).reply
 
 pub returns-in-Done-clause-cause : goal.returns-in-Done-clause-cause
 returns-in-Done-clause-cause g c before now cause =
-    c.enter_read.ensures.cause before now
-    (subst (λ (o : Outcome). HasReplyCause before now (reply_of o)) c.in-Done.is cause)
+    let done = subst (HasOutcomeCause before now) c.in-Done.is cause in
+    c.enter_read.ensures.cause before now done.reply done.calm
+
+pub returns-in-Pointed-clause-cause : goal.returns-in-Pointed-clause-cause
+returns-in-Pointed-clause-cause g c before now cause =
+    let pointed = subst (HasOutcomeCause before now) c.in-Pointed.is cause in
+    cause-entered (c.enter_point.ensures.replied before now pointed.reply pointed.calm)

@@ -5,7 +5,7 @@ use Rattle.vr_event.specs.Cause.{IsEnteredFor}
 use Rattle.vr_event.specs.Getting.{IsAsked, MayEnd}
 use Rattle.vr_event.specs.Volume.{IsHeld, VolumeNow}
 use Rattle.vr_event.specs.declared.getting.Outcome.TheVariants.{Pointed}
-use Rattle.vr_event.proofs.Causes.{entered-with}
+use Rattle.vr_event.proofs.Causes.{calm-unwritten, entered-with}
 use Rattle.vr_event.proofs.Held.{held-pointed}
 use Rattle.vr_event.proofs.volume.Volume.enter_point.Goals as goal
 
@@ -30,7 +30,8 @@ returns-clause-held g c told opening held asked may =
     (subst (IsHeld seen opening) (sym c.self.view_is) held)
 
 pub returns-clause-replied : goal.returns-clause-replied
-returns-clause-replied g c before now cause =
+returns-clause-replied g c before now cause calm =
     subst (λ (v : VolumeNow g.row.B.Denot). IsEnteredFor before now c.args.after c.args.unit
     c.args.line c.args.request v.file c.point.new.self) c.self.view_is
-    (entered-with c.args.reply c.point.ensures.leaves cause)
+    (entered-with c.args.reply c.point.ensures.leaves cause
+    (calm-unwritten c.args.reply calm))

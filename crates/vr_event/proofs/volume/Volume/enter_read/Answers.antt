@@ -23,12 +23,12 @@ returns-in-Err-clause-held g c told opening held asked may =
     asked (may-fail case asked.read asked.unrefused Memory))) refl
 
 pub returns-in-Ok-clause-cause : goal.returns-in-Ok-clause-cause
-returns-in-Ok-clause-cause g c before now cause =
-    cause-entered (c.in-Ok.ensures.replied before now cause)
+returns-in-Ok-clause-cause g c before now cause calm =
+    cause-entered (c.in-Ok.ensures.replied before now cause calm)
 
 pub returns-in-Err-clause-cause : goal.returns-in-Err-clause-cause
-returns-in-Err-clause-cause g c before now cause =
+returns-in-Err-clause-cause g c before now cause calm =
     subst (λ (v : VolumeNow g.row.B.Denot). HasGetCause before now c.args.after c.args.unit
     c.args.line c.args.request v.file c.refuse.new.self.file) c.in-Err.ensures.same
     (cause-entered (entered-refused NoMemory c.refuse.ensures.same
-    (cause-calm before now (Refused NoMemory) cause.reads cause.writes refl)))
+    (cause-calm before now (Refused NoMemory) (cause.calm calm) refl) refl))

@@ -25,11 +25,12 @@ returns-then-is_write_fault-clause-cause g c before now cause =
     cause-failed
     (subst (λ (r : Refusal). HasReplyCause before now (Refused r))
     (write-is c.args.refusal (sym c.is_write_fault.ensures ∙ c.if-is_write_fault.true)) cause)
-    c.fail_write.ensures.entered
+    c.fail_write.ensures.entered c.requires.going
 
 pub returns-else-is_write_fault-clause-cause : goal.returns-else-is_write_fault-clause-cause
 returns-else-is_write_fault-clause-cause g c before now cause =
-    cause-entered (entered-refused c.args.refusal c.refuse.ensures.same cause)
+    cause-entered (entered-refused c.args.refusal c.refuse.ensures.same cause
+    (sym c.is_write_fault.ensures ∙ c.if-is_write_fault.false))
 
 pub returns-then-is_write_fault-clause-replied : goal.returns-then-is_write_fault-clause-replied
 returns-then-is_write_fault-clause-replied g c entered =

@@ -1,4 +1,4 @@
-use Rattle.std.proofs.Common.{◌≡◌, ◌∙◌, [], List, ℕ, None, Option, Some, ap, inl, refl, subst, sym}
+use Rattle.std.proofs.Common.{◌≡◌, ◌∙◌, [], List, ℕ, None, Option, Some, ap, refl, subst, sym}
 use Rattle.std.specs.Option.{option_copied}
 use Rattle.vr_types.specs.Moments.{Guards}
 use Rattle.vr_types.specs.declared.lock_name.LockName.{LockName}
@@ -24,7 +24,8 @@ use Rattle.vr_store.specs.Store.{StoreNow, left_among, part_among}
 use Rattle.vr_event.specs.Volume.{IsHeld, IsWhole, VolumeNow}
 use Rattle.vr_event.specs.declared.act.Act.TheVariants as acts
 use Rattle.vr_store.specs.declared.no.LookNo.TheVariants.{Fault}
-use Rattle.vr_event.proofs.Causes.{cause-calm}
+use Rattle.vr_event.proofs.Acts.{acted-entered}
+use Rattle.vr_event.proofs.Causes.{calm-unwritten, cause-calm}
 use Rattle.vr_event.proofs.Entering.{held-refused}
 use Rattle.vr_event.proofs.Makes.{entered-change, has-room, held-put, may-reply, replied}
 use Rattle.vr_event.proofs.Makes.{to-make-laid}
@@ -410,28 +411,22 @@ returns-in-Ok-clause-acted g c =
     let faults = g.B.Blocks.faults in
     subst (λ (v : VolumeNow g.row.B.Denot). IsActed (faults v.blocks)
     (faults c.put_at_place.new.blocks) acts.Done c.args.after c.args.unit c.args.line c.args.request
-    v.file c.change.new.self) c.self.view_is (record {
-      reads = c.put_at_place.ensures.reads_rise;
-      writes = c.put_at_place.ensures.writes_rise;
-      by = inl (entered-change c.args.reply c.self.inside.file c.put_at_place.new.file
-          c.change.new.self c.put_at_place.ensures.file c.change.ensures.leaves
-          (cause-calm _ _ c.args.reply c.put_at_place.ensures.reads_rise
-          c.put_at_place.ensures.writes_rise c.requires.calm));
-    })
+    v.file c.change.new.self) c.self.view_is
+    (acted-entered (entered-change c.args.reply c.self.inside.file c.put_at_place.new.file
+    c.change.new.self c.put_at_place.ensures.file c.change.ensures.leaves
+    (cause-calm _ _ c.args.reply c.in-Ok.ensures.quiet c.requires.calm)
+    (calm-unwritten c.args.reply c.requires.calm)))
 
 pub returns-in-Err-Memory-clause-acted : goal.returns-in-Err-Memory-clause-acted
 returns-in-Err-Memory-clause-acted g c =
     let faults = g.B.Blocks.faults in
     subst (λ (v : VolumeNow g.row.B.Denot). IsActed (faults v.blocks)
     (faults c.put_at_place.new.blocks) acts.Done c.args.after c.args.unit c.args.line c.args.request
-    v.file c.refuse.new.self) c.self.view_is (record {
-      reads = c.put_at_place.ensures.reads_rise;
-      writes = c.put_at_place.ensures.writes_rise;
-      by = inl (entered-change (Refused NoMemory) c.self.inside.file c.put_at_place.new.file
-          c.refuse.new.self c.put_at_place.ensures.file (c.refuse.ensures.leaves refl)
-          (cause-calm _ _ (Refused NoMemory) c.put_at_place.ensures.reads_rise
-          c.put_at_place.ensures.writes_rise refl));
-    })
+    v.file c.refuse.new.self) c.self.view_is
+    (acted-entered (entered-change (Refused NoMemory) c.self.inside.file c.put_at_place.new.file
+    c.refuse.new.self c.put_at_place.ensures.file (c.refuse.ensures.leaves refl)
+    (cause-calm _ _ (Refused NoMemory)
+    (ap faults (c.in-Err-Memory.ensures.unchanged c.in-Err-Memory.field-0-is).0) refl) refl))
 
 pub returns-in-Ok-clause-lacks : goal.returns-in-Ok-clause-lacks
 returns-in-Ok-clause-lacks g c entered need free is =

@@ -23,7 +23,8 @@ returns-clause-acted g c =
     c.args.unit c.args.line c.args.request old.file c.refuse.new.self.file)
     (sym c.refuse.ensures.blocks)
     (acted-entered (entered-refused c.args.refusal c.refuse.ensures.same
-    (calm-cause (faults old.blocks) c.args.refusal c.requires.calm)))
+    (calm-cause (faults old.blocks) c.args.refusal c.requires.calm)
+    (calm-refusal c.args.refusal c.requires.calm)))
 
 pub returns-clause-replied : goal.returns-clause-replied
 returns-clause-replied g c entered =

@@ -77,7 +77,7 @@ returns-in-Ok-clause-acted g c =
     (subst (λ (b : g.row.B.Denot). IsActed (faults c.self.inside.blocks) (faults b)
     (acts.Again c.args.request) c.args.after c.args.unit c.args.line c.args.request
     c.self.inside.file c.enter_stage.new.self.file) (sym c.enter_stage.ensures.blocks)
-    (acted-again cause.reads cause.writes
+    (acted-again cause.ok
     (stepped-entered c.args.after c.args.unit c.args.line c.in-Some.part c.self.inside.file
     c.enter_stage.new.self.file c.args.request _ _ c.enter_stage.ensures.leaves)))
 

@@ -51,8 +51,8 @@ returns-clause-held g c = ok-both c.read.result c.read.ensures.leaves c.read.ens
 
 pub returns-clause-replied : goal.returns-clause-replied
 returns-clause-replied g c = ok-both c.read.result c.read.ensures.leaves c.read.ensures.leaves
-    (λ leaves again before now cause. entered-read c.in_ok-shared.shared c.args.request.now
+    (λ leaves again before now cause calm. entered-read c.in_ok-shared.shared c.args.request.now
     c.args.reply c.self.inside.file c.args.self.now.file c.read.new.self
     (locks_kept c.args.unit (mode_kept c.in_ok-shared.shared) c.args.names.now
     c.self.inside.file.locks) c.in_ok-shared.ensures
-    (ap (λ (v : VolumeNow g.row.B.Denot). v.file) c.self.view_is) leaves cause)
+    (ap (λ (v : VolumeNow g.row.B.Denot). v.file) c.self.view_is) leaves cause calm)
