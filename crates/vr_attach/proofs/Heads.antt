@@ -3,9 +3,9 @@ use Rattle.std.proofs.Common.{◌≡◌, ℕ, Option, Some, None, sym, subst}
 use Rattle.std.proofs.Common.{◌∙◌}
 use Rattle.vr_types.specs.Image.{Block}
 use Rattle.vr_seqset.specs.Reading.{record_in}
-use Rattle.vr_space.specs.Keyed.{Keyed, IsHead}
+use Rattle.vr_space.specs.Keyed.{Keyed}
 use Rattle.vr_attach.specs.Damage.{HeadBreaks, IsLeastBroken, SpellsRecord, NamesAreas}
-use Rattle.vr_attach.specs.Damage.{IsFirstRecord, IsOfPart, EndsPart}
+use Rattle.vr_attach.specs.Damage.{IsFirstRecord, IsOfPart, IsWholeHead, EndsPart}
 use Rattle.vr_attach.specs.declared.rule.Rule.{Rule}
 use Rattle.vr_attach.specs.declared.rule.Rule.TheVariants as rules
 use Rattle.vr_attach.proofs.Rules.{NoneBelow, none_first, none_more, least}
@@ -57,45 +57,45 @@ module _ (part : Keyed) (area areas : ℕ) (top : Block) where
       (none_4 (λ spells. absurd (none spells))) (λ broken. none broken.0))
       (λ first. none first.spells)
 
-  -- a head that breaks none is one of the part
+  -- a head that breaks none is that of a part of one area
   pub is_head : IsFirstRecord part top → IsOfPart part (record_in top)
-      → EndsPart part (record_in top) → IsHead part top
-  is_head first of_part ends = record {
-    spelled = first.spells.spelled;
-    size = first.spells.size;
-    number = of_part.number;
-    key = of_part.key;
-    first = first.first;
-    next = ends.next;
-    index = first.index;
-    index_area = first.index_area;
-    single = first.single;
-    last = ends.last;
-  }
+      → EndsPart part (record_in top) → IsWholeHead part top
+  is_head first of_part ends = (
+    record {
+      spelled = first.spells.spelled;
+      size = first.spells.size;
+      number = of_part.number;
+      key = of_part.key;
+      index = first.index;
+      index_area = first.index_area;
+      single = first.single;
+    },
+    record { first = first.first; next = ends.next; last = ends.last },
+  )
 
-  -- a head of the part breaks none
-  pub head_keeps : IsHead part top → (rule : Rule) → Breaks rule → ⊥
+  -- that of a part of one area breaks none
+  pub head_keeps : IsWholeHead part top → (rule : Rule) → Breaks rule → ⊥
   head_keeps head rules.AreaNumber broken = broken.1 (record {
     next = subst (λ (o : Option ℕ). Rattle.std.specs.Prelude.IfSome o
-        (λ (n : ℕ). Rattle.std.specs.Prelude.◌<◌ n areas)) (sym head.next) tt;
+        (λ (n : ℕ). Rattle.std.specs.Prelude.◌<◌ n areas)) (sym head.1.next) tt;
     index = subst (λ (o : Option ℕ). Rattle.std.specs.Prelude.IfSome o
-        (λ (n : ℕ). Rattle.std.specs.Prelude.◌<◌ n areas)) (sym head.index_area) tt;
+        (λ (n : ℕ). Rattle.std.specs.Prelude.◌<◌ n areas)) (sym head.0.index_area) tt;
   })
-  head_keeps head rules.AreaTwice broken = none-some (sym head.next ∙ broken.1)
+  head_keeps head rules.AreaTwice broken = none-some (sym head.1.next ∙ broken.1)
     where
       none-some : None ≡ Some area → ⊥
       none-some same = cc
   head_keeps head rules.SequenceSet broken = broken (record {
-    spells = record { spelled = head.spelled; size = head.size };
-    first = head.first;
-    index = head.index;
-    index_area = head.index_area;
-    single = head.single;
+    spells = record { spelled = head.0.spelled; size = head.0.size };
+    first = head.1.first;
+    index = head.0.index;
+    index_area = head.0.index_area;
+    single = head.0.single;
   })
   head_keeps head rules.PartNumber broken =
-      broken (record { number = head.number; key = head.key })
+      broken (record { number = head.0.number; key = head.0.key })
   head_keeps head rules.Places broken =
-      broken (record { next = head.next; last = head.last })
+      broken (record { next = head.1.next; last = head.1.last })
   head_keeps head rules.ControlInterval broken = broken
   head_keeps head rules.EndOfFile broken = broken
   head_keeps head rules.Record broken = broken
@@ -104,7 +104,7 @@ module _ (part : Keyed) (area areas : ℕ) (top : Block) where
   head_keeps head rules.Slots broken = broken
 
   -- what is no head breaks some rule
-  pub head_or_broken : (IsHead part top → ⊥)
+  pub head_or_broken : (IsWholeHead part top → ⊥)
       → ((rule : Rule) → IsLeastBroken Breaks rule → ⊥) → ⊥
   head_or_broken no_head none =
       let spelled_not_not : (SpellsRecord part top → ⊥) → ⊥ =

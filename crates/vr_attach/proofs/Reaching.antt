@@ -2,7 +2,7 @@
 use Rattle.std.proofs.Common.{◌≡◌, ℕ, zero, suc, ◌+◌, ◌<◌, ◌≤◌, List, [], ◌∷◌, get_or}
 use Rattle.std.proofs.Common.{Option, Some, None, refl, sym, subst, arith}
 use Rattle.std.specs.Prelude.{Contains}
-use Rattle.std.proofs.lemmas.List.Elements.{All-contains, All-nil, Contains-append_left}
+use Rattle.std.proofs.lemmas.List.Elements.{All-contains, Contains-append_left}
 use Rattle.std.proofs.lemmas.List.Elements.{Contains-append_right, Contains-push}
 use Rattle.vr_types.specs.Geometry.{area_count, head_block}
 use Rattle.vr_types.specs.Image.{Block, Image, block_at}
@@ -17,7 +17,6 @@ use Rattle.vr_space.specs.Rosters.{Chains, IsChained, IsChainedBy, IsNextOf, IsO
 use Rattle.vr_space.specs.Rosters.{IsOwnArea, Numbered, after_next, areas_from, chain_of, roster_at}
 use Rattle.vr_space.specs.Rosters.{roster_block, used_of}
 use Rattle.vr_space.specs.Numbered.{IsFilled}
-use Rattle.vr_space.specs.Numbered.{IsIntervalMet}
 use Rattle.vr_space.proofs.CallerLemmas.{are-chained, chain-less, chained-here}
 use Rattle.vr_attach.specs.Laid.{ReachesArea, shape_in}
 use Rattle.vr_attach.specs.Owning.{owner_of}

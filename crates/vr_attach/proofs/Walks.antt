@@ -7,15 +7,15 @@ use Rattle.std.proofs.lemmas.Bool.{cases_lt}
 use Rattle.vr_types.specs.Image.{Block, Image, block_at}
 use Rattle.vr_seqset.specs.Entry.{Entry}
 use Rattle.vr_space.specs.Room.{Range}
-use Rattle.vr_space.specs.Keyed.{Keyed, IsHead, HoldsRange, HoldRanges, entries_of, entry_block}
-use Rattle.vr_space.specs.Keyed.{content_from, range_of}
+use Rattle.vr_space.specs.Keyed.{Keyed, HoldsRange, HoldRanges, entries_of, entry_block}
+use Rattle.vr_space.specs.Keyed.{content_from, low_of, range_of}
 use Rattle.vr_space.specs.Part.{KeyedShape, Stands}
 use Rattle.vr_space.specs.Search.{low_before, range_found, IsEntryAt}
 use Rattle.vr_space.specs.UnderWay.{interval_block}
 use Rattle.vr_space.specs.declared.search.FoundEntry.{FoundEntry}
 use Rattle.vr_space.proofs.CallerLemmas.{holds-nth}
 use Rattle.vr_attach.specs.Damage.{rule_number, HeadBreaks, IntervalBreaks, IsLeastBroken, HoldsNth}
-use Rattle.vr_attach.specs.Damage.{IsBadInterval, IsDamagedAt}
+use Rattle.vr_attach.specs.Damage.{IsBadInterval, IsDamagedAt, IsWholeHead}
 use Rattle.vr_types.specs.declared.fault.DeviceFault.{DeviceFault}
 use Rattle.vr_attach.specs.declared.damage.Damage.{Damage}
 use Rattle.vr_attach.specs.declared.rule.Rule.{Rule}
@@ -42,19 +42,23 @@ got-within (first ∷ entries) zero entry is = omega arith
 got-within (first ∷ entries) (suc i) entry is = omega (arith, got-within entries i entry is)
 
 -- a head whose intervals all hold their ranges stands for a content
-pub stands_where : (part : Keyed) (image : Image) → IsHead part (block_at image part.head)
+pub stands_where : (part : Keyed) (image : Image) → IsWholeHead part (block_at image part.head)
     → ((i : ℕ) → i < length (entries_of (block_at image part.head))
     → HoldsNth part (block_at image part.head) image i)
     → Stands (KeyedShape part) image
 stands_where part image head each =
-    let entries : List Entry = entries_of (block_at image part.head) in (
-      content_from part image None entries,
-      record {
-        head = head;
-        intervals = hold-all part image None entries
-            (λ i entry is. each i (got-within entries i entry is) entry is);
-        records = refl;
-      },
+    let entries : List Entry = entries_of (block_at image part.head) in
+    let low : Option (List ℕ) = low_of (block_at image part.head) in (
+      content_from part image low entries,
+      (
+        record {
+          head = head.0;
+          intervals = hold-all part image low entries
+              (λ i entry is. each i (got-within entries i entry is) entry is);
+          records = refl;
+        },
+        head.1,
+      ),
     )
 
 -- ---- the interval of an entry that is found
@@ -70,10 +74,12 @@ module _ (part : Keyed) (top : Block) (image : Image) (number : ℕ) (found : Fo
   holds_here holds other got =
       let same : is.entry ≡ other =
       ap (λ (o : Option Entry). unwrap_or o is.entry) (sym is.number ∙ got) in
-      subst (λ (e : Entry). HoldsRange part (range_of (low_before None (entries_of top) number) e)
+      subst (λ (e : Entry). HoldsRange part
+      (range_of (low_before (low_of top) (entries_of top) number) e)
       (block_at image (entry_block part e))) same
       (subst (λ (m : ℕ). HoldsRange part
-      (range_of (low_before None (entries_of top) number) is.entry) (block_at image m)) found-block
+      (range_of (low_before (low_of top) (entries_of top) number) is.entry) (block_at image m))
+      found-block
       (subst (λ (r : Range). HoldsRange part r (block_at image n)) is.range holds))
 
   pub bad_here : (rule : Rule)
@@ -116,18 +122,19 @@ module _ (part : Keyed) (area areas : ℕ) (image : Image) where
   pub damaged_none : (n : ℕ) (rule : Rule) → IsDamagedAt part area areas image n rule
       → Stands (KeyedShape part) image → ⊥
   damaged_none n rule (inl bad) stands =
-      head_keeps part area areas top stands.1.head rule bad.rule_is.broken
+      head_keeps part area areas top (stands.1.0.head, stands.1.1) rule bad.rule_is.broken
   damaged_none n rule (inr (head, bad)) stands =
-      range_keeps part (range_of (low_before None (entries_of top) bad.number) bad.entry)
+      range_keeps part (range_of (low_before (low_of top) (entries_of top) bad.number) bad.entry)
       (block_at image n)
       (subst (λ (m : ℕ). HoldsRange part
-      (range_of (low_before None (entries_of top) bad.number) bad.entry) (block_at image m))
+      (range_of (low_before (low_of top) (entries_of top) bad.number) bad.entry) (block_at image m))
       (sym bad.block)
-      (holds-nth part image None (entries_of top) bad.number bad.entry stands.1.intervals bad.is))
+      (holds-nth part image (low_of top) (entries_of top) bad.number bad.entry
+      stands.1.0.intervals bad.is))
       rule bad.rule_is.broken
 
   -- those of the first entries hold their ranges, unless one is damaged
-  each-or-bad : (IsHead part top)
+  each-or-bad : IsWholeHead part top
       → ((n : ℕ) (rule : Rule) → IsBadInterval part top image n rule → ⊥)
       → (k : ℕ) → (((i : ℕ) → i < k → HoldsNth part top image i) → ⊥) → ⊥
   each-or-bad head none zero refuted = refuted (λ i less. absurd (omega (arith, less)))
@@ -146,14 +153,14 @@ module _ (part : Keyed) (area areas : ℕ) (image : Image) where
           none-some : (entry : Entry) → None ≡ Some entry → ⊥
           none-some entry same = cc
       nth-by k (Some entry) is before refuted =
-          let range : Range = range_of (low_before None (entries_of top) k) entry in
+          let range : Range = range_of (low_before (low_of top) (entries_of top) k) entry in
           let block : Block = block_at image (entry_block part entry) in
           range_or_broken part range block
           (λ holds. refuted (λ other some.
           let same : entry ≡ other = ap (λ (o : Option Entry). unwrap_or o entry)
           (sym is ∙ some) in
           subst (λ (e : Entry). HoldsRange part
-          (range_of (low_before None (entries_of top) k) e)
+          (range_of (low_before (low_of top) (entries_of top) k) e)
           (block_at image (entry_block part e))) same holds))
           (λ rule broken. none (entry_block part entry) rule (record {
             number = k;
@@ -188,7 +195,7 @@ module _ (part : Keyed) (area areas : ℕ) (image : Image) where
       → (second : IsBadInterval part top image m other) → first.number < second.number → ⊥
   bad-before n m rule other first second less =
       let range : Range =
-      range_of (low_before None (entries_of top) first.number) first.entry in
+      range_of (low_before (low_of top) (entries_of top) first.number) first.entry in
       range_keeps part range (block_at image n)
       (subst (λ (b : ℕ). HoldsRange part range (block_at image b)) (sym first.block)
       (second.before first.number less first.entry first.is))
@@ -203,21 +210,21 @@ module _ (part : Keyed) (area areas : ℕ) (image : Image) where
       (ap (λ (i : ℕ). slice_get (entries_of top) i) same ∙ second.is) in
       let block : n ≡ m =
       first.block ∙ ap (entry_block part) entry ∙ sym second.block in
-      let range : range_of (low_before None (entries_of top) first.number) first.entry
-      ≡ range_of (low_before None (entries_of top) second.number) second.entry =
-      ap (λ (i : ℕ). range_of (low_before None (entries_of top) i) first.entry) same
-      ∙ ap (range_of (low_before None (entries_of top) second.number)) entry in
+      let range : range_of (low_before (low_of top) (entries_of top) first.number) first.entry
+      ≡ range_of (low_before (low_of top) (entries_of top) second.number) second.entry =
+      ap (λ (i : ℕ). range_of (low_before (low_of top) (entries_of top) i) first.entry) same
+      ∙ ap (range_of (low_before (low_of top) (entries_of top) second.number)) entry in
       let moved : IsLeastBroken (IntervalBreaks part
-      (range_of (low_before None (entries_of top) second.number) second.entry)
+      (range_of (low_before (low_of top) (entries_of top) second.number) second.entry)
       (block_at image m)) rule =
       subst (λ (b : ℕ). IsLeastBroken (IntervalBreaks part
-      (range_of (low_before None (entries_of top) second.number) second.entry)
+      (range_of (low_before (low_of top) (entries_of top) second.number) second.entry)
       (block_at image b)) rule) block
       (subst (λ (r : Range). IsLeastBroken (IntervalBreaks part r (block_at image n)) rule) range
       first.rule_is) in (
         block,
         one_least (IntervalBreaks part
-            (range_of (low_before None (entries_of top) second.number) second.entry)
+            (range_of (low_before (low_of top) (entries_of top) second.number) second.entry)
             (block_at image m)) rule other moved second.rule_is,
       )
 
@@ -246,7 +253,7 @@ module _ (part : Keyed) (area areas : ℕ) (image : Image) where
 
 -- what is found under a head is what is found of the part
 pub walked : (part : Keyed) (area areas : ℕ) (image : Image) (top : Block)
-    (result : Result (Option Damage) DeviceFault) → IsHead part top
+    (result : Result (Option Damage) DeviceFault) → IsWholeHead part top
     → top ≡ block_at image part.head
     → IfOk result (λ (found : Option Damage). MatchOption found
     ((i : ℕ) → i < length (entries_of top) → HoldsNth part top image i)
@@ -254,12 +261,12 @@ pub walked : (part : Keyed) (area areas : ℕ) (image : Image) (top : Block)
     → IfOk result (λ (found : Option Damage). MatchOption found (Stands (KeyedShape part) image)
     (λ (damage : Damage). IsDamagedAt part area areas image damage.block damage.rule))
 walked part area areas image top (Ok None) head same each =
-    stands_where part image (subst (IsHead part) same head)
+    stands_where part image (subst (IsWholeHead part) same head)
     (subst (λ (b : Block). (i : ℕ) → i < length (entries_of b) → HoldsNth part b image i) same
     each)
 walked part area areas image top (Ok (Some damage)) head same bad =
     inr (
-      subst (IsHead part) same head,
+      subst (IsWholeHead part) same head,
       subst (λ (b : Block). IsBadInterval part b image damage.block damage.rule) same bad,
     )
 walked part area areas image top (Err fault) head same found = tt

@@ -15,8 +15,8 @@ use Rattle.vr_seqset.specs.Entry.{Entry}
 use Rattle.vr_seqset.specs.SequenceSet.{SequenceSet, IsSequenceSet}
 use Rattle.vr_seqset.specs.Reading.{record_in}
 use Rattle.vr_space.specs.Room.{Range, is_in}
-use Rattle.vr_space.specs.Keyed.{Keyed, IsHead, IsKept, HoldsRange, entries_of, entry_block, key_of}
-use Rattle.vr_space.specs.Keyed.{range_of}
+use Rattle.vr_space.specs.Keyed.{Keyed, IsHead, IsWhole, IsKept, HoldsRange, entries_of}
+use Rattle.vr_space.specs.Keyed.{entry_block, key_of, low_of, range_of}
 use Rattle.vr_space.specs.Search.{low_before}
 use Rattle.vr_attach.specs.declared.rule.Rule.{Rule}
 use Rattle.vr_attach.specs.declared.rule.Rule.TheVariants as rules
@@ -90,6 +90,10 @@ HeadBreaks part area areas top rules.Order = ⊥
 HeadBreaks part area areas top rules.Roster = ⊥
 HeadBreaks part area areas top rules.Slots = ⊥
 
+-- the head of a part of one area, which breaks none
+abbrev pub IsWholeHead : Keyed → Block → Type 0
+IsWholeHead part top = IsHead part top × IsWhole part top
+
 -- ---- an interval
 
 -- the block spells this control interval
@@ -132,7 +136,7 @@ IntervalBreaks part range block rules.Slots = ⊥
 -- the interval of the entry of this number is one of its range
 abbrev pub HoldsNth : Keyed → Block → Image → ℕ → Type 0
 HoldsNth part top image i = (entry : Entry) → slice_get (entries_of top) i ≡ Some entry
-    → HoldsRange part (range_of (low_before None (entries_of top) i) entry)
+    → HoldsRange part (range_of (low_before (low_of top) (entries_of top) i) entry)
     (block_at image (entry_block part entry))
 
 -- Block n is the interval of an entry, and breaks the rule; those of the entries before it break
@@ -145,7 +149,7 @@ pub record IsBadInterval (part : Keyed) (top : Block) (image : Image) (n : ℕ) 
     pub before : (i : ℕ) → i < number → HoldsNth part top image i
     pub block : n ≡ entry_block part entry
     pub rule_is : IsLeastBroken (IntervalBreaks part
-        (range_of (low_before None (entries_of top) number) entry) (block_at image n)) rule
+        (range_of (low_before (low_of top) (entries_of top) number) entry) (block_at image n)) rule
 
 -- Block n is the head of the part, and breaks the rule.
 pub record IsBadHead (part : Keyed) (area areas : ℕ) (image : Image) (n : ℕ) (rule : Rule) : Type 0
@@ -158,5 +162,5 @@ pub record IsBadHead (part : Keyed) (area areas : ℕ) (image : Image) (n : ℕ)
 abbrev pub IsDamagedAt : Keyed → ℕ → ℕ → Image → ℕ → Rule → Type 0
 IsDamagedAt part area areas image n rule =
     IsBadHead part area areas image n rule
-    ⊎ (IsHead part (block_at image part.head)
+    ⊎ (IsWholeHead part (block_at image part.head)
     × IsBadInterval part (block_at image part.head) image n rule)

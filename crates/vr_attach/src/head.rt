@@ -2,10 +2,9 @@
 ghost use Rattle.std.specs.Prelude.{◌≡◌, ◌<◌, ◌↔◌, ℕ, IsTrue, All, Some, None, IfSome, MatchOption};
 ghost use Rattle.std.specs.Prelude.{List, length, replicate, true};
 ghost use Rattle.vr_seqset.specs.Entry.{Entry};
-ghost use Rattle.vr_space.specs.Keyed.{IsHead, entries_of};
 ghost use Rattle.vr_seqset.specs.Reading.{record_in};
 ghost use Rattle.vr_attach.specs.Damage.{EndsPart, HeadBreaks, IsFirstRecord, IsLeastBroken};
-ghost use Rattle.vr_attach.specs.Damage.{IsOfPart, NamesAreas, SpellsRecord};
+ghost use Rattle.vr_attach.specs.Damage.{IsOfPart, IsWholeHead, NamesAreas, SpellsRecord};
 
 use crate::rule::Rule;
 use vr_seqset::{SeqEntries, SeqView};
@@ -75,7 +74,7 @@ fn ends_part(layout: &Layout, view: &SeqView<'_>) -> bool
 fn record_rule(layout: &Layout, area: u32, areas: u32, view: &SeqView<'_>) -> Option<Rule>
     requires { 0 < length view.now.entries }
     ensures { (top : List ℕ) → SpellsRecord layout.now top → record_in top ≡ view.now
-        → MatchOption result (IsHead layout.now top)
+        → MatchOption result (IsWholeHead layout.now top)
         (IsLeastBroken (HeadBreaks layout.now area areas top)) }
 {
     if !names_areas(view, areas) {
@@ -99,7 +98,7 @@ fn record_rule(layout: &Layout, area: u32, areas: u32, view: &SeqView<'_>) -> Op
 /// The least rule that a head breaks, in area `area` of a volume with `areas` areas.
 pub(crate) fn head_rule(layout: &Layout, area: u32, areas: u32, top: &[u8]) -> Option<Rule>
     requires { length top.now ≡ layout.now.size }
-    ensures { MatchOption result (IsHead layout.now top.now)
+    ensures { MatchOption result (IsWholeHead layout.now top.now)
         (IsLeastBroken (HeadBreaks layout.now area areas top.now)) }
 {
     match SeqView::read(top, layout.area) {

@@ -19,7 +19,7 @@ use Rattle.vr_seqset.specs.SequenceSet.{IsSequenceSet, KeepsRules, SequenceSet, 
 use Rattle.vr_seqset.proofs.CallerLemmas.{length-entry_bytes, length-spelling, record_is}
 use Rattle.vr_seqset.specs.Writing.{with_entry}
 use Rattle.vr_seqset.proofs.CallerLemmas.{earlier_keep}
-use Rattle.vr_space.specs.Keyed.{IsHead, Keyed, entries_of}
+use Rattle.vr_space.specs.Keyed.{IsHead, IsWhole as IsWholePart, Keyed, entries_of}
 use Rattle.vr_format.specs.Planned.{HasHead, all_places, one_head}
 
 -- an area of which an interval is used has room for its entry
@@ -150,23 +150,25 @@ last-of one P holds (first ∷ []) entry same = absurd (omega (arith, ap length 
 last-of one P holds (first ∷ second ∷ before) entry same =
     absurd (omega (arith, ap length same))
 
--- a block that is the record's is a head
+-- a block that is the record's is the head of a part of one area
 pub one_top : (part : Keyed) (block : Block) → HasHead part → length block ≡ part.size
     → IsSequenceSet part.area block (one_head part)
-    → IsHead part block × (entries_of block ≡ all_places part.key ∷ [])
+    → IsHead part block × IsWholePart part block × (entries_of block ≡ all_places part.key ∷ [])
 one_top part block has size is = (
   record {
     spelled = subst (IsSequenceSet part.area block) (sym same) is;
     size = size;
     number = ap (λ (s : SequenceSet). s.part) same;
     key = ap (λ (s : SequenceSet). length s.low) same ∙ length-replicate {A = ℕ} part.key 0;
-    first = ap (λ (s : SequenceSet). s.first) same;
-    next = ap (λ (s : SequenceSet). s.next) same;
     index = ap (λ (s : SequenceSet). s.top) same;
     index_area = ap (λ (s : SequenceSet). s.index_area) same;
     single = subst (All (λ (entry : Entry). length entry.intervals ≡ 1)) (sym entries)
         (All-cons (λ (entry : Entry). length entry.intervals ≡ 1) (all_places part.key) [] refl
         (All-nil (λ (entry : Entry). length entry.intervals ≡ 1)));
+  },
+  record {
+    first = ap (λ (s : SequenceSet). s.first) same;
+    next = ap (λ (s : SequenceSet). s.next) same;
     last = λ before entry is-last. last-of (all_places part.key)
         (λ (e : Entry). e.high ≡ replicate part.key 255) refl before entry (sym entries ∙ is-last);
   },

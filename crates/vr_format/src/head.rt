@@ -1,7 +1,7 @@
 //! The head of a part that has one interval in use.
 ghost use Rattle.std.specs.Prelude.{◌≡◌, ◌∷◌, [], length, replicate};
 ghost use Rattle.vr_seqset.specs.SequenceSet.{IsSequenceSet};
-ghost use Rattle.vr_space.specs.Keyed.{IsHead, entries_of};
+ghost use Rattle.vr_space.specs.Keyed.{IsHead, IsWhole, entries_of};
 ghost use Rattle.vr_format.specs.Planned.{HasHead, all_places, one_head};
 
 use vr_seqset::{SeqHead, SeqWriter};
@@ -28,13 +28,15 @@ fn write_record(layout: &Layout, lowest: &[u8], highest: &[u8], out: &mut [u8])
     writer.end();
 }
 
-/// Writes the head of a keyed part into a block: interval 0 has all places, up to the highest one.
+/// Writes the head of a keyed part of one area into a block: interval 0 has all places, up to the
+/// highest one.
 pub(crate) fn write_head(layout: &Layout, lowest: &[u8], highest: &[u8], out: &mut [u8])
     requires part { HasHead layout.now }
     requires size { length out.old ≡ layout.now.size }
     requires lowest { lowest.now ≡ replicate layout.now.key 0 }
     requires highest { highest.now ≡ replicate layout.now.key 255 }
     ensures head { IsHead layout.now out.new }
+    ensures whole { IsWhole layout.now out.new }
     ensures entries { entries_of out.new ≡ all_places layout.now.key ∷ [] }
 {
     write_record(layout, lowest, highest, out);

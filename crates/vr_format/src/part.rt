@@ -3,7 +3,7 @@ ghost use Rattle.std.specs.Prelude.{◌≡◌, ◌∷◌, [], IsTrue, length, ma
 ghost use Rattle.vr_types.specs.Faults.{CountsWrite};
 ghost use Rattle.vr_types.specs.Image.{block_at};
 ghost use Rattle.vr_types.specs.Regions.{Touches};
-ghost use Rattle.vr_space.specs.Keyed.{InArea, IsHead, entries_of};
+ghost use Rattle.vr_space.specs.Keyed.{InArea, IsHead, IsWhole, entries_of};
 ghost use Rattle.vr_space.specs.Part.{KeyedShape, IsOn, StandsFor};
 ghost use Rattle.vr_mount.specs.Touched.{Anything};
 ghost use Rattle.vr_format.specs.Planned.{HasHead, MayStand, content_of};

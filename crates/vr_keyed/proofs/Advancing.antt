@@ -12,22 +12,21 @@ use Rattle.vr_types.specs.declared.unit.StageKind.TheVariants.{CiCopy}
 use Rattle.vr_space.specs.declared.room.Room.TheVariants.{Stage, Ready, NoSpace}
 use Rattle.vr_seqset.specs.Entry.{Entry}
 use Rattle.vr_space.specs.Room.{Lengths, Range, HaveRoom, have_room, with_length}
-use Rattle.vr_space.specs.Keyed.{Keyed, IsHead, IsKeyedAtRest, KeepsRoom, entries_of, entry_block}
-use Rattle.vr_space.specs.Keyed.{lengths_of, entry_for}
+use Rattle.vr_space.specs.Keyed.{EachMayLeave, HoldsRange, IsHead, IsKeyedAtRest, KeepsRoom, Keyed}
+use Rattle.vr_space.specs.Keyed.{entries_of, entry_block, entry_in, lengths_of, low_of}
 use Rattle.vr_space.specs.Split.{SplitNow, free_interval, keyed_room, room_by, room_by_split}
 use Rattle.vr_space.specs.Met.{Met, IsMet}
 use Rattle.vr_space.specs.Split.{room_after, stage_in, fits_in}
-use Rattle.vr_space.specs.Part.{KeyedShape, Stands, InPart, IsSound, Nothing, HasRoom}
-use Rattle.vr_space.proofs.CallerLemmas.{rest-stands, found-in, nothing-then, records-then}
-use Rattle.vr_space.proofs.CallerLemmas.{keeps-adds, same-keeps, keeps-rooms, room-keeps}
-use Rattle.vr_space.proofs.CallerLemmas.{due-then, due-keeps}
+use Rattle.vr_space.specs.Part.{KeyedShape, InPart, Nothing, HasRoom}
+use Rattle.vr_space.proofs.CallerLemmas.{area-due-keeps, due-then, ends-then, found-in}
+use Rattle.vr_space.proofs.CallerLemmas.{nothing-then, records-then, same-keeps}
 use Rattle.vr_split.specs.Switching.{KeepsPart, IsStageDone}
-use Rattle.vr_split.proofs.CallerLemmas.{all_of, all-owned}
 use Rattle.vr_split.specs.Splits.{stage_now}
 use Rattle.vr_keyed.specs.Advance.{IsDue}
 use Rattle.vr_keyed.specs.Planned.{LacksRoom}
-use Rattle.vr_keyed.proofs.MetRoom.{met-holds, answer-met}
-use Rattle.vr_keyed.proofs.Planning.{each-found}
+use Rattle.vr_keyed.proofs.Looking.{each-in}
+use Rattle.vr_keyed.proofs.MetRoom.{answer-met}
+use Rattle.vr_keyed.proofs.Reading.{still-adds, still-ends, still-room, still-rooms, still-whole}
 
 -- What a stage that is due says where no split is under way.
 pub record IsDueNew (fits : Bool) (free : Option ℕ) (kind : StageKind) : Type 0 where
@@ -60,7 +59,7 @@ module _ (part : Keyed) (now : Seen) (left : Left now now.cur) (rests : IsKeyedA
     (kept : Lengths) (room : KeepsRoom part kept now) (met : Met)
     (known : IsMet part now.cur met) (place : List ℕ) (same : met.place ≡ place) (n : ℕ)
     (due : IsDue part None now.cur kept place n) where
-  top : Block
+  abbrev top : Block
   top = block_at now.cur part.head
 
   top-may : now.may part.head (block_at now.cur part.head)
@@ -68,10 +67,6 @@ module _ (part : Keyed) (now : Seen) (left : Left now now.cur) (rests : IsKeyedA
 
   head : IsHead part (block_at now.cur part.head)
   head = rests.sound.heads (block_at now.cur part.head) top-may
-
-  stands : Stands (KeyedShape part) now.cur
-  stands =
-      rest-stands (KeyedShape part) (all_of part) now (rests.sound, all-owned part) left
 
   -- it lacks room, and an interval is free
   pub due-new : IsDueNew
@@ -94,14 +89,11 @@ module _ (part : Keyed) (now : Seen) (left : Left now now.cur) (rests : IsKeyedA
         rests.sound.area,
       ))
 
-  -- what stands and what is kept has room
-  has-room : HaveRoom part.size (lengths_of part kept met.range met.block)
-  has-room =
-      subst (λ (block : Block). HaveRoom part.size (lengths_of part kept met.range block))
-      (ap (block_at now.cur) known.number ∙ known.still)
-      (each-found part now None (entries_of (block_at now.cur part.head))
-      (λ range block. HaveRoom part.size (lengths_of part kept range block)) met.place
-      (met.range, known.entry) (room.each (block_at now.cur part.head) top-may) known.leads
+  -- what a crash may leave of each interval is so of the one that was met
+  met-has : (Q : Range → Block → Type 0) → EachMayLeave part now (low_of top) (entries_of top) Q
+      → Q met.range met.block
+  met-has Q each = subst (Q met.range) (ap (block_at now.cur) known.number ∙ known.still)
+      (each-in part now Q top met.place (met.range, known.entry) each known.leads
       (block_at now.cur (entry_block part known.entry)) entry-may)
 
   pub lacks-room : length place ≡ part.key → n + 7 ≤ part.size
@@ -110,10 +102,11 @@ module _ (part : Keyed) (now : Seen) (left : Left now now.cur) (rests : IsKeyedA
     known = known;
     same = same;
     head = head;
-    holds = met-holds part now.cur met known stands;
+    holds = met-has (HoldsRange part) (rests.sound.intervals top top-may);
     places = room.places;
     key = key;
-    fits = has-room;
+    fits = met-has (λ range block. HaveRoom part.size (lengths_of part kept range block))
+        (room.each top top-may);
     alone = alone;
     lacks = due-new.lacks;
   }
@@ -125,7 +118,7 @@ pub going-due : (part : Keyed) (split : SplitNow) (image : Image) (kept : Length
     (n : ℕ) → (due : IsDue part (Some split) image kept place n)
     → Stage split.stage ≡ keyed_room part (Some split) image kept place n
 going-due part split image kept place n due =
-    by (entry_for None (entries_of (block_at image part.head)) place) due.1 ∙ sym due.1
+    by (entry_in (block_at image part.head) place) due.1 ∙ sym due.1
   where
     free : Option ℕ
     free = free_interval part (block_at image part.head)
@@ -162,7 +155,7 @@ pub new-stage : (part : Keyed) (image : Image) (kept : Lengths) (place : List �
     → (due : IsDue part None image kept place n)
     → Stage CiCopy ≡ keyed_room part None image kept place n
 new-stage part image kept place n due =
-    by (entry_for None (entries_of (block_at image part.head)) place) due.1 ∙ sym due.1
+    by (entry_in (block_at image part.head) place) due.1 ∙ sym due.1
   where
     free : Option ℕ
     free = free_interval part (block_at image part.head)
@@ -200,38 +193,34 @@ copy-stage part (Some split) after image kept place n none due copy kind is = ab
 
 module _ (tells : Bool) (told : IsTrue tells) (part : Keyed) (kept : Lengths) (a b c : Seen)
     (call : Keeps tells a b) (rests : IsKeyedAtRest part a) (room : KeepsRoom part kept a) where
-  -- whichever blocks are the part's
-  any-sound : IsSound (KeyedShape part) (all_of part) a
-  any-sound = (rests.sound, all-owned part)
-
   pub part-after : KeepsPart part kept b c → KeepsPart part kept a c
   part-after after = record {
-    adds = λ owners owned. nothing-then (KeyedShape part) owners Nothing a b c
-        (keeps-adds tells told (KeyedShape part) owners a b call (rests.sound, owned))
-        (after.adds owners owned);
+    adds = λ whole owners owned. nothing-then (KeyedShape part) owners Nothing a b c
+        (still-adds part tells told a b call rests.sound whole owners owned)
+        (after.adds (still-whole part tells told a b call rests.sound whole) owners owned);
     same = records-then (KeyedShape part) a.cur b.cur c.cur
         (same-keeps tells told (KeyedShape part) a b call) after.same;
+    ends = ends-then part a b c (still-ends part tells told a b call rests.sound) after.ends;
     room = after.room;
     rooms = λ owners owned. touches-then (InPart (KeyedShape part) owners)
         (HasRoom (KeyedShape part) kept) a b c
-        (keeps-rooms tells told (KeyedShape part) owners kept a b call (rests.sound, owned) room)
+        (still-rooms part tells told a b call rests.sound kept room owners owned)
         (after.rooms owners owned);
   }
 
   -- or nothing more
   pub part-kept : KeepsPart part kept a b
   part-kept = record {
-    adds = λ owners owned. keeps-adds tells told (KeyedShape part) owners a b call
-        (rests.sound, owned);
+    adds = still-adds part tells told a b call rests.sound;
     same = same-keeps tells told (KeyedShape part) a b call;
-    room = room-keeps tells told (KeyedShape part) (all_of part) kept a b call any-sound room;
-    rooms = λ owners owned. keeps-rooms tells told (KeyedShape part) owners kept a b call
-        (rests.sound, owned) room;
+    ends = still-ends part tells told a b call rests.sound;
+    room = still-room part tells told a b call rests.sound kept room;
+    rooms = still-rooms part tells told a b call rests.sound kept room;
   }
 
   pub done-after : IsStageDone part b c → IsStageDone part a c
   done-after after = record {
     rests = after.rests;
     due = due-then (KeyedShape part) [] a b c
-        (due-keeps tells told (KeyedShape part) (all_of part) a b call any-sound) after.due;
+        (area-due-keeps tells told part a b call rests.sound) after.due;
   }

@@ -8,7 +8,7 @@ use Rattle.vr_types.specs.declared.unit.StageKind.{StageKind}
 use Rattle.vr_types.specs.declared.unit.StageKind.TheVariants.{CiCopy, CiSwitch, CiClean}
 use Rattle.vr_ci_match.specs.Fault.{is_busy}
 use Rattle.vr_space.specs.Room.{Range}
-use Rattle.vr_space.specs.Keyed.{Keyed, IsHead, HoldsRange, entries_of, entry_for, records_in}
+use Rattle.vr_space.specs.Keyed.{Keyed, IsHead, HoldsRange, entry_in, records_in}
 use Rattle.vr_space.specs.Split.{SplitNow}
 use Rattle.vr_space.specs.UnderWay.{IsStable, IsReadyFor, KeyedUnderWay, interval_block}
 use Rattle.vr_space.specs.UnderWay.{above_cut}
@@ -46,8 +46,7 @@ module _ (part : Keyed) (tells : Bool) (told : IsTrue tells) (a b : Seen) (call 
       }
   ready split CiClean is = record {
     at = is.at;
-    found = ap (λ (top : Block). entry_for None (entries_of top) split.cut) (still part.head)
-        ∙ is.found;
+    found = ap (λ (top : Block). entry_in top split.cut) (still part.head) ∙ is.found;
     interval = is.interval;
     high = is.high;
     old = stable split.old (subst (λ (n : ℕ). n < part.area) is.interval

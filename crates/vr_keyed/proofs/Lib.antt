@@ -9,6 +9,7 @@ pub mod Setting
 pub mod Refreshing
 pub mod SetThen
 pub mod Looking
+pub mod Reading
 pub mod Nexting
 pub mod Freeing
 pub mod MetRoom
@@ -20,3 +21,4 @@ pub mod Keeping
 pub mod Attaching
 pub mod Walking
 pub mod Owning
+pub mod Whole

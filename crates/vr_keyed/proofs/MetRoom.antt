@@ -1,57 +1,30 @@
 -- What is answered at a place whose interval was met.
-use Rattle.std.proofs.Common.{◌≡◌, ℕ, Bool, true, false, List, [], ◌∷◌, Option, Some, None, length}
-use Rattle.std.proofs.Common.{sym, ap, subst, ◌∙◌, unwrap_or, All, take, zero, suc, ◌<◌, arith}
+use Rattle.std.proofs.Common.{◌≡◌, ℕ, Bool, List, [], ◌∷◌, Option, length}
+use Rattle.std.proofs.Common.{sym, ap, subst, ◌∙◌, All, take, zero, suc, ◌<◌, arith}
 use Rattle.std.proofs.lemmas.List.Elements.{All-head}
-use Rattle.std.specs.Prelude.{cond}
-use Rattle.std.specs.Ordering.{is_le}
-use Rattle.vr_types.specs.Content.{place_cmp}
 use Rattle.vr_types.specs.Image.{Block, Image, block_at}
 use Rattle.vr_types.specs.declared.unit.StageKind.{StageKind}
 use Rattle.vr_seqset.specs.Entry.{Entry}
 use Rattle.vr_space.specs.declared.room.Room as answer
 use Rattle.vr_space.specs.Room.{Lengths, Range, with_length, have_room}
-use Rattle.vr_space.specs.Keyed.{Keyed, HoldsRange, HoldRanges, range_of, entries_of, entry_block}
-use Rattle.vr_space.specs.Keyed.{entry_for, lengths_of}
+use Rattle.vr_space.specs.Keyed.{Keyed, HoldsRange, entry_block, lengths_of}
 use Rattle.vr_space.specs.Split.{SplitNow, stage_at, stage_in, fits_in, room_after, room_by}
 use Rattle.vr_space.specs.Split.{room_by_split, free_interval, keyed_room}
 use Rattle.vr_space.specs.Met.{Met, IsMet}
-use Rattle.vr_space.specs.Part.{KeyedShape, Stands}
 use Rattle.vr_split.specs.Weights.{LengthsRoom}
 use Rattle.vr_keyed.specs.Lent.{ArePlaces, HasRoomFor}
-
--- the interval that is found for a place is one of its range
-pub holds-found : (part : Keyed) (image : Image) (low : Option (List ℕ)) (entries : List Entry)
-    (place : List ℕ) (at : Range × Entry) → HoldRanges part image low entries
-    → entry_for low entries place ≡ Some at
-    → HoldsRange part at.0 (block_at image (entry_block part at.1))
-holds-found part image low [] place at holds is = absurd cc
-holds-found part image low (entry ∷ entries) place at holds is =
-    by (is_le (place_cmp place entry.high)) is
-    (λ more. holds-found part image (Some entry.high) entries place at holds.1 more)
-  where
-    by : (b : Bool)
-        → cond b (Some (range_of low entry, entry)) (entry_for (Some entry.high) entries place)
-        ≡ Some at
-        → (entry_for (Some entry.high) entries place ≡ Some at
-        → HoldsRange part at.0 (block_at image (entry_block part at.1)))
-        → HoldsRange part at.0 (block_at image (entry_block part at.1))
-    by true same more =
-        let here : (range_of low entry, entry) ≡ at =
-        ap (λ (o : Option (Range × Entry)). unwrap_or o (range_of low entry, entry)) same in
-        subst (λ (f : Range × Entry). HoldsRange part f.0 (block_at image (entry_block part f.1)))
-        here holds.0
-    by false same more = more same
+use Rattle.vr_keyed.specs.Look.{AreaStands}
+use Rattle.vr_keyed.proofs.Looking.{holds-in}
 
 module _ (part : Keyed) (image : Image) (met : Met) (is : IsMet part image met) where
   has : block_at image (entry_block part is.entry) ≡ met.block
   has = ap (block_at image) is.number ∙ is.still
 
   -- what was met is an interval of its range
-  pub met-holds : Stands (KeyedShape part) image → HoldsRange part met.range met.block
+  pub met-holds : AreaStands part image → HoldsRange part met.range met.block
   met-holds stands =
       subst (HoldsRange part met.range) has
-      (holds-found part image None (entries_of (block_at image part.head)) met.place
-      (met.range, is.entry) stands.1.intervals is.leads)
+      (holds-in part image met.place (met.range, is.entry) stands is.leads)
 
   -- the answer, by what was met
   pub met-room : (split : Option SplitNow) (kept : Lengths) (n : ℕ)

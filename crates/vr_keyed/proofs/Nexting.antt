@@ -1,5 +1,5 @@
 -- Searching for the next place with a record.
-use Rattle.std.proofs.Common.{◌≡◌, ◌≢◌, ◌⊎◌, ⊎_elim, ◌<◌, ◌≤◌, ◌+◌, ℕ, zero, suc}
+use Rattle.std.proofs.Common.{◌≡◌, ◌≢◌, ◌⊎◌, inl, inr, ⊎_elim, ◌<◌, ◌≤◌, ◌+◌, ℕ, zero, suc}
 use Rattle.std.proofs.Common.{Bool, IsTrue, true, false, ◌&&◌, List, [], ◌∷◌, Option, Some, None}
 use Rattle.std.proofs.Common.{All}
 use Rattle.std.proofs.Common.{refl, sym, ap, subst, ◌∙◌, arith, true≢false, length, map}
@@ -23,15 +23,16 @@ use Rattle.vr_space.specs.declared.whence.Whence.{Whence}
 use Rattle.vr_space.specs.Whence.{allows, first_of}
 use Rattle.vr_space.specs.Room.{Range, is_in, is_above}
 use Rattle.vr_space.specs.Keyed.{Keyed, IsKept, HoldsRange, entries_of, entry_for, key_of, placed}
-use Rattle.vr_space.specs.Keyed.{records_of, range_of, HoldRanges, entry_block, way_in}
+use Rattle.vr_space.specs.Keyed.{records_of, range_of, HoldRanges, entry_block, low_of, way_in}
 use Rattle.vr_space.specs.Way.{found_on}
-use Rattle.vr_space.specs.Part.{KeyedShape, Stands, IsNextPlace, HasNoNext, item_of}
+use Rattle.vr_space.specs.Part.{KeyedShape, IsNextPlace, HasNoNext, item_of}
 use Rattle.vr_space.specs.Search.{low_before}
 use Rattle.vr_space.proofs.CallerLemmas.{AllAbove, Rising, by_other, same_is_equal, lt_from_test}
 use Rattle.vr_space.proofs.CallerLemmas.{AscendFrom, head-ascends, in-most, in-above, above-more}
 use Rattle.vr_space.proofs.CallerLemmas.{found-entry, found-none, places-placed, rising-sorted}
-use Rattle.vr_space.proofs.CallerLemmas.{holds-nth}
+use Rattle.vr_space.proofs.CallerLemmas.{holds-nth, leads-above}
 use Rattle.vr_split.proofs.CallerLemmas.{found-range}
+use Rattle.vr_keyed.specs.Look.{AreaStands}
 use Rattle.vr_keyed.specs.Next.{is_sought, first_sought, HasNth}
 use Rattle.std.proofs.lemmas.Bool.{cases_lt}
 
@@ -268,6 +269,16 @@ position-most p q entries i j most first second =
 
 -- ---- the entry of a number
 
+-- a place above where the range of an entry begins is above the low place of all
+low-above : (low : Option (List ℕ)) (entries : List Entry) (n : ℕ) (place : List ℕ)
+    → AscendFrom low entries → is_above (low_before low entries n) place ≡ true
+    → is_above low place ≡ true
+low-above low entries zero place ascend above = above
+low-above low [] (suc n) place ascend above = above
+low-above low (entry ∷ entries) (suc n) place ascend above =
+    above-more low entry.high place ascend.0
+    (low-above (Some entry.high) entries n place ascend.1 above)
+
 position-in : (place : List ℕ) (low : Option (List ℕ)) (entries : List Entry) (k n : ℕ)
     (entry : Entry) → AscendFrom low entries → slice_get entries n ≡ Some entry
     → is_in (range_of (low_before low entries n) entry) place ≡ true
@@ -281,7 +292,7 @@ position-in place low (first_entry ∷ entries) k zero entry ascend is inside =
     ∙ ap (λ (m : ℕ). Some m) same
 position-in place low (first_entry ∷ entries) k (suc n) entry ascend is inside =
     let past : is_above (Some first_entry.high) place ≡ true =
-    low-above entries n first_entry.high ascend.1
+    low-above (Some first_entry.high) entries n place ascend.1
     (in-above (range_of (low_before (Some first_entry.high) entries n) entry) place inside) in
     let missed : reaches place first_entry ≡ false =
     ap is_le (nat_list_cmp_total.antisymm place first_entry.high
@@ -290,14 +301,6 @@ position-in place low (first_entry ∷ entries) k (suc n) entry ascend is inside
     ap (λ (b : Bool). cond b (Some k) (position_from (reaches place) (k + 1) entries)) missed
     ∙ position-in place (Some first_entry.high) entries (k + 1) n entry ascend.1 is inside
     ∙ ap (λ (m : ℕ). Some m) same
-  where
-    low-above : (es : List Entry) (m : ℕ) (high : List ℕ) → AscendFrom (Some high) es
-        → is_above (low_before (Some high) es m) place ≡ true
-        → is_above (Some high) place ≡ true
-    low-above es zero high up above = above
-    low-above [] (suc m) high up above = above
-    low-above (e ∷ es) (suc m) high up above =
-        above-more (Some high) e.high place up.0 (low-above es m e.high up.1 above)
 
 position-below : (place : List ℕ) (entries : List Entry) (k i : ℕ)
     → position_from (reaches place) k entries ≡ Some i → i < k + length entries
@@ -314,10 +317,34 @@ position-below place (entry ∷ entries) k i is =
 
 -- ---- entry after entry
 
-module _ (part : Keyed) (image : Image) (from : Whence)
-    (stands : Stands (KeyedShape part) image) where
+module _ (part : Keyed) (image : Image) (from : Whence) (stands : AreaStands part image) where
   abbrev all-entries : List Entry
   all-entries = entries_of (block_at image part.head)
+
+  -- where the first range begins
+  abbrev first-low : Option (List ℕ)
+  first-low = low_of (block_at image part.head)
+
+  above-or : (q : List ℕ) → (is_above first-low q ≡ true) ⊎ (is_above first-low q ≡ false)
+  above-or q = by (is_above first-low q)
+    where
+      by : (b : Bool) → (b ≡ true) ⊎ (b ≡ false)
+      by true = inl refl
+      by false = inr refl
+
+  -- the area has no item at a place that isn't above
+  none-out : (q : List ℕ) → is_above first-low q ≡ false
+      → item_of (KeyedShape part) image q ≡ None
+  none-out q out = ap (λ (b : Bool). found_on image
+      (way_in part q (cond b (entry_for first-low all-entries q) None))) out
+
+  -- nor at one that no entry reaches
+  none-reached : (q : List ℕ) → position (reaches q) all-entries ≡ None
+      → item_of (KeyedShape part) image q ≡ None
+  none-reached q is = ⊎_elim
+      (λ above. ap (λ (o : Option (Range × Entry)). found_on image (way_in part q o))
+      (leads-above first-low all-entries q above ∙ found-none q first-low all-entries is))
+      (λ out. none-out q out) (above-or q)
 
   -- none of the entries before holds a place that the search may find, with a record
   abbrev pub NoneBefore : ℕ → Type 0
@@ -327,13 +354,13 @@ module _ (part : Keyed) (image : Image) (from : Whence)
 
   module _ (n : ℕ) (first_is : Option (List ℕ)) (has : HasNth part image n from first_is) where
     abbrev nth-range : Range
-    nth-range = range_of (low_before None all-entries n) has.entry
+    nth-range = range_of (low_before first-low all-entries n) has.entry
 
     abbrev nth-block : Block
     nth-block = block_at image (entry_block part has.entry)
 
     nth-holds : HoldsRange part nth-range nth-block
-    nth-holds = holds-nth part image None all-entries n has.entry stands.1.intervals has.is
+    nth-holds = holds-nth part image first-low all-entries n has.entry stands.1.intervals has.is
 
     nth-first : first_of (filter (is_sought nth-range from)
         (places_of (records_of part nth-block))) ≡ first_is
@@ -347,17 +374,19 @@ module _ (part : Keyed) (image : Image) (from : Whence)
         nth-holds.ascends)
 
     -- what is read at a place of the range
-    nth-item : (q : List ℕ) → position (reaches q) all-entries ≡ Some n
+    nth-item : (q : List ℕ) → is_above first-low q ≡ true
+        → position (reaches q) all-entries ≡ Some n
         → item_of (KeyedShape part) image q ≡ item_at (records_of part nth-block) q
-    nth-item q is = ap (λ (o : Option (Range × Entry)). found_on image (way_in part q o))
-        (found-entry q all-entries n has.entry is has.is)
+    nth-item q above is = ap (λ (o : Option (Range × Entry)). found_on image (way_in part q o))
+        (leads-above first-low all-entries q above
+        ∙ found-entry q first-low all-entries n has.entry is has.is)
 
-    nth-sought : (q : List ℕ) → IsTrue (allows from q)
+    nth-sought : (q : List ℕ) → is_above first-low q ≡ true → IsTrue (allows from q)
         → position (reaches q) all-entries ≡ Some n → is_sought nth-range from q ≡ true
-    nth-sought q allowed is =
+    nth-sought q above allowed is =
         both (is_in nth-range q) (allows from q)
-        (found-range None all-entries q (nth-range, has.entry) refl
-        (found-entry q all-entries n has.entry is has.is)) allowed
+        (found-range first-low all-entries q (nth-range, has.entry) above
+        (found-entry q first-low all-entries n has.entry is has.is)) allowed
       where
         both : (x y : Bool) → x ≡ true → y ≡ true → (x && y) ≡ true
         both true y left right = right
@@ -373,10 +402,12 @@ module _ (part : Keyed) (image : Image) (from : Whence)
       let here : i ≡ n = omega (arith, most, below) in
       let at_n : position (reaches q) all-entries ≡ Some n = is ∙ ap (λ (m : ℕ). Some m) here in
       ⊎_elim
-      (λ nth. nth-item n None nth q at_n
+      (λ nth. ⊎_elim
+      (λ above. nth-item n None nth q above at_n
       ∙ none-passes (is_sought (nth-range n None nth) from)
       (records_of part (nth-block n None nth)) q (nth-first n None nth)
-      (nth-sought n None nth q allowed at_n))
+      (nth-sought n None nth q above allowed at_n))
+      (λ out. none-out q out) (above-or q))
       (λ past. absurd (omega (
         arith,
         past,
@@ -394,8 +425,7 @@ module _ (part : Keyed) (image : Image) (from : Whence)
     where
       by : (o : Option ℕ) → position (reaches q) all-entries ≡ o
           → item_of (KeyedShape part) image q ≡ None
-      by None is = ap (λ (o : Option (Range × Entry)). found_on image (way_in part q o))
-          (found-none q all-entries is)
+      by None is = none-reached q is
       by (Some i) is = none q i allowed is (omega (
         arith,
         all,
@@ -410,7 +440,8 @@ module _ (part : Keyed) (image : Image) (from : Whence)
     allowed = right (is_in range place) (allows from place) passes;
     some = λ nothing. first-has part (is_sought range from)
         (Rattle.vr_space.specs.Keyed.items_of (nth-block n (Some place) has)) place has.first_is
-        (ap (option_and_then record_of) (sym (nth-item n (Some place) has place at_n)) ∙ nothing);
+        (ap (option_and_then record_of) (sym (nth-item n (Some place) has place above at_n))
+        ∙ nothing);
     least = λ q allowed less. ap (option_and_then record_of)
         (by q (position (reaches q) all-entries) refl allowed less);
   }
@@ -430,29 +461,36 @@ module _ (part : Keyed) (image : Image) (from : Whence)
       right true y is = is
       right false y is = absurd (true≢false (sym is))
 
+      ascends : AscendFrom first-low all-entries
+      ascends = head-ascends part (block_at image part.head) stands.1.head
+
+      inside : is_in range place ≡ true
+      inside = left (is_in range place) (allows from place) passes
+
+      above : is_above first-low place ≡ true
+      above = low-above first-low all-entries n place ascends (in-above range place inside)
+
       at_n : position (reaches place) all-entries ≡ Some n
       at_n =
           let same : 0 + n ≡ n = omega arith in
           position_from-zero (reaches place) all-entries
-          ∙ position-in place None all-entries 0 n has.entry
-          (head-ascends part (block_at image part.head) stands.1.head) has.is
-          (left (is_in range place) (allows from place) passes)
+          ∙ position-in place first-low all-entries 0 n has.entry ascends has.is inside
           ∙ ap (λ (m : ℕ). Some m) same
 
       by : (q : List ℕ) (o : Option ℕ) → position (reaches q) all-entries ≡ o
           → IsTrue (allows from q) → place_cmp q place ≡ Less
           → item_of (KeyedShape part) image q ≡ None
-      by q None is allowed less =
-          ap (λ (o : Option (Range × Entry)). found_on image (way_in part q o))
-          (found-none q all-entries is)
+      by q None is allowed less = none-reached q is
       by q (Some i) is allowed less = ⊎_elim (λ under. none q i allowed is under)
           (λ most.
           let up : i ≤ n = position-most q place all-entries i n (ap is_le less) is at_n in
           let here : i ≡ n = omega (arith, most, up) in
           let there : position (reaches q) all-entries ≡ Some n = is ∙ ap (λ (m : ℕ). Some m) here
           in
-          nth-item n (Some place) has q there
+          ⊎_elim
+          (λ over. nth-item n (Some place) has q over there
           ∙ none-before (is_sought range from)
           (records_of part (nth-block n (Some place) has)) place q (nth-rises n (Some place) has)
-          (nth-first n (Some place) has) (nth-sought n (Some place) has q allowed there) less)
+          (nth-first n (Some place) has) (nth-sought n (Some place) has q over allowed there) less)
+          (λ out. none-out q out) (above-or q))
           (cases_lt i n)

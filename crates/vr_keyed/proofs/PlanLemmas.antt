@@ -1,17 +1,18 @@
 -- Where a record lacks room, its interval can be cut.
-use Rattle.std.proofs.Common.{◌≡◌, ℕ, ◌+◌, ◌-◌, ◌<◌, true, List, length, refl, sym, ap}
-use Rattle.std.proofs.Common.{subst, ◌∙◌, Option, Some, None, unwrap_or, true≢false}
+use Rattle.std.proofs.Common.{◌≡◌, ℕ, ◌+◌, ◌-◌, ◌<◌, true, List, length, sym, ap}
+use Rattle.std.proofs.Common.{subst, ◌∙◌, Option, Some, unwrap_or, true≢false}
 use Rattle.std.specs.Prelude.{slice_get, slice_index}
 use Rattle.std.proofs.lemmas.Bool.{le-leb}
-use Rattle.vr_types.specs.Image.{Image, block_at}
+use Rattle.vr_types.specs.Image.{Block, Image, block_at}
 use Rattle.vr_types.specs.declared.unit.StageKind.TheVariants.{CiCopy}
 use Rattle.vr_seqset.specs.Entry.{Entry}
 use Rattle.vr_space.specs.Whence.{places_kept}
 use Rattle.vr_space.specs.Room.{Lengths, Range, HaveRoom, is_in, weight, with_length}
-use Rattle.vr_space.specs.Keyed.{Keyed, entries_of, entry_for, lengths_of}
+use Rattle.vr_space.specs.Keyed.{Keyed, entries_of, entry_in, lengths_of, low_of}
 use Rattle.vr_space.specs.Split.{SplitNow}
 use Rattle.vr_space.specs.UnderWay.{IsBegun}
 use Rattle.vr_space.specs.Met.{Met}
+use Rattle.vr_space.proofs.CallerLemmas.{found-above}
 use Rattle.vr_split.proofs.CallerLemmas.{found-range}
 use Rattle.vr_keyed.specs.declared.plan.Plan.{Plan}
 use Rattle.vr_keyed.specs.Planned.{IsCutAt, HasNoCut, IsTargetAt, LacksRoom, IsPlan, HasKeyAt}
@@ -31,15 +32,15 @@ module _ (part : Keyed) (image : Image) (kept : Lengths) (met : Met) (place : Li
   full fits = true≢false (sym (le-leb (weight weighed) (part.size - 4) fits) ∙ lacks.lacks)
 
   -- the place is in the range that was met
-  leads : entry_for None (entries_of (block_at image part.head)) place
-      ≡ Some (met.range, lacks.known.entry)
-  leads = ap (entry_for None (entries_of (block_at image part.head))) (sym lacks.same)
-      ∙ lacks.known.leads
+  leads : entry_in (block_at image part.head) place ≡ Some (met.range, lacks.known.entry)
+  leads = ap (entry_in (block_at image part.head)) (sym lacks.same) ∙ lacks.known.leads
 
   inside : is_in met.range place ≡ true
   inside =
-      found-range None (entries_of (block_at image part.head)) place
-      (met.range, lacks.known.entry) refl leads
+      let top : Block = block_at image part.head in
+      let at : Range × Entry = (met.range, lacks.known.entry) in
+      let found = found-above (low_of top) (entries_of top) place at leads in
+      found-range (low_of top) (entries_of top) place at found.above found.leads
 
   are : AreWeighed part met.range weighed
   are = are-weighed part met.range kept met.block place n lacks.holds lacks.places lacks.key inside

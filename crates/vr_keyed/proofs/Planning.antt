@@ -15,7 +15,6 @@ use Rattle.std.proofs.lemmas.List.Elements.{All-head, All-tail, All-cons, All-ni
 use Rattle.std.proofs.lemmas.Option.{get_or_from_slice_get}
 use Rattle.vr_types.specs.Content.{Placed, place_cmp}
 use Rattle.vr_types.specs.Image.{Block, Image, block_at}
-use Rattle.vr_types.specs.Seen.{Seen, Only}
 use Rattle.vr_types.specs.declared.unit.StageKind.TheVariants.{CiCopy}
 use Rattle.vr_types.proofs.CallerLemmas.{same_place}
 use Rattle.vr_ci.specs.Interval as ci
@@ -24,13 +23,13 @@ use Rattle.vr_space.specs.Whence.{places_kept}
 use Rattle.vr_space.specs.Room.{Lengths, Range, AscendLengths, is_in, is_above, with_length}
 use Rattle.vr_space.specs.Room.{with_lengths, lengths_in, length_at, length_by, lengthen_by}
 use Rattle.vr_space.specs.Room.{HaveRoom}
-use Rattle.vr_space.specs.Keyed.{Keyed, IsHead, IsKept, HoldsRange, EachMayLeave, placed}
-use Rattle.vr_space.specs.Keyed.{length_of, lengths_of, items_of, entries_of, entry_block}
-use Rattle.vr_space.specs.Keyed.{entry_for}
-use Rattle.vr_space.specs.Keyed.{range_of}
+use Rattle.vr_space.specs.Keyed.{Keyed, IsHead, IsKept, HoldsRange, placed}
+use Rattle.vr_space.specs.Keyed.{length_of, lengths_of, items_of, entries_of, entry_for, entry_in}
+use Rattle.vr_space.specs.Keyed.{low_of, range_of}
 use Rattle.vr_space.specs.Split.{free_interval}
 use Rattle.vr_space.specs.UnderWay.{IsBegun}
-use Rattle.vr_space.proofs.CallerLemmas.{AscendFrom, head-ascends, in-above, in-most, not_past}
+use Rattle.vr_space.proofs.CallerLemmas.{AscendFrom, found-above, head-ascends, in-above, in-most}
+use Rattle.vr_space.proofs.CallerLemmas.{leads-above, not_past}
 use Rattle.vr_split.specs.Weights.{IsPosition}
 use Rattle.vr_split.proofs.CallerLemmas.{ascend-with}
 use Rattle.vr_keyed.specs.Lent.{lengths_among, ArePlaces}
@@ -321,6 +320,29 @@ tested Less is = refl
 tested Equal is = absurd (true≢false (sym is))
 tested Greater is = absurd (true≢false (sym is))
 
+-- a place of a range that is found is above the low place of all
+above-low : (low : Option (List ℕ)) (entries : List Entry) (place cut : List ℕ)
+    (at : Range × Entry) → AscendFrom low entries → entry_for low entries place ≡ Some at
+    → is_in at.0 cut ≡ true → is_above low cut ≡ true
+above-low low [] place cut at ascend is inside = absurd cc
+above-low low (entry ∷ entries) place cut at ascend is inside =
+    by (is_le (place_cmp place entry.high)) is
+    (λ more. above-low (Some entry.high) entries place cut at ascend.1 more inside)
+  where
+    by : (b : Bool)
+        → cond b (Some (range_of low entry, entry)) (entry_for (Some entry.high) entries place)
+        ≡ Some at
+        → (entry_for (Some entry.high) entries place ≡ Some at
+        → is_above (Some entry.high) cut ≡ true)
+        → is_above low cut ≡ true
+    by true same more =
+        let here : (range_of low entry, entry) ≡ at =
+        ap (λ (o : Option (Range × Entry)). unwrap_or o (range_of low entry, entry)) same in
+        in-above (range_of low entry) cut
+        (ap (λ (f : Range × Entry). is_in f.0 cut) here ∙ inside)
+    by false same more =
+        above_then low entry.high ascend.0 cut (tested (place_cmp entry.high cut) (more same))
+
 -- where a place of a range is found, so is each of the range
 same-entry : (low : Option (List ℕ)) (entries : List Entry) (place cut : List ℕ)
     (at : Range × Entry) → AscendFrom low entries → entry_for low entries place ≡ Some at
@@ -330,29 +352,6 @@ same-entry low (entry ∷ entries) place cut at ascend is inside =
     by (is_le (place_cmp place entry.high)) is
     (λ more. same-entry (Some entry.high) entries place cut at ascend.1 more inside)
   where
-    past : (entries : List Entry) (high : List ℕ) → AscendFrom (Some high) entries
-        → entry_for (Some high) entries place ≡ Some at → is_above (Some high) cut ≡ true
-    past [] high ascend is = absurd cc
-    past (entry ∷ entries) high ascend is =
-        of_test (is_le (place_cmp place entry.high)) is
-        (λ more. past entries entry.high ascend.1 more)
-      where
-        of_test : (b : Bool)
-            → cond b (Some (range_of (Some high) entry, entry))
-            (entry_for (Some entry.high) entries place) ≡ Some at
-            → (entry_for (Some entry.high) entries place ≡ Some at
-            → is_above (Some entry.high) cut ≡ true)
-            → is_above (Some high) cut ≡ true
-        of_test true same more =
-            let here : (range_of (Some high) entry, entry) ≡ at =
-            ap (λ (o : Option (Range × Entry)). unwrap_or o (range_of (Some high) entry, entry))
-            same in
-            in-above (range_of (Some high) entry) cut
-            (ap (λ (f : Range × Entry). is_in f.0 cut) here ∙ inside)
-        of_test false same more =
-            above_then (Some high) entry.high ascend.0 cut
-            (tested (place_cmp entry.high cut) (more same))
-
     isnt : (b : Bool) → is_le (place_cmp cut entry.high) ≡ b → is_above (Some entry.high) cut ≡ true
         → b ≡ false
     isnt true most above =
@@ -376,12 +375,13 @@ same-entry low (entry ∷ entries) place cut at ascend is inside =
     by false same more =
         ap (λ (b : Bool). cond b (Some (range_of low entry, entry))
         (entry_for (Some entry.high) entries cut))
-        (isnt (is_le (place_cmp cut entry.high)) refl (past entries entry.high ascend.1 same))
+        (isnt (is_le (place_cmp cut entry.high)) refl
+        (above-low (Some entry.high) entries place cut at ascend.1 same inside))
         ∙ more same
 
 pub begun-at : (part : Keyed) (image : Image) (place cut : List ℕ) (at : Range × Entry)
     (into : ℕ) → IsHead part (block_at image part.head)
-    → entry_for None (entries_of (block_at image part.head)) place ≡ Some at
+    → entry_in (block_at image part.head) place ≡ Some at
     → free_interval part (block_at image part.head) ≡ Some into → IsCutIn part at.0 cut
     → IsBegun part (record {
       old = slice_index at.1.intervals 0;
@@ -389,34 +389,18 @@ pub begun-at : (part : Keyed) (image : Image) (place cut : List ℕ) (at : Range
       cut = cut;
       stage = CiCopy;
     }) image
-begun-at part image place cut at into head is free inside = record {
-  at = at;
-  length = inside.place.key;
-  found = same-entry None (entries_of (block_at image part.head)) place cut at
-      (head-ascends part (block_at image part.head) head) is inside.place.inside;
-  old = refl;
-  below = inside.below;
-  free = free;
-}
-
--- whatever a crash leaves of the interval that is found has Q
-pub each-found : (part : Keyed) (now : Seen) (low : Option (List ℕ)) (entries : List Entry)
-    (Q : Range → Block → Type 0) (place : List ℕ) (at : Range × Entry)
-    → EachMayLeave part now low entries Q → entry_for low entries place ≡ Some at
-    → Only now (entry_block part at.1) (Q at.0)
-each-found part now low [] Q place at each is = absurd cc
-each-found part now low (entry ∷ entries) Q place at each is =
-    by (is_le (place_cmp place entry.high)) is
-    (λ more. each-found part now (Some entry.high) entries Q place at each.1 more)
-  where
-    by : (b : Bool)
-        → cond b (Some (range_of low entry, entry)) (entry_for (Some entry.high) entries place)
-        ≡ Some at
-        → (entry_for (Some entry.high) entries place ≡ Some at
-        → Only now (entry_block part at.1) (Q at.0))
-        → Only now (entry_block part at.1) (Q at.0)
-    by true same more =
-        subst (λ (f : Range × Entry). Only now (entry_block part f.1) (Q f.0))
-        (ap (λ (o : Option (Range × Entry)). unwrap_or o (range_of low entry, entry)) same)
-        each.0
-    by false same more = more same
+begun-at part image place cut at into head is free inside =
+    let top : Block = block_at image part.head in
+    let found = found-above (low_of top) (entries_of top) place at is in
+    let ascend : AscendFrom (low_of top) (entries_of top) = head-ascends part top head in
+    let within : is_in at.0 cut ≡ true = inside.place.inside in
+    record {
+      at = at;
+      length = inside.place.key;
+      found = leads-above (low_of top) (entries_of top) cut
+          (above-low (low_of top) (entries_of top) place cut at ascend found.leads within)
+          ∙ same-entry (low_of top) (entries_of top) place cut at ascend found.leads within;
+      old = refl;
+      below = inside.below;
+      free = free;
+    }

@@ -4,40 +4,39 @@ use Rattle.std.proofs.Common.{take, All, refl, sym, ap, subst, ◌∙◌, arith}
 use Rattle.std.proofs.lemmas.List.Elements.{All-head, All-tail, All-cons, All-nil}
 use Rattle.std.specs.Option.{option_map}
 use Rattle.vr_types.specs.Content.Item.{Standing}
-use Rattle.vr_types.specs.Image.{Image}
+use Rattle.vr_types.specs.Image.{Image, block_at}
 use Rattle.vr_types.specs.Seen.{Seen, Left}
 use Rattle.vr_types.specs.Blocks.{Keeps}
 use Rattle.vr_types.proofs.CallerLemmas.{touches-then}
 use Rattle.vr_space.specs.Room.{Lengths}
-use Rattle.vr_space.specs.Keyed.{Keyed, KeepsRoom}
+use Rattle.vr_space.specs.Keyed.{IsHead, KeepsRoom, Keyed}
 use Rattle.vr_space.specs.Known.{Known}
 use Rattle.vr_space.specs.Met.{Met}
-use Rattle.vr_space.specs.Part.{KeyedShape, InPart, IsSound, HasRoom, CanSet, SetsOne, Just}
-use Rattle.vr_space.specs.Part.{Nothing}
-use Rattle.vr_space.proofs.CallerLemmas.{rest-keeps, room-keeps, way-keeps, keeps-adds, keeps-rooms}
-use Rattle.vr_space.proofs.CallerLemmas.{adds-weaken, nothing-then, due-keeps, due-at-then}
-use Rattle.vr_split.proofs.CallerLemmas.{all_of, all-owned}
+use Rattle.vr_space.specs.Part.{KeyedShape, InPart, HasRoom, CanSet, SetsOne, Just, Nothing}
+use Rattle.vr_space.proofs.CallerLemmas.{adds-weaken, area-due-keeps, due-at-then, ends-then}
+use Rattle.vr_space.proofs.CallerLemmas.{nothing-then}
 use Rattle.vr_keyed.specs.Slots.{HasMetPlace, met_places}
 use Rattle.vr_keyed.specs.Ready.{IsReady, MaySet, IsSetNow}
+use Rattle.vr_keyed.proofs.Keeping.{way-still}
+use Rattle.vr_keyed.proofs.Reading.{still-adds, still-ends, still-rest, still-room, still-rooms}
+use Rattle.vr_keyed.proofs.Reading.{still-whole}
 
 module _ (part : Keyed) (kept : Lengths) (known : Known) (place : List ℕ)
     (item : Option (List ℕ)) (tells : Bool) (told : IsTrue tells) (a m : Seen)
     (call : Keeps tells a m) (left : Left a a.cur) (ready : IsReady part kept known place item a)
   where
-    -- whichever blocks are the part's
-    any-sound : IsSound (KeyedShape part) (all_of part) a
-    any-sound = (ready.rests.sound, all-owned part)
+    now-head : IsHead part (block_at a.cur part.head)
+    now-head = ready.rests.sound.heads (block_at a.cur part.head)
+        (left.each part.head (omega (arith, ready.rests.sound.area)))
 
-    room-still : KeepsRoom part kept m
-    room-still =
-        room-keeps tells told (KeyedShape part) (all_of part) kept a m call any-sound ready.room
+    room-now : KeepsRoom part kept m
+    room-now = still-room part tells told a m call ready.rests.sound kept ready.room
 
     pub ready-keeps : IsReady part kept known place item m
     ready-keeps = record {
-      rests = (rest-keeps tells told (KeyedShape part) (all_of part) a m call
-          (ready.rests, all-owned part)).0;
-      room = room-still;
-      way = way-keeps tells told (KeyedShape part) (all_of part) known a m call any-sound left
+      rests = still-rest part tells told a m call ready.rests;
+      room = room-now;
+      way = way-still part tells told a m call ready.rests.sound.area now-head known.split
           ready.way;
       can = subst (λ (image : Image). CanSet (KeyedShape part) known image kept place item)
           (sym (call.content told)) ready.can;
@@ -47,26 +46,27 @@ module _ (part : Keyed) (kept : Lengths) (known : Known) (place : List ℕ)
     -- where nothing more is done
     pub may-keeps : MaySet part kept place item a m
     may-keeps = record {
-      adds = λ owners owned. adds-weaken (KeyedShape part) owners Nothing
+      adds = λ whole owners owned. adds-weaken (KeyedShape part) owners Nothing
           (Just place (option_map Standing item)) a m
-          (keeps-adds tells told (KeyedShape part) owners a m call (ready.rests.sound, owned))
+          (still-adds part tells told a m call ready.rests.sound whole owners owned)
           (λ p i none. absurd none);
-      room = room-still;
-      rooms = λ owners owned. keeps-rooms tells told (KeyedShape part) owners kept a m call
-          (ready.rests.sound, owned) ready.room;
+      ends = still-ends part tells told a m call ready.rests.sound;
+      room = room-now;
+      rooms = still-rooms part tells told a m call ready.rests.sound kept ready.room;
     }
 
     pub may-then : (b : Seen) → MaySet part kept place item m b → MaySet part kept place item a b
     may-then b may = record {
-      adds = λ owners owned. nothing-then (KeyedShape part) owners
+      adds = λ whole owners owned. nothing-then (KeyedShape part) owners
           (Just place (option_map Standing item)) a m b
-          (keeps-adds tells told (KeyedShape part) owners a m call (ready.rests.sound, owned))
-          (may.adds owners owned);
+          (still-adds part tells told a m call ready.rests.sound whole owners owned)
+          (may.adds (still-whole part tells told a m call ready.rests.sound whole) owners owned);
+      ends = ends-then part a m b (still-ends part tells told a m call ready.rests.sound)
+          may.ends;
       room = may.room;
       rooms = λ owners owned. touches-then (InPart (KeyedShape part) owners)
           (HasRoom (KeyedShape part) kept) a m b
-          (keeps-rooms tells told (KeyedShape part) owners kept a m call
-          (ready.rests.sound, owned) ready.room)
+          (still-rooms part tells told a m call ready.rests.sound kept ready.room owners owned)
           (may.rooms owners owned);
     }
 
@@ -76,7 +76,7 @@ module _ (part : Keyed) (kept : Lengths) (known : Known) (place : List ℕ)
       set = subst (λ (image : Image). SetsOne (KeyedShape part) place item image b.cur)
           (call.content told) done.set;
       due = due-at-then (KeyedShape part) place put a m b
-          (due-keeps tells told (KeyedShape part) (all_of part) a m call any-sound) done.due;
+          (area-due-keeps tells told part a m call ready.rests.sound) done.due;
       rests = done.rests;
       way = done.way;
     }

@@ -9,13 +9,13 @@ use Rattle.std.specs.List.{list_any}
 use Rattle.std.specs.Option.{option_map}
 use Rattle.std.specs.Prelude.{cond, IfSome, slice_index, nat_eq, nat_le, is_some, Contains}
 use Rattle.std.specs.List.Sorted.{IsStrictlySortedBy}
-use Rattle.std.specs.Ordering.{is_le, is_eq}
+use Rattle.std.specs.Ordering.{is_eq}
 use Rattle.std.specs.declared.cmp.Ordering.{Ordering}
 use Rattle.std.specs.declared.cmp.Ordering.TheVariants.{Less, Equal, Greater}
 use Rattle.vr_types.specs.Content.{Content, place_cmp, item_at}
 use Rattle.vr_types.specs.Content.Item.{Standing}
 use Rattle.vr_types.specs.Image.{Block, block_at}
-use Rattle.vr_types.specs.Seen.{Seen, Left, Only}
+use Rattle.vr_types.specs.Seen.{Seen, Left}
 use Rattle.vr_types.specs.Blocks.{Puts}
 use Rattle.vr_types.specs.declared.unit.StageKind.{StageKind}
 use Rattle.vr_types.proofs.CallerLemmas.{same_place, cur-elsewhere}
@@ -27,50 +27,26 @@ use Rattle.vr_ci.proofs.CallerLemmas.{interval_says}
 use Rattle.vr_seqset.specs.Entry.{Entry}
 use Rattle.vr_space.specs.Way.{found_on, MayFind, MayOnceForced}
 use Rattle.vr_space.specs.Room.{Lengths, Range, HaveRoom, is_in, weight, with_length}
-use Rattle.vr_space.specs.Keyed.{Keyed, IsHead, IsKept, HoldsRange, EachMayLeave, items_of, key_of}
-use Rattle.vr_space.specs.Keyed.{records_of, lengths_of, entries_of, entry_block, entry_for}
-use Rattle.vr_space.specs.Keyed.{InArea, range_of, way_in}
+use Rattle.vr_space.specs.Keyed.{Keyed, IsHead, IsKept, HoldsRange, items_of, key_of}
+use Rattle.vr_space.specs.Keyed.{records_of, lengths_of, entries_of, entry_block, entry_in}
+use Rattle.vr_space.specs.Keyed.{InArea, IsKeyedSound, low_of, way_in}
 use Rattle.vr_space.specs.Known.{Known}
 use Rattle.vr_space.specs.Split.{SplitNow, stage_at, stage_in}
 use Rattle.vr_space.specs.Met.{Met, IsMet}
 use Rattle.vr_space.specs.Part.{KeyedShape, IsRecordOf, HasRoomFor, IsDueTo, SetsOne, item_of}
 use Rattle.vr_space.proofs.CallerLemmas.{found-in, IsSplitBlock, way-puts, same_is_equal}
+use Rattle.vr_space.proofs.CallerLemmas.{IsFoundAbove, found-above}
 use Rattle.vr_split.specs.Switching.{OfBlock}
-use Rattle.vr_split.proofs.CallerLemmas.{all_of, all-owned}
-use Rattle.vr_split.proofs.CallerLemmas.{now-entries, KeepsOthers, of-found, set-adds, head-still}
+use Rattle.vr_split.proofs.CallerLemmas.{KeepsOthers, ends-after, head-still, interval-sound}
+use Rattle.vr_split.proofs.CallerLemmas.{of-found, set-adds, sound-put}
 use Rattle.vr_split.proofs.CallerLemmas.{led-is, rest-after, room-after, rooms-after}
 use Rattle.vr_split.proofs.CallerLemmas.{sets-one, due-put, head-apart, of-same, found-range}
 use Rattle.vr_keyed.specs.Setting.{items_set}
 use Rattle.vr_keyed.specs.Ready.{IsReady, MaySet, IsSetNow, refreshed}
+use Rattle.vr_keyed.proofs.Looking.{each-in}
 use Rattle.vr_keyed.proofs.Contents.{content_set, records-set, set-here, set-other, set-kept}
 use Rattle.vr_keyed.proofs.Contents.{set-within, set-ascends}
 use Rattle.vr_keyed.proofs.Roomy.{HasPlace, length_in, set-room-of, set-have-room}
-
--- ---- what is so of the interval of the entry that is found
-
-some_is : (one at : Range × Entry) → Some one ≡ Some at → one ≡ at
-some_is one at same =
-    ap (λ (o : Option (Range × Entry)). Rattle.std.specs.Prelude.unwrap_or o one) same
-
-pub each-found : (part : Keyed) (now : Seen) (Q : Range → Block → Type 0)
-    (low : Option (List ℕ)) (entries : List Entry) (place : List ℕ) (at : Range × Entry)
-    → EachMayLeave part now low entries Q → entry_for low entries place ≡ Some at
-    → Only now (entry_block part at.1) (Q at.0)
-each-found part now Q low [] place at each is = absurd cc
-each-found part now Q low (entry ∷ entries) place at each is =
-    by (is_le (place_cmp place entry.high)) is
-    (λ more. each-found part now Q (Some entry.high) entries place at each.1 more)
-  where
-    by : (b : Bool)
-        → cond b (Some (range_of low entry, entry)) (entry_for (Some entry.high) entries place)
-        ≡ Some at
-        → (entry_for (Some entry.high) entries place ≡ Some at
-        → Only now (entry_block part at.1) (Q at.0))
-        → Only now (entry_block part at.1) (Q at.0)
-    by true same more = subst
-        (λ (f : Range × Entry). Only now (entry_block part f.1) (Q f.0))
-        (some_is (range_of low entry, entry) at same) each.0
-    by false same more = more same
 
 -- ---- an interval with a record set
 
@@ -164,8 +140,11 @@ module _ (part : Keyed) (kept : Lengths) (known : Known) (place : List ℕ)
   pub now-head : IsHead part (block_at a.cur part.head)
   now-head = ready.rests.sound.heads top may-top
 
-  leads : entry_for None (entries_of top) place ≡ Some at
-  leads = subst (λ (p : List ℕ). entry_for None (entries_of top) p ≡ Some at) at_place is.leads
+  leads : entry_in top place ≡ Some at
+  leads = subst (λ (p : List ℕ). entry_in top p ≡ Some at) at_place is.leads
+
+  led : IsFoundAbove (low_of top) (entries_of top) place at
+  led = found-above (low_of top) (entries_of top) place at leads
 
   in-area : slice_index is.entry.intervals 0 < part.area
   in-area = found-in part top place at now-head leads
@@ -180,20 +159,20 @@ module _ (part : Keyed) (kept : Lengths) (known : Known) (place : List ℕ)
   within = omega (arith, inside-part.1, ready.rests.sound.area)
 
   pub in-range : is_in met.range place ≡ true
-  in-range = found-range None (entries_of top) place at refl leads
+  in-range = found-range (low_of top) (entries_of top) place at led.above led.leads
 
   may-block : a.may (entry_block part is.entry) met.block
   may-block = subst (λ (n : ℕ). a.may n met.block) (sym is.number)
       (subst (a.may met.number) is.still (left.each met.number within))
 
   pub old-holds : HoldsRange part met.range met.block
-  old-holds = each-found part a (HoldsRange part) None (entries_of top) place at
+  old-holds = each-in part a (HoldsRange part) top place at
       (ready.rests.sound.intervals top may-top) leads met.block may-block
 
   old-room : weight (lengths_of part kept met.range met.block) ≤ part.size - 4
-  old-room = each-found part a
-      (λ range block. HaveRoom part.size (lengths_of part kept range block)) None (entries_of top)
-      place at (ready.room.each top may-top) leads met.block may-block
+  old-room = each-in part a
+      (λ range block. HaveRoom part.size (lengths_of part kept range block)) top place at
+      (ready.room.each top may-top) leads met.block may-block
 
   has-place : HasPlace part met.range place item met.block old-holds in-range kept
   has-place = by item refl ready.can.room
@@ -229,24 +208,25 @@ module _ (part : Keyed) (kept : Lengths) (known : Known) (place : List ℕ)
     new-holds = written-holds part met.range place item met.block bytes written long old-holds
         ready.valid in-range
 
-    of-holds : OfBlock part met.number None (now-entries part a met.number bytes)
+    of-holds : OfBlock part met.number (low_of top) (entries_of top)
         (λ range. HoldsRange part range bytes)
-    of-holds = of-same part met.number None (entries_of top)
-        (λ range. HoldsRange part range bytes) place at (head-apart part top now-head) leads
+    of-holds = of-same part met.number (low_of top) (entries_of top)
+        (λ range. HoldsRange part range bytes) place at (head-apart part top now-head) led.leads
         is.number new-holds
 
-    of-room : OfBlock part met.number None (now-entries part a met.number bytes)
+    of-room : OfBlock part met.number (low_of top) (entries_of top)
         (λ range. HaveRoom part.size (lengths_of part kept range bytes))
-    of-room = of-same part met.number None (entries_of top)
+    of-room = of-same part met.number (low_of top) (entries_of top)
         (λ range. HaveRoom part.size (lengths_of part kept range bytes)) place at
-        (head-apart part top now-head) leads is.number
+        (head-apart part top now-head) led.leads is.number
         (set-have-room part met.range place item met.block old-holds in-range kept bytes ready.valid
         (written-items part met.range place item met.block bytes written) new-holds has-place
         old-room)
 
-    same-range : OfBlock part met.number None (entries_of top) (λ range. range ≡ met.range)
-    same-range = of-same part met.number None (entries_of top) (λ range. range ≡ met.range) place at
-        (head-apart part top now-head) leads is.number refl
+    same-range : OfBlock part met.number (low_of top) (entries_of top) (λ range. range ≡ met.range)
+    same-range = of-same part met.number (low_of top) (entries_of top)
+        (λ range. range ≡ met.range) place at (head-apart part top now-head) led.leads is.number
+        refl
 
     has : item_at (records_of part bytes) place ≡ option_map Standing item
     has = ap (λ (content : Content). item_at content place)
@@ -265,13 +245,16 @@ module _ (part : Keyed) (kept : Lengths) (known : Known) (place : List ℕ)
         equal-is Equal it = refl
         equal-is Greater it = absurd (true≢false (sym it))
 
+        led_q : IsFoundAbove (low_of top) (entries_of top) q found
+        led_q = found-above (low_of top) (entries_of top) q found leads_q
+
         range-is : found.0 ≡ met.range
-        range-is = of-found part met.number None (entries_of top) (λ range. range ≡ met.range) q
-            found same-range leads_q there
+        range-is = of-found part met.number (low_of top) (entries_of top)
+            (λ range. range ≡ met.range) q found same-range led_q.leads there
 
         in-it : is_in met.range q ≡ true
         in-it = subst (λ (range : Range). is_in range q ≡ true) range-is
-            (found-range None (entries_of top) q found refl leads_q)
+            (found-range (low_of top) (entries_of top) q found led_q.above led_q.leads)
 
         block-is : block_at a.cur (entry_block part found.1) ≡ met.block
         block-is = ap (block_at a.cur) there ∙ is.still
@@ -297,6 +280,7 @@ module _ (part : Keyed) (kept : Lengths) (known : Known) (place : List ℕ)
       may-set = record {
         adds = set-adds part tells told a b met.number bytes place (option_map Standing item)
             ready.rests left call other inside-part of-holds keeps;
+        ends = ends-after part tells told a b met.number bytes ready.rests.sound call other;
         room = room-after part tells told a b met.number bytes kept ready.rests call other
             ready.room of-room;
         rooms = rooms-after part tells told a b met.number bytes kept ready.rests call other
@@ -323,12 +307,12 @@ module _ (part : Keyed) (kept : Lengths) (known : Known) (place : List ℕ)
 
       -- what is read by way of an entry that leads to the block
       read-now : (q : List ℕ) (found : Range × Entry)
-          → entry_for None (entries_of top) q ≡ Some found → entry_block part found.1 ≡ met.number
+          → entry_in top q ≡ Some found → entry_block part found.1 ≡ met.number
           → item_of (KeyedShape part) b.cur q
           ≡ item_at (records_of part (block_at b.cur met.number)) q
       read-now q found leads_q there =
           led-is part tells told b b met.number bytes q found
-          (ap (λ (block : Block). entry_for None (entries_of block) q)
+          (ap (λ (block : Block). entry_in block q)
           (head-still part tells told a b met.number bytes call other) ∙ leads_q)
           ∙ ap (λ (n : ℕ). item_at (records_of part (block_at b.cur n)) q) there
 
@@ -340,7 +324,7 @@ module _ (part : Keyed) (kept : Lengths) (known : Known) (place : List ℕ)
       -- what is left of the block has the record of each other place
       left-other : block_at b.cur met.number ≡ bytes → (listed q : List ℕ) (found : Range × Entry)
           → q ≢ place → IsDueTo (KeyedShape part) listed a q
-          → entry_for None (entries_of top) q ≡ Some found
+          → entry_in top q ≡ Some found
           → entry_block part found.1 ≡ met.number → (block : Block)
           → MayOnceForced listed b met.number block
           → item_at (records_of part block) q ≡ item_of (KeyedShape part) b.cur q
@@ -365,6 +349,10 @@ module _ (part : Keyed) (kept : Lengths) (known : Known) (place : List ℕ)
           ∙ sym (read-now q found leads_q there))
           (call.adds told met.number block within once.0)
 
+      new-sound : IsKeyedSound part b
+      new-sound = sound-put part tells met.number bytes a b told call
+          (interval-sound part a met.number bytes ready.rests other of-holds)
+
       pub done-set : block_at b.cur met.number ≡ bytes
           → IsSetNow part known (met.number ∷ []) place item a b
       done-set now = record {
@@ -376,8 +364,7 @@ module _ (part : Keyed) (kept : Lengths) (known : Known) (place : List ℕ)
             (λ within_list. ap (λ (x : Block). item_at (records_of part x) q)
             (once.1 (within_list met.number (Contains-push [] met.number)))
             ∙ sym (read-now q found leads_q there)) either) due;
-        rests = rest-after part tells told a b met.number bytes ready.rests call other
-            (may-set.adds (all_of part) (all-owned part)).sound.0;
+        rests = rest-after part tells told a b met.number bytes ready.rests call other new-sound;
         way = way-puts tells told part known.split met.number bytes a b call ready.rests.sound left
             off-split ready.way;
       }
@@ -390,10 +377,9 @@ module _ (part : Keyed) (kept : Lengths) (known : Known) (place : List ℕ)
           still-head : block_at b.cur part.head ≡ block_at a.cur part.head
           still-head = head-still part tells told a b met.number bytes call other
 
-          leads-still : entry_for None (entries_of (block_at b.cur part.head)) one.place
+          leads-still : entry_in (block_at b.cur part.head) one.place
               ≡ Some (one.range, is_one.entry)
-          leads-still = ap (λ (block : Block). entry_for None (entries_of block) one.place)
-              still-head ∙ is_one.leads
+          leads-still = ap (λ (block : Block). entry_in block one.place) still-head ∙ is_one.leads
 
           by : (t : Bool) → nat_eq one.number met.number ≡ t
               → IsMet part b.cur (refreshed met.number bytes one)

@@ -1,5 +1,5 @@
 -- Rooms of the intervals of a head, one by one and all.
-use Rattle.std.proofs.Common.{◌≡◌, ⊎_elim, ℕ, zero, suc, ◌+◌, ◌<◌, ◌≤◌, List, [], ◌∷◌, Option, Some, None}
+use Rattle.std.proofs.Common.{◌≡◌, ⊎_elim, ℕ, zero, suc, ◌+◌, ◌<◌, ◌≤◌, List, [], ◌∷◌, Option, Some}
 use Rattle.std.proofs.Common.{length, refl, sym, ap, subst, arith}
 use Rattle.std.specs.Prelude.{unwrap_or, IfOk, Result, Ok, Err, IsTrue, ◌↔◌, Bool}
 use Rattle.std.specs.List.{slice_get}
@@ -9,7 +9,7 @@ use Rattle.vr_seqset.specs.Entry.{Entry}
 use Rattle.vr_types.specs.declared.fault.DeviceFault.{DeviceFault}
 use Rattle.vr_space.specs.Room.{Lengths}
 use Rattle.vr_space.specs.Keyed.{HaveRooms, Keyed, KeyedStandsFor, entries_of, entry_block}
-use Rattle.vr_space.specs.Keyed.{range_of}
+use Rattle.vr_space.specs.Keyed.{low_of, range_of}
 use Rattle.vr_space.proofs.CallerLemmas.{holds-nth}
 use Rattle.vr_attach.specs.Damage.{HoldsNth}
 use Rattle.vr_types.specs.Content.{Content}
@@ -59,10 +59,10 @@ got-below (first ∷ entries) (suc i) entry is = omega (arith, got-below entries
 
 -- of each and of all is the same
 pub rooms-each : (part : Keyed) (kept : Lengths) (image : Image) (top : Block)
-    → HaveRooms part kept image None (entries_of top) ↔ HaveRoomsAll part kept top image
+    → HaveRooms part kept image (low_of top) (entries_of top) ↔ HaveRoomsAll part kept top image
 rooms-each part kept image top = (
-  λ rooms i below entry is. each-of part kept image None (entries_of top) rooms i entry is,
-  λ all. all-of part kept image None (entries_of top)
+  λ rooms i below entry is. each-of part kept image (low_of top) (entries_of top) rooms i entry is,
+  λ all. all-of part kept image (low_of top) (entries_of top)
       (λ i entry is. all i (got-below (entries_of top) i entry is) entry is),
 )
 
@@ -70,7 +70,7 @@ rooms-each part kept image top = (
 pub rooms-told : (part : Keyed) (kept : Lengths) (image : Image) (top : Block)
     (result : Result Bool DeviceFault)
     → IfOk result (λ is. IsTrue is ↔ HaveRoomsAll part kept top image)
-    → IfOk result (λ is. IsTrue is ↔ HaveRooms part kept image None (entries_of top))
+    → IfOk result (λ is. IsTrue is ↔ HaveRooms part kept image (low_of top) (entries_of top))
 rooms-told part kept image top (Ok is) told =
     let both = rooms-each part kept image top in
     (λ yes. both.1 (told.0 yes), λ rooms. told.1 (both.0 rooms))
@@ -84,17 +84,18 @@ module _ (part : Keyed) (image now : Image) (top : Block) (same : now ≡ image)
   nth-holds content stands i below =
       subst (λ (b : Image). HoldsNth part top b i) (sym same)
       (subst (λ (t : Block). HoldsNth part t image i) (sym is)
-      (λ entry there. holds-nth part image None (entries_of (block_at image part.head)) i entry
-      stands.intervals there))
+      (λ entry there. holds-nth part image (low_of (block_at image part.head))
+      (entries_of (block_at image part.head)) i entry stands.intervals there))
 
   -- and what is answered is answered of the part
   pub rooms-here : (kept : Lengths) (result : Result Bool DeviceFault)
       → IfOk result (λ is. IsTrue is ↔ HaveRoomsAll part kept top now)
       → IfOk result (λ is. IsTrue is
-      ↔ HaveRooms part kept image None (entries_of (block_at image part.head)))
+      ↔ HaveRooms part kept image (low_of (block_at image part.head))
+      (entries_of (block_at image part.head)))
   rooms-here kept result told =
       subst (λ (t : Block). IfOk result (λ is. IsTrue is
-      ↔ HaveRooms part kept image None (entries_of t))) is
+      ↔ HaveRooms part kept image (low_of t) (entries_of t))) is
       (rooms-told part kept image top result
       (subst (λ (b : Image). IfOk result (λ is. IsTrue is
       ↔ HaveRoomsAll part kept top b)) same told))

@@ -8,7 +8,7 @@ use Rattle.vr_seqset.specs.Search.{reaches}
 use Rattle.vr_space.specs.declared.whence.Whence.{Whence}
 use Rattle.vr_space.specs.Whence.{allows, first_of}
 use Rattle.vr_space.specs.Room.{Range, is_in}
-use Rattle.vr_space.specs.Keyed.{Keyed, entries_of, entry_block, range_of}
+use Rattle.vr_space.specs.Keyed.{Keyed, entries_of, entry_block, low_of, range_of}
 use Rattle.vr_space.specs.Search.{low_before, keys_of}
 use Rattle.vr_keyed.specs.declared.slot.Slot.{Slot}
 use Rattle.vr_keyed.specs.Slots.{met_in}
@@ -30,7 +30,7 @@ FoundIs first false place = first ≡ None
 pub record IsNth (part : Keyed) (top : Block) (n : ℕ) (slot : Slot) : Type 0 where
   pub entry : Entry
   pub is : slice_get (entries_of top) n ≡ Some entry
-  pub range : (met_in slot).range ≡ range_of (low_before None (entries_of top) n) entry
+  pub range : (met_in slot).range ≡ range_of (low_before (low_of top) (entries_of top) n) entry
   pub number : entry_block part entry ≡ slot.number
 
 -- or there is no such entry
@@ -50,7 +50,8 @@ pub record HasNth (part : Keyed) (image : Image) (n : ℕ) (from : Whence)
   pub entry : Entry
   pub is : slice_get (entries_of (block_at image part.head)) n ≡ Some entry
   pub first_is : first_sought
-      (range_of (low_before None (entries_of (block_at image part.head)) n) entry) from
+      (range_of (low_before (low_of (block_at image part.head))
+      (entries_of (block_at image part.head)) n) entry) from
       (keys_of part (block_at image (entry_block part entry))) ≡ first
 
 abbrev pub NextNth : Keyed → Image → ℕ → Whence → Bool → List ℕ → Type 0

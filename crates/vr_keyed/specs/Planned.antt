@@ -1,12 +1,12 @@
 -- Where an interval in which a record lacks room is cut. The cut is that of vr_split.
-use Rattle.std.specs.Prelude.{◌≡◌, ℕ, ◌+◌, ◌<◌, ◌≤◌, IsTrue, Bool, ◌↔◌, List, Some, None, length}
+use Rattle.std.specs.Prelude.{◌≡◌, ℕ, ◌+◌, ◌<◌, ◌≤◌, IsTrue, Bool, ◌↔◌, List, Some, length}
 use Rattle.std.specs.Prelude.{false, slice_get, slice_index}
 use Rattle.vr_types.specs.Image.{Block, Image, block_at}
 use Rattle.vr_types.specs.declared.unit.StageKind.TheVariants.{CiCopy}
 use Rattle.vr_seqset.specs.Entry.{Entry}
 use Rattle.vr_space.specs.Room.{Lengths, Range, HaveRoom, have_room, length_at, with_length}
 use Rattle.vr_space.specs.Whence.{places_kept}
-use Rattle.vr_space.specs.Keyed.{Keyed, IsHead, HoldsRange, entries_of, entry_for, lengths_of}
+use Rattle.vr_space.specs.Keyed.{Keyed, IsHead, HoldsRange, entries_of, entry_in, lengths_of}
 use Rattle.vr_space.specs.Split.{SplitNow, free_interval}
 use Rattle.vr_space.specs.UnderWay.{IsBegun}
 use Rattle.vr_space.specs.Met.{Met, IsMet}
@@ -32,7 +32,7 @@ pub record HasNoCut (lengths : Lengths) (place : List ℕ) : Type 0 where
 -- The interval to be cut, the one that gets the upper records, and whether it is the last.
 pub record IsTargetAt (part : Keyed) (top : Block) (place : List ℕ) (target : Target) : Type 0 where
   pub at : Range × Entry
-  pub leads : entry_for None (entries_of top) place ≡ Some at
+  pub leads : entry_in top place ≡ Some at
   pub old : target.old ≡ slice_index at.1.intervals 0
   pub into : free_interval part top ≡ Some target.into
   pub number : ℕ
@@ -42,7 +42,7 @@ pub record IsTargetAt (part : Keyed) (top : Block) (place : List ℕ) (target : 
 -- no entry leads there, or no interval is free
 abbrev pub HasNoTarget : Keyed → Block → List ℕ → Type 0
 HasNoTarget part top place = (at : Range × Entry) (into : ℕ)
-    → entry_for None (entries_of top) place ≡ Some at → free_interval part top ≡ Some into → ⊥
+    → entry_in top place ≡ Some at → free_interval part top ≡ Some into → ⊥
 
 -- A record of this length lacks room at a place whose interval was met, where what stands and what
 -- is kept has room.

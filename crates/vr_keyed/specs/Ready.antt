@@ -6,7 +6,7 @@ use Rattle.vr_types.specs.Image.{Block}
 use Rattle.vr_types.specs.Regions.{Touches}
 use Rattle.vr_types.specs.Seen.{Seen}
 use Rattle.vr_space.specs.Room.{Lengths}
-use Rattle.vr_space.specs.Keyed.{Keyed, IsKeyedAtRest, IsOwned, KeepsRoom}
+use Rattle.vr_space.specs.Keyed.{AreWhole, Keyed, IsKeyedAtRest, IsOwned, KeepsEnds, KeepsRoom}
 use Rattle.vr_space.specs.Known.{Known}
 use Rattle.vr_space.specs.Met.{Met}
 use Rattle.vr_space.specs.Owners.{Owners}
@@ -22,13 +22,14 @@ pub record IsReady (part : Keyed) (kept : Lengths) (known : Known) (place : List
   pub can : CanSet (KeyedShape part) known now.cur kept place bytes
   pub valid : IfSome bytes (IsRecordOf (KeyedShape part) place)
 
--- Whether it failed or not: at most this is added at the place, and there is room for what is kept,
--- in the image of each moment and from then on: whichever blocks are the part's, beside those of
--- its area.
+-- Whether it failed or not: where the part has one area, at most this is added at the place; the
+-- heads have the ends that they had, and there is room for what is kept, in the image of each
+-- moment and from then on: whichever blocks are the part's, beside those of the area.
 pub record MaySet (part : Keyed) (kept : Lengths) (place : List ℕ) (bytes : Option (List ℕ))
     (old new : Seen) : Type 0 where
-  pub adds : (owners : Owners) → IsOwned part owners
+  pub adds : AreWhole part old → (owners : Owners) → IsOwned part owners
       → AddsTo (KeyedShape part) owners (Just place (option_map Standing bytes)) old new
+  pub ends : KeepsEnds part old new
   pub room : KeepsRoom part kept new
   pub rooms : (owners : Owners) → IsOwned part owners
       → Touches (InPart (KeyedShape part) owners) (HasRoom (KeyedShape part) kept) old new

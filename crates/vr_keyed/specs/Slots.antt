@@ -3,21 +3,21 @@ use Rattle.std.specs.Prelude.{◌≡◌, ◌<◌, ℕ, Bool, true, false, List, 
 use Rattle.std.specs.Prelude.{None, Contains, map, take, vec_len}
 use Rattle.vr_types.specs.Image.{Block}
 use Rattle.vr_seqset.specs.Entry.{Entry}
-use Rattle.vr_space.specs.Keyed.{InArea, Keyed, entries_of, entry_block, entry_for}
+use Rattle.vr_space.specs.Keyed.{InArea, Keyed, entry_block, entry_in}
 use Rattle.vr_space.specs.Met.{Met}
 use Rattle.vr_keyed.specs.declared.slot.Slot.{Slot}
 use Rattle.vr_keyed.specs.declared.slots.Slots.{Slots}
 
 -- the low place of a range, where it has one
-abbrev pub low_of : Bool → List ℕ → Option (List ℕ)
-low_of true low = None
-low_of false low = Some low
+abbrev pub low_kept : Bool → List ℕ → Option (List ℕ)
+low_kept true low = None
+low_kept false low = Some low
 
 -- what a slot keeps
 abbrev pub met_in : Slot → Met
 met_in slot = record {
   place = slot.place.place;
-  range = record { low = low_of slot.from_start slot.low.place; high = slot.high.place };
+  range = record { low = low_kept slot.from_start slot.low.place; high = slot.high.place };
   number = slot.number;
   block = slot.bytes.items;
 }
@@ -33,8 +33,7 @@ pub record IsSlotOf (part : Keyed) (slot : Slot) : Type 0 where
 -- The head leads from the place to the block, by an entry of the range.
 pub record IsLed (part : Keyed) (top : Block) (slot : Slot) : Type 0 where
   pub entry : Entry
-  pub leads : entry_for None (entries_of top) slot.place.place
-      ≡ Some ((met_in slot).range, entry)
+  pub leads : entry_in top slot.place.place ≡ Some ((met_in slot).range, entry)
   pub number : entry_block part entry ≡ slot.number
 
 -- the intervals that were met, the last one first

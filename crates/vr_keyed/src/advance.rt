@@ -17,6 +17,7 @@ ghost use Rattle.vr_space.specs.Part.{KeyedShape, IsOn, part_no};
 ghost use Rattle.vr_split.specs.Switching.{KeepsPart, IsStageDone};
 ghost use Rattle.vr_split.specs.Splits.{stage_now, after_stage, after_fault};
 ghost use Rattle.vr_keyed.specs.Lent.{HasRoomFor};
+ghost use Rattle.vr_keyed.specs.Look.{HasEntry};
 ghost use Rattle.vr_keyed.specs.Slots.{AreSlotsOf, met_in, mets};
 ghost use Rattle.vr_keyed.specs.Planned.{IsPlan, HasKeyAt};
 ghost use Rattle.vr_keyed.specs.Advance.{CanBegin, IsDue, IsLater, IsIntervalStage};
@@ -46,6 +47,7 @@ fn plan_at<B: Blocks, K: Kept>(
     requires met { IsTrue B.tells
         → All (IsMet layout.now (B.seen blocks.old).cur) (mets slots.old) }
     requires weights { HasRoomFor layout.now weights.old }
+    requires entry { IsTrue B.tells → HasEntry layout.now (B.seen blocks.old).cur place.now }
     requires rests { IsTrue B.tells → IsKeyedAtRest layout.now (B.seen blocks.old) }
     requires room { IsTrue B.tells → KeepsRoom layout.now
         (K.kept kept.now (part_no (KeyedShape layout.now))) (B.seen blocks.old) }
@@ -94,6 +96,7 @@ fn begin_split<B: Blocks, K: Kept>(
     requires met { IsTrue B.tells
         → All (IsMet layout.now (B.seen blocks.old).cur) (mets slots.old) }
     requires weights { HasRoomFor layout.now weights.old }
+    requires entry { IsTrue B.tells → HasEntry layout.now (B.seen blocks.old).cur place.now }
     requires rests { IsTrue B.tells → IsKeyedAtRest layout.now (B.seen blocks.old) }
     requires room { IsTrue B.tells → KeepsRoom layout.now
         (K.kept kept.now (part_no (KeyedShape layout.now))) (B.seen blocks.old) }
@@ -179,6 +182,7 @@ pub(crate) fn advance_at<B: Blocks, K: Kept>(
     requires met { IsTrue B.tells
         → All (IsMet layout.now (B.seen blocks.old).cur) (mets slots.old) }
     requires weights { HasRoomFor layout.now weights.old }
+    requires entry { IsTrue B.tells → HasEntry layout.now (B.seen blocks.old).cur place.now }
     requires rests { IsTrue B.tells → IsKeyedAtRest layout.now (B.seen blocks.old) }
     requires room { IsTrue B.tells → KeepsRoom layout.now
         (K.kept kept.now (part_no (KeyedShape layout.now))) (B.seen blocks.old) }

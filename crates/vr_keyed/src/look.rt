@@ -6,18 +6,19 @@ ghost use Rattle.vr_types.specs.Image.{block_at};
 ghost use Rattle.vr_types.specs.Blocks.{Keeps};
 ghost use Rattle.vr_types.specs.Faults.{HasCause};
 ghost use Rattle.vr_space.specs.Keyed.{InArea, IsHead};
-ghost use Rattle.vr_space.specs.Part.{KeyedShape, IsOn, Stands, record_read};
-ghost use Rattle.vr_keyed.specs.Look.{LeadsTo};
+ghost use Rattle.vr_space.specs.Part.{KeyedShape, IsOn, record_read};
+ghost use Rattle.vr_keyed.specs.Look.{AreaStands, HasEntry, LeadsTo};
 
 use vr_space::{Layout, entry_for, record_at};
 use vr_types::{Blocks, DeviceFault};
 
-/// The block of the interval that the head leads to from a place.
+/// The block of the interval that the head leads to from a place of the area.
 fn block_for<B: Blocks>(blocks: &mut B, layout: &Layout, place: &[u8]) -> Result<u32, DeviceFault>
     requires on { IsOn (KeyedShape layout.now) (B.seen blocks.old) }
     requires place { length place.now ≡ layout.now.key }
     requires head { IsTrue B.tells
         → IsHead layout.now (block_at (B.seen blocks.old).cur layout.now.head) }
+    requires entry { IsTrue B.tells → HasEntry layout.now (B.seen blocks.old).cur place.now }
     ensures leads { IsTrue B.tells → IfOk result
         (LeadsTo layout.now (block_at (B.seen blocks.old).cur layout.now.head) place.now) }
     ensures inside { IfOk result (InArea layout.now) }
@@ -31,8 +32,8 @@ fn block_for<B: Blocks>(blocks: &mut B, layout: &Layout, place: &[u8]) -> Result
     }
 }
 
-/// Lends the record at a place, by reading the head and one interval. The blocks come first, since
-/// they lend it.
+/// Lends the record at a place of the area, by reading the head and one interval. The blocks come
+/// first, since they lend it.
 pub(crate) fn look_in<'a, B: Blocks>(
     blocks: &'a mut B,
     layout: &Layout,
@@ -40,7 +41,8 @@ pub(crate) fn look_in<'a, B: Blocks>(
 ) -> Result<Option<&'a [u8]>, DeviceFault>
     requires on { IsOn (KeyedShape layout.now) (B.seen blocks.old) }
     requires place { length place.now ≡ layout.now.key }
-    requires stands { IsTrue B.tells → Stands (KeyedShape layout.now) (B.seen blocks.old).cur }
+    requires stands { IsTrue B.tells → AreaStands layout.now (B.seen blocks.old).cur }
+    requires entry { IsTrue B.tells → HasEntry layout.now (B.seen blocks.old).cur place.now }
     ensures item { IsTrue B.tells → IfOk result (λ found. MatchOption found
         (record_read (KeyedShape layout.now) (B.seen blocks.old).cur place.now ≡ None)
         (λ s. record_read (KeyedShape layout.now) (B.seen blocks.old).cur place.now

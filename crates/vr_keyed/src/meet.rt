@@ -1,4 +1,4 @@
-//! Meeting the interval of a place: its range and what its block has.
+//! Meeting the interval of a place of an area: its range and what its block has.
 ghost use Rattle.std.specs.Prelude.{◌≡◌, ◌≢◌, ◌<◌, ℕ, IsTrue, true, false, All, length, IsOk, OnOk};
 ghost use Rattle.vr_types.specs.Image.{Image, block_at};
 ghost use Rattle.vr_types.specs.Blocks.{Keeps};
@@ -6,6 +6,7 @@ ghost use Rattle.vr_types.specs.Faults.{HasCause};
 ghost use Rattle.vr_space.specs.Keyed.{Keyed, IsHead};
 ghost use Rattle.vr_space.specs.Met.{IsMet, met_next};
 ghost use Rattle.vr_space.specs.Part.{KeyedShape, IsOn};
+ghost use Rattle.vr_keyed.specs.Look.{HasEntry};
 ghost use Rattle.vr_keyed.specs.Slots.{IsSlotOf, AreSlotsOf, IsFirst, IsLed, met_in, mets};
 ghost use Rattle.vr_keyed.specs.Slots.{HasMetPlace, met_places};
 
@@ -27,6 +28,7 @@ fn find<B: Blocks>(
     requires slot { IsSlotOf layout.now slot.old }
     requires head { IsTrue B.tells
         → IsHead layout.now (block_at (B.seen blocks.old).cur layout.now.head) }
+    requires entry { IsTrue B.tells → HasEntry layout.now (B.seen blocks.old).cur place.now }
     ensures slot { IsSlotOf layout.now slot.new }
     ensures place { OnOk result (slot.new.place.place ≡ place.now) }
     ensures led { IsTrue B.tells → OnOk result
@@ -54,6 +56,7 @@ fn fill<B: Blocks>(
     requires slot { IsSlotOf layout.now slot.old }
     requires head { IsTrue B.tells
         → IsHead layout.now (block_at (B.seen blocks.old).cur layout.now.head) }
+    requires entry { IsTrue B.tells → HasEntry layout.now (B.seen blocks.old).cur place.now }
     ensures slot { IsSlotOf layout.now slot.new }
     ensures place { OnOk result (slot.new.place.place ≡ place.now) }
     ensures met { IsTrue B.tells → OnOk result
@@ -98,6 +101,7 @@ fn read_in<B: Blocks>(
     requires room { AreSlotsOf layout.now slots.old }
     requires head { IsTrue B.tells
         → IsHead layout.now (block_at (B.seen blocks.old).cur layout.now.head) }
+    requires entry { IsTrue B.tells → HasEntry layout.now (B.seen blocks.old).cur place.now }
     requires met { IsTrue B.tells
         → All (IsMet layout.now (B.seen blocks.old).cur) (mets slots.old) }
     requires none { HasMetPlace (mets slots.old) place.now → ⊥ }
@@ -130,6 +134,7 @@ pub(crate) fn meet<B: Blocks>(
     requires room { AreSlotsOf layout.now slots.old }
     requires head { IsTrue B.tells
         → IsHead layout.now (block_at (B.seen blocks.old).cur layout.now.head) }
+    requires entry { IsTrue B.tells → HasEntry layout.now (B.seen blocks.old).cur place.now }
     requires met { IsTrue B.tells
         → All (IsMet layout.now (B.seen blocks.old).cur) (mets slots.old) }
     ensures room { AreSlotsOf layout.now slots.new }

@@ -15,8 +15,9 @@ ghost use Rattle.vr_ci.specs.Interval as ci;
 ghost use Rattle.vr_space.specs.Whence.{allows};
 ghost use Rattle.vr_space.specs.Keyed.{HoldsRange, IsHead, IsKept, entries_of, key_of};
 ghost use Rattle.vr_space.specs.Search.{keys_of};
-ghost use Rattle.vr_space.specs.Part.{KeyedShape, IsOn, Stands, NextIs};
-ghost use Rattle.vr_keyed.specs.Slots.{IsSlotOf, low_of, met_in};
+ghost use Rattle.vr_space.specs.Part.{KeyedShape, IsOn, NextIs};
+ghost use Rattle.vr_keyed.specs.Look.{AreaStands};
+ghost use Rattle.vr_keyed.specs.Slots.{IsSlotOf, low_kept, met_in};
 ghost use Rattle.vr_keyed.specs.Next.{is_sought, first_sought, FoundIs, NthIs};
 ghost use Rattle.vr_keyed.specs.Next.{IsStart, NextNth};
 
@@ -185,7 +186,7 @@ fn next_nth<B: Blocks>(
     requires on { IsOn (KeyedShape layout.now) (B.seen blocks.old) }
     requires slot { IsSlotOf layout.now slot.old }
     requires room { layout.now.key ≤ into.old.room }
-    requires stands { IsTrue B.tells → Stands (KeyedShape layout.now) (B.seen blocks.old).cur }
+    requires stands { IsTrue B.tells → AreaStands layout.now (B.seen blocks.old).cur }
     ensures slot { IsSlotOf layout.now slot.new }
     ensures nth { IsTrue B.tells → IfOk result (λ found. NextNth layout.now
         (B.seen blocks.old).cur number from.entry found into.new.place) }
@@ -212,7 +213,7 @@ pub(crate) fn next_in<B: Blocks>(
     requires on { IsOn (KeyedShape layout.now) (B.seen blocks.old) }
     requires slot { IsSlotOf layout.now slot.old }
     requires room { layout.now.key ≤ into.old.room }
-    requires stands { IsTrue B.tells → Stands (KeyedShape layout.now) (B.seen blocks.old).cur }
+    requires stands { IsTrue B.tells → AreaStands layout.now (B.seen blocks.old).cur }
     ensures slot { IsSlotOf layout.now slot.new }
     ensures next { IsTrue B.tells → IfOk result (λ found.
         NextIs (KeyedShape layout.now) (B.seen blocks.old).cur from.entry found into.new.place) }

@@ -24,7 +24,7 @@ use vr_split::{Weights, plan_cut};
 use vr_types::{Blocks, DeviceFault, Place};
 
 /// The interval that is to be cut, the free one that gets the upper records, and whether the first
-/// is the last of the part.
+/// is the last of its area.
 #[derive(Clone, Copy)]
 pub struct Target {
     pub old: u16,

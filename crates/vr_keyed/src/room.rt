@@ -11,7 +11,8 @@ ghost use Rattle.vr_space.specs.Split.{SplitNow, free_from, free_interval, keyed
 ghost use Rattle.vr_space.specs.Split.{room_by_split};
 ghost use Rattle.vr_space.specs.Split.{stage_at};
 ghost use Rattle.vr_space.specs.Met.{IsMet, met_next};
-ghost use Rattle.vr_space.specs.Part.{KeyedShape, IsOn, Stands, part_no};
+ghost use Rattle.vr_space.specs.Part.{KeyedShape, IsOn, part_no};
+ghost use Rattle.vr_keyed.specs.Look.{AreaStands, HasEntry};
 ghost use Rattle.vr_keyed.specs.Slots.{AreSlotsOf, met_in, met_places, mets};
 ghost use Rattle.vr_space.specs.Lent.{range_lent};
 ghost use Rattle.vr_keyed.specs.Lent.{ArePlaces, HasRoomFor};
@@ -176,7 +177,7 @@ pub(crate) fn room_met<B: Blocks, K: Kept>(
     weights: &mut Weights,
 ) -> Result<Room, DeviceFault>
     requires on { IsOn (KeyedShape layout.now) (B.seen blocks.old) }
-    requires stands { IsTrue B.tells → Stands (KeyedShape layout.now) (B.seen blocks.old).cur }
+    requires stands { IsTrue B.tells → AreaStands layout.now (B.seen blocks.old).cur }
     requires met { IsTrue B.tells
         → IsMet layout.now (B.seen blocks.old).cur (met_in slot.now) }
     requires slot { slot.now.place.place ≡ place.now }
@@ -223,7 +224,8 @@ pub(crate) fn room_at<B: Blocks, K: Kept>(
 ) -> Result<Room, DeviceFault>
     requires on { IsOn (KeyedShape layout.now) (B.seen blocks.old) }
     requires place { length place.now ≡ layout.now.key }
-    requires stands { IsTrue B.tells → Stands (KeyedShape layout.now) (B.seen blocks.old).cur }
+    requires stands { IsTrue B.tells → AreaStands layout.now (B.seen blocks.old).cur }
+    requires entry { IsTrue B.tells → HasEntry layout.now (B.seen blocks.old).cur place.now }
     requires slots { AreSlotsOf layout.now slots.old }
     requires met { IsTrue B.tells
         → All (IsMet layout.now (B.seen blocks.old).cur) (mets slots.old) }

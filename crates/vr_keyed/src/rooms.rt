@@ -1,4 +1,4 @@
-//! Whether the intervals of a part have room for what is kept.
+//! Whether the intervals of an area have room for what is kept.
 ghost use Rattle.std.specs.Prelude.{◌≡◌, ◌<◌, ◌↔◌, ℕ, IsTrue, IfOk, Some, length};
 ghost use Rattle.std.specs.List.{slice_get};
 ghost use Rattle.vr_types.specs.Image.{block_at};
@@ -6,9 +6,10 @@ ghost use Rattle.vr_types.specs.Blocks.{Keeps};
 ghost use Rattle.vr_types.specs.Faults.{HasCause};
 ghost use Rattle.vr_space.specs.Keyed.{HoldsRange, InArea, IsHead, entries_of};
 ghost use Rattle.vr_space.specs.Lent.{range_lent};
-ghost use Rattle.vr_space.specs.Part.{HasRoom, IsOn, KeyedShape, Stands, part_no};
+ghost use Rattle.vr_space.specs.Part.{HasRoom, IsOn, KeyedShape, part_no};
 ghost use Rattle.vr_attach.specs.Damage.{HoldsNth};
 ghost use Rattle.vr_keyed.specs.Lent.{ArePlaces, HasRoomFor};
+ghost use Rattle.vr_keyed.specs.Look.{AreaStands};
 ghost use Rattle.vr_keyed.specs.Rooms.{HasRoomIn, HasRoomNth, HaveRoomsAll};
 
 use crate::gather::has_kept_room;
@@ -112,7 +113,7 @@ fn have_rooms<B: Blocks, K: Kept>(
     Ok(true)
 }
 
-/// Whether each interval of a part has room for what is kept for its range, beside its records. It
+/// Whether each interval of an area has room for what is kept for its range, beside its records. It
 /// reads the head into a buffer, and each interval of an entry once.
 pub(crate) fn rooms_in<B: Blocks, K: Kept>(
     blocks: &mut B,
@@ -125,7 +126,7 @@ pub(crate) fn rooms_in<B: Blocks, K: Kept>(
     requires top { length top.old ≡ layout.now.size }
     requires kept { ArePlaces layout.now.key (K.kept kept.now (part_no (KeyedShape layout.now))) }
     requires weights { HasRoomFor layout.now weights.old }
-    requires stands { IsTrue B.tells → Stands (KeyedShape layout.now) (B.seen blocks.old).cur }
+    requires stands { IsTrue B.tells → AreaStands layout.now (B.seen blocks.old).cur }
     ensures rooms { IsTrue B.tells → IfOk result (λ is. IsTrue is
         ↔ HasRoom (KeyedShape layout.now) (K.kept kept.now (part_no (KeyedShape layout.now)))
         (B.seen blocks.old).cur) }

@@ -10,6 +10,7 @@ ghost use Rattle.vr_space.specs.Keyed.{InArea, Keyed, IsHead};
 ghost use Rattle.vr_space.specs.Known.{Known};
 ghost use Rattle.vr_space.specs.Met.{IsMet};
 ghost use Rattle.vr_space.specs.Part.{KeyedShape, IsOn, given};
+ghost use Rattle.vr_keyed.specs.Look.{HasEntry};
 ghost use Rattle.vr_keyed.specs.Slots.{IsSlotOf, AreSlotsOf, IsFirst, met_in, mets};
 ghost use Rattle.vr_keyed.specs.Slots.{HasMetPlace, met_places};
 ghost use Rattle.vr_keyed.specs.Ready.{IsReady, MaySet, IsSetNow, put_of, refreshed};
@@ -146,6 +147,7 @@ pub(crate) fn set<B: Blocks>(
     requires out { length out.old ≡ layout.now.size }
     requires head { IsTrue B.tells
         → IsHead layout.now (block_at (B.seen blocks.old).cur layout.now.head) }
+    requires entry { IsTrue B.tells → HasEntry layout.now (B.seen blocks.old).cur place.now }
     requires met { IsTrue B.tells
         → All (IsMet layout.now (B.seen blocks.old).cur) (mets slots.old) }
     ensures room { AreSlotsOf layout.now slots.new }

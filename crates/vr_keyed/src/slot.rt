@@ -4,7 +4,7 @@ ghost use Rattle.std.specs.Borrow.{Bor};
 ghost use Rattle.std.specs.Option.{option_map};
 ghost use Rattle.vr_space.specs.Search.{HasPlaces, range_found};
 ghost use Rattle.vr_space.specs.UnderWay.{interval_block};
-ghost use Rattle.vr_keyed.specs.Slots.{IsSlotOf, low_of, met_in};
+ghost use Rattle.vr_keyed.specs.Slots.{IsSlotOf, low_kept, met_in};
 
 use std::alloc::Global;
 use vr_space::{FoundEntry, Layout};
@@ -41,7 +41,7 @@ impl Slot {
     /// Where the range begins, if it has a low place.
     pub(crate) fn low_place(&self) -> Option<&[u8]>
         ensures { option_map (λ (low : Bor (List ℕ)). low.now) result
-            ≡ low_of self.now.from_start self.now.low.place }
+            ≡ low_kept self.now.from_start self.now.low.place }
     {
         if self.from_start {
             None

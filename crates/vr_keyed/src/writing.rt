@@ -12,7 +12,7 @@ ghost use Rattle.vr_ci.specs.Writer.{Holds, form_of, size_of, buffer_of};
 ghost use Rattle.vr_space.specs.Keyed.{HoldsRange, IsKept, items_of};
 ghost use Rattle.vr_space.specs.Part.{given};
 ghost use Rattle.vr_keyed.specs.Setting.{items_given, items_set};
-ghost use Rattle.vr_keyed.specs.Slots.{low_of, met_in};
+ghost use Rattle.vr_keyed.specs.Slots.{low_kept, met_in};
 
 use crate::slot::Slot;
 use crate::stretch::{Stretch, add_stretch};

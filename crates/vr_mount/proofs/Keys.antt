@@ -11,7 +11,7 @@ use Rattle.vr_ci.specs.Interval as ci
 use Rattle.vr_seqset.specs.Entry.{Entry}
 use Rattle.vr_space.specs.Room.{Range, is_in}
 use Rattle.vr_space.specs.Keyed.{Keyed, HoldRanges, IsKept, entry_block, entries_of, items_of}
-use Rattle.vr_space.specs.Keyed.{placed, records_of, records_in, range_of, content_from}
+use Rattle.vr_space.specs.Keyed.{low_of, placed, records_of, records_in, range_of, content_from}
 use Rattle.vr_space.specs.Part.{Shape, KeyedShape, NumberedShape, Stands, record_read}
 use Rattle.vr_space.specs.Part.{place_length}
 use Rattle.vr_space.specs.Rosters.{Numbered}
@@ -92,8 +92,9 @@ pub none_elsewhere : (shape : Shape) (image : Image) → Stands shape image → 
 none_elsewhere (KeyedShape part) image stands place other =
     let content = stands.0 in
     let keys : AreKeys part.key content =
-    subst (AreKeys part.key) (sym stands.1.records)
-    (keys-content part image None (entries_of (block_at image part.head)) stands.1.intervals) in
+    subst (AreKeys part.key) (sym stands.1.0.records)
+    (keys-content part image (low_of (block_at image part.head))
+    (entries_of (block_at image part.head)) stands.1.0.intervals) in
     ap (option_and_then record_of)
     (sym (content_item (KeyedShape part) image content stands.1 place)
     ∙ none-record place content (none_of part.key content place keys other))

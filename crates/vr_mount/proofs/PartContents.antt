@@ -1,6 +1,6 @@
 -- What the blocks of a part stand for: no other block changes it, and there is room for it.
 use Rattle.std.proofs.Common.{◌≡◌, ◌<◌, ℕ, List, [], ◌∷◌, ◌++◌, refl, sym, ap, subst, ◌∙◌}
-use Rattle.std.proofs.Common.{arith, Option, Some, None, ◌≤◌, Bool, true, false, map}
+use Rattle.std.proofs.Common.{arith, Option, Some, ◌≤◌, Bool, true, false, map}
 use Rattle.std.specs.Prelude.{slice_index, cond, filter}
 use Rattle.std.specs.List.Sorted.{IsStrictlySortedBy}
 use Rattle.vr_types.specs.Content.{Content, Ascends, Placed}
@@ -13,7 +13,8 @@ use Rattle.vr_ci.proofs.CallerLemmas.{interval_room}
 use Rattle.vr_seqset.specs.Entry.{Entry}
 use Rattle.vr_space.specs.Keyed.{HoldRanges, InArea, IsHead, Keyed, KeyedStandsFor, content_from}
 use Rattle.vr_space.specs.Keyed.{entries_of, entry_block, range_of, records_in, HoldsRange}
-use Rattle.vr_space.specs.Keyed.{HaveRooms, items_of, key_of, length_of, lengths_of, placed}
+use Rattle.vr_space.specs.Keyed.{HaveRooms, IsWhole, items_of, key_of, length_of, lengths_of}
+use Rattle.vr_space.specs.Keyed.{low_of, placed}
 use Rattle.vr_space.specs.Owners.{Owners}
 use Rattle.vr_space.specs.Part.{HasRoom, InPart, KeyedShape, NumberedShape, Shape, StandsFor}
 use Rattle.vr_space.specs.Part.{StaysIn}
@@ -58,21 +59,32 @@ module _ (part : Keyed) (old new : Image)
       (block_at old (entry_block part entry)) ++ c)
       (content-same (Some entry.high) entries inside.1)
 
-  pub keyed-same : (content : Content) → KeyedStandsFor part old content
+  head-same : block_at new part.head ≡ block_at old part.head
+  head-same = same part.head (omega arith, omega arith)
+
+  area-same : (content : Content) → KeyedStandsFor part old content
       → KeyedStandsFor part new content
-  keyed-same content stands =
-      let top : block_at new part.head ≡ block_at old part.head =
-      same part.head (omega arith, omega arith) in
+  area-same content stands =
+      let top : block_at new part.head ≡ block_at old part.head = head-same in
+      let low : Option (List ℕ) = low_of (block_at old part.head) in
       let inside : AreIn part.area (entries_of (block_at old part.head)) =
       head-in part (block_at old part.head) stands.head in
       record {
         head = subst (IsHead part) (sym top) stands.head;
-        intervals = subst (λ (b : Block). HoldRanges part new None (entries_of b)) (sym top)
-            (hold-same None (entries_of (block_at old part.head)) inside stands.intervals);
+        intervals = subst (λ (b : Block). HoldRanges part new (low_of b) (entries_of b))
+            (sym top)
+            (hold-same low (entries_of (block_at old part.head)) inside stands.intervals);
         records = stands.records
-            ∙ sym (content-same None (entries_of (block_at old part.head)) inside)
-            ∙ ap (λ (b : Block). content_from part new None (entries_of b)) (sym top);
+            ∙ sym (content-same low (entries_of (block_at old part.head)) inside)
+            ∙ ap (λ (b : Block). content_from part new (low_of b) (entries_of b)) (sym top);
       }
+
+  pub keyed-same : (content : Content) → StandsFor (KeyedShape part) old content
+      → StandsFor (KeyedShape part) new content
+  keyed-same content stands = (
+    area-same content stands.0,
+    subst (IsWhole part) (sym head-same) stands.1,
+  )
 
   rooms-under : (kept : Lengths) (low : Option (List ℕ)) (entries : List Entry)
       → AreIn part.area entries → HaveRooms part kept old low entries
@@ -87,10 +99,8 @@ module _ (part : Keyed) (old new : Image)
   keyed-rooms : (kept : Lengths) (content : Content) → KeyedStandsFor part old content
       → HasRoom (KeyedShape part) kept old → HasRoom (KeyedShape part) kept new
   keyed-rooms kept content stands rooms =
-      let top : block_at new part.head ≡ block_at old part.head =
-      same part.head (omega arith, omega arith) in
-      subst (λ (b : Block). HaveRooms part kept new None (entries_of b)) (sym top)
-      (rooms-under kept None (entries_of (block_at old part.head))
+      subst (λ (b : Block). HaveRooms part kept new (low_of b) (entries_of b)) (sym head-same)
+      (rooms-under kept (low_of (block_at old part.head)) (entries_of (block_at old part.head))
       (head-in part (block_at old part.head) stands.head) rooms)
 
 -- ---- a part that stays in its own blocks
@@ -172,7 +182,7 @@ pub rooms-same : (geometry : Geometry) (shape : Shape) (owners : Owners) (old ne
     → StandsFor shape old content → HasRoom shape kept old → HasRoom shape kept new
 rooms-same geometry (KeyedShape part) owners old new inside within same kept content stands =
     keyed-rooms part old new (keyed-blocks geometry part owners old new inside within same) kept
-    content stands
+    content stands.0
 rooms-same geometry (NumberedShape part) owners old new inside within same kept content stands =
     numbered-room part owners old new within
     (numbered-blocks geometry part owners old new inside same) kept
@@ -218,6 +228,7 @@ have-rooms part image low (entry ∷ entries) hold = (
 pub part-fits : (shape : Shape) (image : Image) (content : Content) → StandsFor shape image content
     → HasRoom shape [] image
 part-fits (KeyedShape part) image content stands =
-    have-rooms part image None (entries_of (block_at image part.head)) stands.intervals
+    have-rooms part image (low_of (block_at image part.head))
+    (entries_of (block_at image part.head)) stands.0.intervals
 part-fits (NumberedShape part) image content stands = λ at entry below.
     absurd (omega (arith, below))

@@ -21,7 +21,7 @@ use Rattle.vr_log.specs.declared.record.LogRecord.{LogRecord}
 use Rattle.vr_mount.specs.Records.{bytes_of}
 use Rattle.vr_seqset.specs.Entry.{Entry}
 use Rattle.vr_space.specs.Keyed.{Keyed, content_from, entries_of, entry_block, items_of, placed}
-use Rattle.vr_space.specs.Keyed.{range_of, records_of}
+use Rattle.vr_space.specs.Keyed.{low_of, range_of, records_of}
 use Rattle.vr_space.specs.Part.{StandsFor}
 use Rattle.vr_space.specs.Room.{Range, is_in}
 use Rattle.vr_volume.specs.PutBack.{put_back, standing}
@@ -96,8 +96,8 @@ module _ (geometry : Geometry) (image : Image) where
   -- whatever the catalog's blocks stand for has each record at its name
   pub catalog-named : (content : Content) → StandsFor (catalog_shape geometry) image content
       → standing content ≡ named (bytes_of content)
-  catalog-named content stands = own-named content (subst AreOwn (sym stands.records)
-      (own-from None (entries_of (block_at image part.head))))
+  catalog-named content stands = own-named content (subst AreOwn (sym stands.0.records)
+      (own-from (low_of (block_at image part.head)) (entries_of (block_at image part.head))))
 
 -- ---- one record put back
 

@@ -18,7 +18,7 @@ use Rattle.vr_types.specs.declared.unit.PartNo.{PartNo}
 use Rattle.vr_types.specs.declared.unit.Unit.{Unit as UnitOfRecovery}
 use Rattle.vr_space.specs.Owners.{Owners}
 use Rattle.vr_seqset.specs.Entry.{Entry}
-use Rattle.vr_space.specs.Keyed.{entries_of, entry_for}
+use Rattle.vr_space.specs.Keyed.{entry_in}
 use Rattle.vr_space.specs.Known.{Known}
 use Rattle.vr_space.specs.Numbered.{left_in}
 use Rattle.vr_space.specs.Room.{Lengths, Range}
@@ -60,7 +60,7 @@ no-stage-in (Some at) = refl
 no-stage : (shape : Shape) (known : Known) (image : Image) (place : List ℕ)
     → known.split ≡ None → stage_of shape known image place ≡ None
 no-stage (KeyedShape part) known image place none =
-    let found = entry_for None (entries_of (block_at image part.head)) place in
+    let found = entry_in (block_at image part.head) place in
     ap (λ (split : Option SplitNow). stage_in split found) none ∙ no-stage-in found
 no-stage (NumberedShape part) known image place none = refl
 

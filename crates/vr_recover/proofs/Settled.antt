@@ -22,8 +22,9 @@ use Rattle.vr_attach.proofs.CallerLemmas.{inside-on}
 use Rattle.vr_space.specs.Owners.{Owners}
 use Rattle.vr_space.specs.Room.{HaveRoom, Lengths, lengthen_by, with_length, with_lengths}
 use Rattle.vr_space.specs.Way.{Found, IsWithin, MayFind, Reads, Way, found_on}
-use Rattle.vr_space.specs.Keyed.{EachMayLeave, HaveRooms, HoldRanges, HoldsRange, IsHead}
-use Rattle.vr_space.specs.Keyed.{IsKeyedSound, Keyed, entries_of, entry_block, lengths_of, range_of}
+use Rattle.vr_space.specs.Keyed.{AreWhole, EachMayLeave, HaveRooms, HoldRanges, HoldsRange, IsHead}
+use Rattle.vr_space.specs.Keyed.{IsKeyedSound, IsWhole, Keyed, entries_of, entry_block, lengths_of}
+use Rattle.vr_space.specs.Keyed.{low_of, range_of}
 use Rattle.vr_space.specs.Met.{IsMet}
 use Rattle.vr_space.specs.Part.{HasKeptRoom, HasRoom, IsAtRest, IsOn, IsPlaceOf, IsRecordOf}
 use Rattle.vr_space.specs.Part.{IsSound, KeyedShape, Knows, MayHold, NumberedShape, Shape}
@@ -87,7 +88,7 @@ module _ (part : Keyed) (now : Seen) (on : IsOn (KeyedShape part) now)
 
   module _ (content : Content) (stands : StandsFor (KeyedShape part) now.cur content) where
     top-in : AreIn part.area (entries_of (block_at now.cur part.head))
-    top-in = head-in part (block_at now.cur part.head) stands.head
+    top-in = head-in part (block_at now.cur part.head) stands.0.head
 
     top-is : (top : Block) → now.may part.head top → top ≡ block_at now.cur part.head
     top-is top may = here part.head top (omega (arith, on.0)) may
@@ -96,21 +97,26 @@ module _ (part : Keyed) (now : Seen) (on : IsOn (KeyedShape part) now)
     part-sound = record {
       area = on.0;
       size = on.1;
-      heads = λ top may. subst (IsHead part) (sym (top-is top may)) stands.head;
+      heads = λ top may. subst (IsHead part) (sym (top-is top may)) stands.0.head;
       intervals = λ top may.
-          subst (λ (t : Block). EachMayLeave part now None (entries_of t) (HoldsRange part))
+          subst (λ (t : Block). EachMayLeave part now (low_of t) (entries_of t) (HoldsRange part))
           (sym (top-is top may))
-          (hold-left None (entries_of (block_at now.cur part.head)) top-in stands.intervals);
+          (hold-left (low_of (block_at now.cur part.head))
+          (entries_of (block_at now.cur part.head)) top-in stands.0.intervals);
     }
+
+    pub part-whole : AreWhole part now
+    part-whole top may = subst (IsWhole part) (sym (top-is top may)) stands.1
 
     pub part-room : (kept : Lengths) → All (λ (entry : List ℕ × ℕ). length entry.0 ≡ part.key) kept
         → HasRoom (KeyedShape part) kept now.cur → HasKeptRoom (KeyedShape part) kept now
     part-room kept places rooms = record {
       places = places;
-      each = λ top may. subst (λ (t : Block). EachMayLeave part now None (entries_of t)
+      each = λ top may. subst (λ (t : Block). EachMayLeave part now (low_of t) (entries_of t)
           (λ range block. HaveRoom part.size (lengths_of part kept range block)))
           (sym (top-is top may))
-          (rooms-left kept None (entries_of (block_at now.cur part.head)) top-in rooms);
+          (rooms-left kept (low_of (block_at now.cur part.head))
+          (entries_of (block_at now.cur part.head)) top-in rooms);
     }
 
 -- what may be found is what is read
@@ -168,6 +174,7 @@ forced-rests (KeyedShape part) owners now on forced content stands stays = (
     sound = part-sound part now on forced content stands;
     one_head = λ top may. forced part.head top (omega (arith, on.0)) may;
   },
+  part-whole part now on forced content stands,
   stays,
 )
 forced-rests (NumberedShape part) owners now on forced content stands stays =

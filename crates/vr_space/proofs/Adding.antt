@@ -17,7 +17,7 @@ use Rattle.vr_space.specs.Room.{Lengths, length_at}
 use Rattle.vr_space.specs.Known.{Known}
 use Rattle.vr_space.specs.Split.{SplitNow, keyed_stage, keyed_fits, room_after, room_by}
 use Rattle.vr_space.specs.Split.{room_by_split, free_interval}
-use Rattle.vr_space.specs.Keyed.{entries_of}
+use Rattle.vr_space.specs.Keyed.{IsKeyedSound, Keyed, KeyedStandsFor, entries_of, low_of}
 use Rattle.vr_space.specs.Owners.{Owners}
 use Rattle.vr_space.specs.Part.{Shape, KeyedShape, NumberedShape, InPart, StandsFor, Stands}
 use Rattle.vr_space.specs.Part.{HasOnly, MayHold, MayAlsoHold, Nothing, AddsTo, IsSound, IsAtRest}
@@ -29,13 +29,13 @@ use Rattle.vr_space.specs.Numbered.{IsFilled, IsNumberedSound, NumberedStaysIn, 
 use Rattle.vr_space.specs.Numbered.{chain_room_by, has_interval, interval_of, items_from}
 use Rattle.vr_space.specs.Numbered.{numbered_fits, start_of}
 use Rattle.vr_space.proofs.Chains.{chain-less}
-use Rattle.vr_space.proofs.Due.{due-fewer, due-firm}
+use Rattle.vr_space.proofs.Due.{due-fewer, due-firm, way-due}
 use Rattle.vr_space.proofs.PartBlocks.{IsPartBlock, area-owned, holds-less, on-less, rest-stays}
 use Rattle.vr_space.proofs.PartBlocks.{sound-less, stays-keeps, way-within}
 use Rattle.vr_space.proofs.NumberedReads.{numbered-item}
 use Rattle.vr_space.proofs.Ways.{found-may}
-use Rattle.vr_space.proofs.KeyedContent.{way-content}
-use Rattle.vr_space.proofs.KeyedSound.{keyed-image, head-ascends}
+use Rattle.vr_space.proofs.KeyedContent.{area-content}
+use Rattle.vr_space.proofs.KeyedSound.{IsBlock, head-ascends, keyed-image, keyed-within}
 
 -- ---- one after another
 
@@ -113,14 +113,22 @@ then-nothing shape owners A a b c first second =
 
 -- ---- what images have
 
--- a content has at each place the item that is there
+-- the content of an area has at each place the item that is there
+pub area-item : (part : Keyed) (image : Image) (content : Content)
+    → KeyedStandsFor part image content → (place : List ℕ)
+    → item_at content place ≡ item_of (KeyedShape part) image place
+area-item part image content stands place =
+    let top : Block = block_at image part.head in
+    ap (λ (c : Content). item_at c place) stands.records
+    ∙ area-content part image (low_of top) (entries_of top) place
+    (head-ascends part top stands.head)
+
+-- and so has that of a part
 pub content_item : (shape : Shape) (image : Image) (content : Content)
     → StandsFor shape image content → (place : List ℕ)
     → item_at content place ≡ item_of shape image place
 content_item (KeyedShape part) image content stands place =
-    ap (λ (c : Content). item_at c place) stands.records
-    ∙ way-content part image None (entries_of (block_at image part.head)) place
-    (head-ascends part (block_at image part.head) stands.head) refl
+    area-item part image content stands.0 place
 content_item (NumberedShape part) image content stands place =
     numbered-item part image content stands place
 
@@ -222,6 +230,18 @@ module _ (tells : Bool) (told : IsTrue tells) where
         λ there. may.1 there
             ∙ ap (λ (image : Image). block_at image n) (call.content told),
       )) (same-keeps shape a b call place) due
+
+  -- the same of the places of an area of a keyed part
+  pub area-due-keeps : (part : Keyed) (a b : Seen) → Keeps tells a b → IsKeyedSound part a
+      → DueMore (KeyedShape part) [] a b
+  area-due-keeps part a b call sound listed place due within =
+      way-due (KeyedShape part) (IsBlock part a) listed listed place a b
+      (keyed-within part a sound place)
+      (λ n block is may. (
+        call.adds_none told n block is.0 may.0,
+        λ there. may.1 there
+            ∙ ap (λ (image : Image). block_at image n) (call.content told),
+      )) (same-keeps (KeyedShape part) a b call place) due
 
   -- a force of the blocks that something else might stand in
   pub forced-firm : (shape : Shape) (owners : Owners) (listed place : List ℕ) (a b : Seen)

@@ -8,17 +8,21 @@ pub use Rattle.vr_space.proofs.Chains.{chain-within, used-same}
 pub use Rattle.vr_space.proofs.PartBlocks.{IsPartBlock, StaysPart, area-owned, first-owned}
 pub use Rattle.vr_space.proofs.PartBlocks.{holds-less, rest-grows, rest-of-quiet, rest-sound}
 pub use Rattle.vr_space.proofs.PartBlocks.{rest-stays, sound-grows, sound-less, stays-keeps}
-pub use Rattle.vr_space.proofs.PartBlocks.{stays-puts, way-within}
+pub use Rattle.vr_space.proofs.PartBlocks.{keyed-rest, stays-puts, way-within}
 pub use Rattle.vr_space.proofs.Due.{due-at-more, due-at-then, due-fewer, due-firm, due-none}
-pub use Rattle.vr_space.proofs.Due.{due-stays, due-then, firm-due, same-stays}
+pub use Rattle.vr_space.proofs.Due.{due-stays, due-then, firm-due, same-stays, way-due}
 pub use Rattle.vr_space.proofs.Places.{NoneAt, AllAbove, none-record, record-left, record-right}
 pub use Rattle.vr_space.proofs.Places.{record-filter, none-filter, above-filter, none-above}
 pub use Rattle.vr_space.proofs.Places.{in-above, in-most, in-both, in-past, is_past, not_past}
 pub use Rattle.vr_space.proofs.Places.{same_is_equal, lt_from_test, above-more, by_other}
-pub use Rattle.vr_space.proofs.Places.{above-append, above-weaken}
-pub use Rattle.vr_space.proofs.KeyedContent.{AscendFrom, content-above, way-content}
+pub use Rattle.vr_space.proofs.Places.{above-append, above-weaken, not_above}
+pub use Rattle.vr_space.proofs.KeyedContent.{AscendFrom, area-content, content-above, way-content}
+pub use Rattle.vr_space.proofs.KeyedContent.{IsFoundAbove, found-above, leads-above}
+pub use Rattle.vr_space.proofs.KeyedContent.{whole-entry, whole-low}
 pub use Rattle.vr_space.proofs.KeyedSound.{head-ascends, AreIn, head-in, entry-in, IsBlock}
+pub use Rattle.vr_space.proofs.KeyedSound.{entry-in-above, whole-less}
 pub use Rattle.vr_space.proofs.KeyedSound.{keyed-within, keyed-image, each-less, keyed-less}
+pub use Rattle.vr_space.proofs.Ends.{ends-less, ends-then, keeps-whole, same-ends, whole-ends}
 pub use Rattle.vr_space.proofs.UnderWay.{IsSplitBlock, StaysAt, AllStay, found-in, free-in}
 pub use Rattle.vr_space.proofs.UnderWay.{begun-stays, way-stays, way-puts, met-stays}
 pub use Rattle.vr_space.proofs.Rising.{stands_content, one_content, Rising, rising-sorted}
@@ -30,7 +34,9 @@ pub use Rattle.vr_space.proofs.Adding.{then-nothing, sound-image, rest-stands, c
 pub use Rattle.vr_space.proofs.Adding.{sound-keeps, rest-keeps, keeps-adds, same-keeps, due-keeps}
 pub use Rattle.vr_space.proofs.Adding.{forced-firm, can-set, can-erase, can-set-kept, room-no-stage}
 pub use Rattle.vr_space.proofs.Adding.{ready-can, records-then, sets-after, on-still, record-length}
+pub use Rattle.vr_space.proofs.Adding.{area-due-keeps, area-item}
 pub use Rattle.vr_space.proofs.Rooms.{keeps-rooms, room-image, room-keeps, room-less}
+pub use Rattle.vr_space.proofs.Rooms.{area-room-image, area-room-less}
 pub use Rattle.vr_space.proofs.Keeping.{keep-room}
 pub use Rattle.vr_space.proofs.Counting.{kept_fits, kept_room}
 pub use Rattle.vr_space.proofs.Framing.{room-stays, knows-stays, can-stays, way-keeps, knows-keeps}

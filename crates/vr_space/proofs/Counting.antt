@@ -9,15 +9,16 @@ use Rattle.vr_seqset.specs.Entry.{Entry}
 use Rattle.vr_space.specs.Way.{found_on}
 use Rattle.vr_space.specs.Known.{Known}
 use Rattle.vr_types.specs.Content.Item.{Standing}
-use Rattle.vr_space.specs.Keyed.{HoldRanges, HoldsRange, Keyed, entries_of, entry_block, entry_for}
-use Rattle.vr_space.specs.Keyed.{items_of, length_of, lengths_of, range_of, records_in, way_in}
+use Rattle.vr_space.specs.Keyed.{HoldRanges, HoldsRange, Keyed, entries_of, entry_above}
+use Rattle.vr_space.specs.Keyed.{entry_block, entry_for, entry_in, items_of, length_of}
+use Rattle.vr_space.specs.Keyed.{lengths_of, low_of, range_of, records_in, way_in}
 use Rattle.vr_space.specs.Part.{KeyedShape, NumberedShape, Shape, Stands, fits_at, item_of, room_of}
 use Rattle.vr_space.specs.Room.{Lengths, Range, have_room, is_above, is_in, with_length}
 use Rattle.vr_space.specs.Room.{with_lengths}
 use Rattle.vr_space.specs.Split.{fits_in, free_interval, keyed_stage, room_after, room_by}
 use Rattle.vr_space.specs.Split.{room_by_split}
 use Rattle.vr_space.proofs.Keeping.{HasLonger, holds-read, kept-out, kept-stands}
-use Rattle.vr_space.proofs.KeyedContent.{AscendFrom}
+use Rattle.vr_space.proofs.KeyedContent.{AscendFrom, leads-above}
 use Rattle.vr_space.proofs.KeyedSound.{head-ascends}
 use Rattle.vr_space.proofs.Places.{above-more, in-most, lt_from_test, not_past}
 
@@ -120,6 +121,31 @@ module _ (part : Keyed) (kept : Lengths) (place : List ℕ) (n : ℕ) (image : I
             (in-most (range_of low entry) place inside)))
         by_test false further = further
 
+    -- wherever the other is
+    once-any : (low : Option (List ℕ)) (entries : List Entry) → AscendFrom low entries
+        → HoldRanges part image low entries
+        → ((at : Range × Entry) → entry_above low entries place ≡ Some at
+        → HasLonger part place n (block_at image (entry_block part at.1)))
+        → IfSome (entry_above low entries other) Counts
+    once-any low entries ascend holds found =
+        by_other (is_above low other) (by_place (is_above low place) refl)
+      where
+        below : (bound : Option (List ℕ)) → AscendFrom bound entries
+            → is_above bound place ≡ false → IfSome (entry_for bound entries other) Counts
+        below None rises out = absurd (true≢false out)
+        below (Some bound) rises out = once-out bound entries rises out
+
+        by_place : (b : Bool) → is_above low place ≡ b
+            → IfSome (entry_for low entries other) Counts
+        by_place true above = once low entries ascend holds
+            (λ at leads. found at (leads-above low entries place above ∙ leads))
+        by_place false out = below low ascend out
+
+        by_other : (b : Bool) → IfSome (entry_for low entries other) Counts
+            → IfSome (cond b (entry_for low entries other) None) Counts
+        by_other true counts = counts
+        by_other false counts = tt
+
     fits-once : (m : ℕ) (found : Option (Range × Entry)) → IfSome found Counts
         → fits_in part image (with_length kept place n) other m found
         ≡ fits_in part image kept other m found
@@ -137,9 +163,9 @@ pub kept_fits : (shape : Shape) (image : Image) (kept : Lengths) (place bytes : 
     ≡ fits_at shape known image kept other m
 kept_fits (KeyedShape part) image kept place bytes n stands is most known other m =
     let top : Block = block_at image part.head in
-    fits-once part kept place n image other m (entry_for None (entries_of top) other)
-    (once part kept place n image other None (entries_of top)
-    (head-ascends part top stands.1.head) stands.1.intervals
+    fits-once part kept place n image other m (entry_in top other)
+    (once-any part kept place n image other (low_of top) (entries_of top)
+    (head-ascends part top stands.1.0.head) stands.1.0.intervals
     (λ at leads. (
       bytes,
       sym (ap (λ (o : Option (Range × Entry)). found_on image (way_in part place o)) leads) ∙ is,

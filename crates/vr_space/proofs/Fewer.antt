@@ -2,7 +2,7 @@
 use Rattle.std.proofs.Common.{◌≡◌, ◌⊎◌, inl, inr, ⊎_elim, ◌≤◌, ℕ, Bool, true, false, cond}
 use Rattle.std.proofs.Common.{List}
 use Rattle.std.proofs.Common.{[], ◌∷◌, map, refl, sym, ap, subst, ◌∙◌, arith, length, Option}
-use Rattle.std.proofs.Common.{Some, None}
+use Rattle.std.proofs.Common.{Some}
 use Rattle.std.specs.Prelude.{All, Contains, filter, max}
 use Rattle.std.specs.List.{AllByRecursion}
 use Rattle.std.specs.List.Sorted.{IsStrictlySortedBy}
@@ -15,7 +15,7 @@ use Rattle.vr_types.specs.Seen.{Seen}
 use Rattle.vr_ci.specs.Interval as ci
 use Rattle.vr_seqset.specs.Entry.{Entry}
 use Rattle.vr_space.specs.Keyed.{EachMayLeave, HoldsRange, Keyed, entries_of, items_of, key_of}
-use Rattle.vr_space.specs.Keyed.{length_of, lengths_of, placed, range_of, records_in}
+use Rattle.vr_space.specs.Keyed.{length_of, lengths_of, low_of, placed, range_of, records_in}
 use Rattle.vr_space.specs.Owners.{Owners}
 use Rattle.vr_space.specs.Part.{HasKeptRoom, IsSound, KeyedShape, NumberedShape, Shape}
 use Rattle.vr_space.specs.Numbered.{HasKeptPlace, KeepsNumbered}
@@ -369,10 +369,10 @@ numbered-fewer part may fewer kept false is less among room =
 pub fewer-room : (shape : Shape) (owners : Owners) (fewer kept : Lengths) (now : Seen)
     → Under fewer kept → MayKeepLess shape fewer kept
     → IsSound shape owners now → HasKeptRoom shape kept now → HasKeptRoom shape fewer now
-fewer-room (KeyedShape part) owners fewer kept now less among (sound, owned) room = record {
+fewer-room (KeyedShape part) owners fewer kept now less among (sound, whole, owned) room = record {
   places = places-fewer (λ (entry : List ℕ × ℕ). length entry.0 ≡ part.key)
       (λ first entry same is. ap length same ∙ is) fewer kept less room.places;
-  each = λ top may. each-fewer part fewer kept now None (entries_of top) less
+  each = λ top may. each-fewer part fewer kept now (low_of top) (entries_of top) less
       (sound.intervals top may) (room.each top may);
 }
 fewer-room (NumberedShape part) owners fewer kept now less among sound room =

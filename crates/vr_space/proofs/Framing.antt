@@ -7,7 +7,7 @@ use Rattle.vr_types.specs.Image.{Block, block_at}
 use Rattle.vr_types.specs.Seen.{Left, Seen}
 use Rattle.vr_types.specs.declared.unit.PartNo.{PartNo}
 use Rattle.vr_seqset.specs.Entry.{Entry}
-use Rattle.vr_space.specs.Keyed.{InArea, IsHead, IsOwned, Keyed, entries_of, entry_block, entry_for}
+use Rattle.vr_space.specs.Keyed.{InArea, IsHead, IsOwned, Keyed, entry_block, entry_in}
 use Rattle.vr_space.specs.Known.{Known}
 use Rattle.vr_space.specs.Met.{IsMet}
 use Rattle.vr_space.specs.Owners.{Owners}
@@ -47,7 +47,7 @@ module _ (a b : Seen) where
   -- a split under way stays so,
   under-stays : (shape : Shape) (owners : Owners) (known : Known) → StaysPart shape owners a b
       → IsSound shape owners a → Left a a.cur → IsUnderWay shape known a → IsUnderWay shape known b
-  under-stays (KeyedShape part) owners known part-stays (sound, owned) left way =
+  under-stays (KeyedShape part) owners known part-stays (sound, whole, owned) left way =
       let stays = area-stays part owners a b owned part-stays in
       way-stays part known.split a b sound left
       (λ now some n block named. record {
@@ -59,7 +59,7 @@ module _ (a b : Seen) where
   -- the blocks that were met as they were,
   met-known : (shape : Shape) (owners : Owners) (known : Known) → StaysPart shape owners a b
       → IsSound shape owners a → Left a a.cur → AreMet shape known a.cur → AreMet shape known b.cur
-  met-known (KeyedShape part) owners known part-stays (sound, owned) left met =
+  met-known (KeyedShape part) owners known part-stays (sound, whole, owned) left met =
       let stays = area-stays part owners a b owned part-stays in
       All-weaker (IsMet part a.cur) (IsMet part b.cur)
       (λ one is. met-stays part a.cur b.cur one
@@ -94,10 +94,10 @@ module _ (a b : Seen) where
       → StaysArea part a b → IsHead part (block_at a.cur part.head)
       → keyed_fits part b.cur kept place n ≡ keyed_fits part a.cur kept place n
   fits-same part kept place n stays head =
-      ap (λ (top : Block). fits_in part b.cur kept place n (entry_for None (entries_of top) place))
+      ap (λ (top : Block). fits_in part b.cur kept place n (entry_in top place))
       (stays.same part.head (omega arith, omega arith))
       ∙ fits-stays part kept place n stays
-      (entry_for None (entries_of (block_at a.cur part.head)) place)
+      (entry_in (block_at a.cur part.head) place)
       (λ at is. let below = found-in part (block_at a.cur part.head) place at head is in
       (omega arith, omega (arith, below)))
 
@@ -117,10 +117,11 @@ module _ (a b : Seen) where
       (item : Option (List ℕ)) → StaysPart shape owners a b
       → IsSound shape owners a → Left a a.cur → CanSet shape known a.cur kept place item
       → CanSet shape known b.cur kept place item
-  can-stays (KeyedShape part) owners known kept place item part-stays (sound, owned) left can =
+  can-stays (KeyedShape part) owners known kept place item part-stays (sound, whole, owned) left
+      can =
       let stays = area-stays part owners a b owned part-stays in record {
         no_stage = ap
-            (λ (top : Block). stage_in known.split (entry_for None (entries_of top) place))
+            (λ (top : Block). stage_in known.split (entry_in top place))
             (stays.same part.head (omega arith, omega arith)) ∙ can.no_stage;
         room = room-for (KeyedShape part) known kept place item
             (λ n. fits-same part kept place n stays

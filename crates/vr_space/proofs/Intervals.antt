@@ -12,7 +12,7 @@ use Rattle.vr_types.specs.declared.unit.StageKind.TheVariants.{CiCopy, CiSwitch,
 use Rattle.vr_types.specs.declared.unit.StageKind.TheVariants.{CaClaim, CaCopy, CaLink, CaSwitch}
 use Rattle.vr_types.specs.declared.unit.StageKind.TheVariants.{Post, Extend, Undo, Force}
 use Rattle.vr_seqset.specs.Entry.{Entry}
-use Rattle.vr_space.specs.Keyed.{Keyed, entries_of, entry_for}
+use Rattle.vr_space.specs.Keyed.{Keyed, entry_in}
 use Rattle.vr_space.specs.Part.{IsClaimed, IsStageOf, IsUnderWay, KeyedShape, OwnersAfter}
 use Rattle.vr_space.specs.Part.{NumberedShape, Shape, room_of}
 use Rattle.vr_space.specs.Room.{Lengths, Range}
@@ -109,10 +109,10 @@ pub room-stage : (shape : Shape) (known : Known) (now : Seen) (image : Image)
     → IsStageOf shape kind
 room-stage (KeyedShape part) known now image free kept place n kind way is = ⊎_elim
     (λ staged. stage-in part known.split now
-    (entry_for None (entries_of (block_at image part.head)) place) kind way staged)
+    (entry_in (block_at image part.head) place) kind way staged)
     (λ splits. by-split part known.split now (free_interval part (block_at image part.head)) kind
     way splits)
-    (by-room (stage_in known.split (entry_for None (entries_of (block_at image part.head)) place))
+    (by-room (stage_in known.split (entry_in (block_at image part.head) place))
     (keyed_fits part image kept place n)
     (room_by_split known.split (free_interval part (block_at image part.head))) kind is)
 room-stage (NumberedShape part) known now image free kept place n kind way is =

@@ -22,8 +22,8 @@ use Rattle.vr_ci.specs.Interval as ci
 use Rattle.vr_seqset.specs.Entry.{Entry}
 use Rattle.vr_space.specs.Keyed.{EachMayLeave, HoldsRange, Keyed}
 use Rattle.vr_space.specs.Keyed.{entries_of}
-use Rattle.vr_space.specs.Keyed.{entry_block, entry_for, items_of, key_of, length_of, lengths_of}
-use Rattle.vr_space.specs.Keyed.{placed, range_of, records_in, records_of}
+use Rattle.vr_space.specs.Keyed.{entry_above, entry_block, entry_for, items_of, key_of, length_of}
+use Rattle.vr_space.specs.Keyed.{lengths_of, low_of, placed, range_of, records_in, records_of}
 use Rattle.vr_space.specs.Owners.{Owners}
 use Rattle.vr_space.specs.Part.{HasKeptRoom, IsPlaceOf, IsSound, KeyedShape, MayGoBack, MayHold}
 use Rattle.vr_space.specs.Part.{NumberedShape, Shape}
@@ -35,7 +35,7 @@ use Rattle.vr_space.specs.Way.{MayFind}
 use Rattle.vr_space.specs.Keyed.{way_in}
 use Rattle.vr_space.specs.Room.{is_above}
 use Rattle.vr_types.specs.Seen.{Only}
-use Rattle.vr_space.proofs.KeyedContent.{AscendFrom}
+use Rattle.vr_space.proofs.KeyedContent.{AscendFrom, leads-above}
 use Rattle.vr_space.proofs.KeyedSound.{head-ascends}
 use Rattle.vr_space.proofs.NumberedRooms.{IsKeptItem, finds-place}
 use Rattle.vr_space.proofs.Places.{above-more, in-past, lt_from_test, not_past}
@@ -405,6 +405,27 @@ module _ (part : Keyed) (kept : Lengths) (place : List ℕ) (n : ℕ) (now : See
         further here,
       )
 
+  -- wherever the place is
+  each-any : (low : Option (List ℕ)) (entries : List Entry) → AscendFrom low entries
+      → ((at : Range × Entry) → entry_above low entries place ≡ Some at
+      → Only now (entry_block part at.1) (HasLonger part place n))
+      → EachMayLeave part now low entries (HoldsRange part)
+      → EachMayLeave part now low entries (Room kept)
+      → EachMayLeave part now low entries (Room (with_length kept place n))
+  each-any low entries ascend found holds each = by_test (is_above low place) refl
+    where
+      below : (bound : Option (List ℕ)) → AscendFrom bound entries → is_above bound place ≡ false
+          → EachMayLeave part now bound entries (Room kept)
+          → EachMayLeave part now bound entries (Room (with_length kept place n))
+      below None rises out all = absurd (true≢false out)
+      below (Some bound) rises out all = each-out bound entries rises out all
+
+      by_test : (b : Bool) → is_above low place ≡ b
+          → EachMayLeave part now low entries (Room (with_length kept place n))
+      by_test true above = each-kept low entries ascend
+          (λ at leads. found at (leads-above low entries place above ∙ leads)) holds each
+      by_test false out = below low ascend out each
+
 -- ---- places
 
 -- what is true of each that is kept and of one more is true of all
@@ -449,20 +470,21 @@ pub keep-room : (shape : Shape) (owners : Owners) (kept : Lengths) (place : List
     → ((item : Option Item) → MayHold shape now.may place item
     → (bytes : List ℕ) × (item ≡ Some (Standing bytes)) × MayGoBack shape (length bytes) n)
     → HasKeptRoom shape (with_length kept place n) now
-keep-room (KeyedShape part) owners kept place n now long (sound, owned) room stands = record {
-  places = places-kept (λ (entry : List ℕ × ℕ). length entry.0 ≡ part.key) kept place n long
-      room.places;
-  each = λ top may. each-kept part kept place n now None (entries_of top)
-      (head-ascends part top (sound.heads top may))
-      (λ at leads block block-may. stands (item_at (records_of part block) place) (
-        top,
-        may,
-        subst (λ (found : Option (Range × Entry)). MayFind now.may
-            (item_at (records_of part block) place) (way_in part place found)) (sym leads)
-            (block, block-may, refl),
-      ))
-      (sound.intervals top may) (room.each top may);
-}
+keep-room (KeyedShape part) owners kept place n now long (sound, whole, owned) room stands =
+    record {
+      places = places-kept (λ (entry : List ℕ × ℕ). length entry.0 ≡ part.key) kept place n long
+          room.places;
+      each = λ top may. each-any part kept place n now (low_of top) (entries_of top)
+          (head-ascends part top (sound.heads top may))
+          (λ at leads block block-may. stands (item_at (records_of part block) place) (
+            top,
+            may,
+            subst (λ (found : Option (Range × Entry)). MayFind now.may
+                (item_at (records_of part block) place) (way_in part place found)) (sym leads)
+                (block, block-may, refl),
+          ))
+          (sound.intervals top may) (room.each top may);
+    }
 keep-room (NumberedShape part) owners kept place n now numbered sound room stands =
     places-kept (HasKeptPlace part now.may) kept place n
     (finds-place part (IsOwnArea part owners) (IsFilled part) now.may place n numbered sound.chain

@@ -1,18 +1,19 @@
--- The content of a keyed part: entry by entry, and the way to a place.
-use Rattle.std.proofs.Common.{◌≡◌, ℕ, Bool, true, false, List, [], ◌∷◌, ◌++◌, Option, Some, refl}
-use Rattle.std.proofs.Common.{ap, ◌∙◌}
+-- The content of an area of a keyed part: entry by entry, and the way to a place.
+use Rattle.std.proofs.Common.{◌≡◌, ℕ, Bool, true, false, List, [], ◌∷◌, ◌++◌, Option, Some, None}
+use Rattle.std.proofs.Common.{refl, ap, ◌∙◌, true≢false}
 use Rattle.std.specs.Prelude.{cond}
 use Rattle.std.specs.Ordering.{is_le, is_lt}
 use Rattle.vr_types.specs.Content.{Content, place_cmp, item_at}
 use Rattle.vr_types.specs.Image.{Block, Image, block_at}
 use Rattle.vr_seqset.specs.Entry.{Entry}
 use Rattle.vr_space.specs.Way.{found_on}
-use Rattle.vr_space.specs.Room.{is_above}
+use Rattle.vr_space.specs.Room.{Range, is_above}
 use Rattle.vr_space.specs.Keyed.{Keyed, entry_block, records_of, records_in, range_of, content_from}
-use Rattle.vr_space.specs.Keyed.{entry_for, way_in}
+use Rattle.vr_space.specs.Keyed.{IsWhole, entries_of, entry_above, entry_for, entry_in, low_of}
+use Rattle.vr_space.specs.Keyed.{way_in}
 use Rattle.vr_space.proofs.Places.{AllAbove, record-left, record-right, record-filter, none-filter}
 use Rattle.vr_space.proofs.Places.{above-append, above-weaken, above-filter, none-above, in-both}
-use Rattle.vr_space.proofs.Places.{in-past, is_past}
+use Rattle.vr_space.proofs.Places.{in-past, is_past, none-record, not_above}
 
 -- high places ascend, the first above this one
 abbrev pub AscendFrom : Option (List ℕ) → List Entry → Type 0
@@ -70,3 +71,59 @@ way-content part image low (entry ∷ entries) place ascend above =
         (none-filter (range_of low entry) (records_of part block) place
         (in-past (range_of low entry) place is))
         ∙ more (ap is_lt (is_past place entry.high is))
+
+-- ---- places above the low one
+
+-- it is where an entry is found above it
+pub record IsFoundAbove (low : Option (List ℕ)) (entries : List Entry) (place : List ℕ)
+    (at : Range × Entry) : Type 0 where
+  pub above : is_above low place ≡ true
+  pub leads : entry_for low entries place ≡ Some at
+
+pub found-above : (low : Option (List ℕ)) (entries : List Entry) (place : List ℕ)
+    (at : Range × Entry) → entry_above low entries place ≡ Some at
+    → IsFoundAbove low entries place at
+found-above low entries place at = by_test (is_above low place) refl
+  where
+    by_test : (b : Bool) → is_above low place ≡ b
+        → cond b (entry_for low entries place) None ≡ Some at → IsFoundAbove low entries place at
+    by_test true above leads = record { above = above; leads = leads }
+    by_test false above leads = absurd cc
+
+-- and there it is found as where each place is above
+pub leads-above : (low : Option (List ℕ)) (entries : List Entry) (place : List ℕ)
+    → is_above low place ≡ true → entry_above low entries place ≡ entry_for low entries place
+leads-above low entries place above =
+    ap (λ (b : Bool). cond b (entry_for low entries place) None) above
+
+-- in the head of a part of one area each place is
+pub whole-low : (part : Keyed) (top : Block) → IsWhole part top → low_of top ≡ None
+whole-low part top whole =
+    ap (λ (b : Bool). cond b None (Some (Rattle.vr_seqset.specs.Reading.record_in top).low))
+    whole.first
+
+pub whole-entry : (part : Keyed) (top : Block) (place : List ℕ) → IsWhole part top
+    → entry_in top place ≡ entry_for None (entries_of top) place
+whole-entry part top place whole =
+    ap (λ (low : Option (List ℕ)). entry_above low (entries_of top) place)
+    (whole-low part top whole)
+
+-- the content's item at a place is the one that the way over the area leads to
+pub area-content : (part : Keyed) (image : Image) (low : Option (List ℕ)) (entries : List Entry)
+    (place : List ℕ) → AscendFrom low entries
+    → item_at (content_from part image low entries) place ≡ found_on image
+    (way_in part place (entry_above low entries place))
+area-content part image low entries place ascend = by_test (is_above low place) refl
+  where
+    below : (bound : Option (List ℕ)) → AscendFrom bound entries → is_above bound place ≡ false
+        → item_at (content_from part image bound entries) place ≡ None
+    below None rises out = absurd (true≢false out)
+    below (Some bound) rises out = none-record place (content_from part image (Some bound) entries)
+        (none-above bound place (content_from part image (Some bound) entries)
+        (not_above bound place out) (content-above part image (Some bound) entries rises))
+
+    by_test : (b : Bool) → is_above low place ≡ b
+        → item_at (content_from part image low entries) place ≡ found_on image
+        (way_in part place (cond b (entry_for low entries place) None))
+    by_test true above = way-content part image low entries place ascend above
+    by_test false out = below low ascend out

@@ -19,14 +19,15 @@ use Rattle.vr_seqset.specs.SequenceSet.{SequenceSet, bounds_of}
 use Rattle.vr_seqset.specs.Reading.{record_in}
 use Rattle.vr_seqset.proofs.ListLemmas.{All-left, All-right}
 use Rattle.vr_space.specs.Way.{MayFind, IsWithin}
-use Rattle.vr_space.specs.Room.{Range}
+use Rattle.vr_space.specs.Room.{Range, is_above}
 use Rattle.vr_space.specs.Keyed.{Keyed, IsHead, HoldsRange, HoldRanges, EachMayLeave, IsKeyedSound}
-use Rattle.vr_space.specs.Keyed.{entries_of, entry_block, range_of, content_from, entry_for, way_in}
-use Rattle.vr_space.specs.Keyed.{InArea, keyed_way}
+use Rattle.vr_space.specs.Keyed.{entries_of, entry_above, entry_block, entry_for, entry_in, low_in}
+use Rattle.vr_space.specs.Keyed.{AreWhole, InArea, content_from, keyed_way, low_of, range_of}
+use Rattle.vr_space.specs.Keyed.{way_in}
 use Rattle.vr_space.specs.Owners.{Owners}
 use Rattle.vr_space.specs.Part.{KeyedShape, InPart, IsSound, HasOnly, MayHold}
 use Rattle.vr_space.proofs.Ways.{found-may}
-use Rattle.vr_space.proofs.KeyedContent.{AscendFrom, way-content}
+use Rattle.vr_space.proofs.KeyedContent.{AscendFrom, area-content}
 
 -- ---- what a head says
 
@@ -46,17 +47,21 @@ ascend-start : (entries : List Entry)
 ascend-start [] sorted = tt
 ascend-start (entry ∷ entries) sorted = (refl, ascend-by entry.high entries sorted)
 
-first-bounds : (s : SequenceSet) → s.first ≡ true
-    → bounds_of s ≡ map (λ (entry : Entry). entry.high) s.entries
-first-bounds s first =
-    ap (λ (b : Bool). cond b [] (s.low ∷ []) ++ map (λ (entry : Entry). entry.high) s.entries) first
+-- its high places ascend, the first above the low place
+ascend-bounds : (s : SequenceSet) → IsStrictlySortedBy place_cmp (bounds_of s)
+    → AscendFrom (low_in s) s.entries
+ascend-bounds s = by_first s.first
+  where
+    by_first : (b : Bool)
+        → IsStrictlySortedBy place_cmp
+        (cond b [] (s.low ∷ []) ++ map (λ (entry : Entry). entry.high) s.entries)
+        → AscendFrom (cond b None (Some s.low)) s.entries
+    by_first true sorted = ascend-start s.entries sorted
+    by_first false sorted = ascend-by s.low s.entries sorted
 
--- its high places ascend
-pub head-ascends : (part : Keyed) (top : Block) → IsHead part top → AscendFrom None (entries_of top)
-head-ascends part top head =
-    ascend-start (entries_of top)
-    (subst (IsStrictlySortedBy place_cmp) (first-bounds (record_in top) head.first)
-    head.spelled.rules.ascends)
+pub head-ascends : (part : Keyed) (top : Block) → IsHead part top
+    → AscendFrom (low_of top) (entries_of top)
+head-ascends part top head = ascend-bounds (record_in top) head.spelled.rules.ascends
 
 -- the interval of each is one of the area
 abbrev pub AreIn : ℕ → List Entry → Type 0
@@ -116,10 +121,23 @@ entry-in area low (entry ∷ entries) place all =
     reached true more = all.0
     reached false more = more
 
--- ---- the blocks of the part
+pub entry-in-above : (area : ℕ) (low : Option (List ℕ)) (entries : List Entry) (place : List ℕ)
+    → AreIn area entries
+    → IfSome (entry_above low entries place) (λ found. slice_index found.1.intervals 0 < area)
+entry-in-above area low entries place all =
+    by_test (is_above low place) (entry-in area low entries place all)
+  where
+    by_test : (b : Bool)
+        → IfSome (entry_for low entries place) (λ found. slice_index found.1.intervals 0 < area)
+        → IfSome (cond b (entry_for low entries place) None)
+        (λ found. slice_index found.1.intervals 0 < area)
+    by_test true more = more
+    by_test false more = tt
+
+-- ---- the blocks of the area
 
 module _ (part : Keyed) (now : Seen) where
-  -- a block of the part that is there
+  -- a block of the area that is there
   abbrev pub IsBlock : ℕ → Type 0
   IsBlock n = (n < now.count) × InArea part n
 
@@ -135,8 +153,9 @@ module _ (part : Keyed) (now : Seen) where
       → IsWithin IsBlock now.may (keyed_way part place)
   keyed-within sound place = (
     (omega (arith, sound.area), (omega arith, omega arith)),
-    λ top may. way-within place (entry_for None (entries_of top) place) sound.area
-        (entry-in part.area None (entries_of top) place (head-in part top (sound.heads top may))),
+    λ top may. way-within place (entry_in top place) sound.area
+        (entry-in-above part.area (low_of top) (entries_of top) place
+        (head-in part top (sound.heads top may))),
   )
 
   -- what each image has of the intervals, where it is allowed there
@@ -155,7 +174,7 @@ module _ (part : Keyed) (now : Seen) where
   pub keyed-image : (owners : Owners) → IsSound (KeyedShape part) owners now → (image : Image)
       → IsImageOn (InPart (KeyedShape part) owners) now.count now.may image
       → HasOnly (KeyedShape part) owners (MayHold (KeyedShape part) now.may) image
-  keyed-image owners (sound, owned) image left =
+  keyed-image owners (sound, whole, owned) image left =
       let each : (n : ℕ) → IsBlock n → now.may n (block_at image n) =
       λ n is. left.each n is.0 (owned n is.1) in
       let top : Block = block_at image part.head in
@@ -163,23 +182,26 @@ module _ (part : Keyed) (now : Seen) where
       each part.head (omega (arith, sound.area), (omega arith, omega arith)) in
       let head : IsHead part top = sound.heads top may in
       record {
-        content = content_from part image None (entries_of top);
-        stands = record {
-          head = head;
-          intervals = ranges-held image None (entries_of top) each sound.area
-              (head-in part top head) (sound.intervals top may);
-          records = refl;
-        };
+        content = content_from part image (low_of top) (entries_of top);
+        stands = (
+          record {
+            head = head;
+            intervals = ranges-held image (low_of top) (entries_of top) each sound.area
+                (head-in part top head) (sound.intervals top may);
+            records = refl;
+          },
+          whole top may,
+        );
         within = owned;
         each = λ place. subst
             (λ (item : Option Item). MayFind now.may item (keyed_way part place))
-            (sym (way-content part image None (entries_of top) place (head-ascends part top head)
-            refl))
+            (sym (area-content part image (low_of top) (entries_of top) place
+            (head-ascends part top head)))
             (found-may IsBlock now.may image each (keyed_way part place)
             (keyed-within sound place));
       }
 
--- what a call leaves that adds nothing to a part's blocks
+-- what a call leaves that adds nothing to the area's blocks
 pub each-less : (part : Keyed) (old new : Seen) (Q : Range → Block
     → Type 0) (low : Option (List ℕ)) (entries : List Entry)
     → ((n : ℕ) (block : Block) → IsBlock part old n → new.may n block → old.may n block)
@@ -203,7 +225,14 @@ keyed-less part old new count size less sound =
       area = omega (arith, sound.area, count);
       size = size ∙ sound.size;
       heads = λ top may. sound.heads top (before top may);
-      intervals = λ top may. each-less part old new (HoldsRange part) None (entries_of top) less
-          sound.area (head-in part top (sound.heads top (before top may)))
+      intervals = λ top may. each-less part old new (HoldsRange part) (low_of top)
+          (entries_of top) less sound.area (head-in part top (sound.heads top (before top may)))
           (sound.intervals top (before top may));
     }
+
+-- and heads stay whole
+pub whole-less : (part : Keyed) (old new : Seen)
+    → ((n : ℕ) (block : Block) → IsBlock part old n → new.may n block → old.may n block)
+    → IsKeyedSound part old → AreWhole part old → AreWhole part new
+whole-less part old new less sound whole = λ top may.
+    whole top (less part.head top (omega (arith, sound.area), (omega arith, omega arith)) may)

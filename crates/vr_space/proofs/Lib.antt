@@ -8,6 +8,7 @@ pub mod NumberedContent
 pub mod NumberedReads
 pub mod KeyedContent
 pub mod KeyedSound
+pub mod Ends
 pub mod PartBlocks
 pub mod Due
 pub mod NumberedKnown

@@ -8,7 +8,7 @@ use Rattle.vr_types.specs.Geometry.{area_count}
 use Rattle.vr_types.specs.Image.{Block, Image, block_at}
 use Rattle.vr_types.specs.Seen.{Seen}
 use Rattle.vr_types.proofs.CallerLemmas.{cur-elsewhere}
-use Rattle.vr_space.specs.Keyed.{InArea, keyed_way}
+use Rattle.vr_space.specs.Keyed.{InArea, IsKeyedAtRest, Keyed, keyed_way}
 use Rattle.vr_space.specs.Owners.{Owners}
 use Rattle.vr_space.specs.Part.{InFirstArea, InPart, IsAtRest, IsQuiet, IsSound, KeyedShape}
 use Rattle.vr_space.specs.Part.{MayHold, NumberedShape, Shape, way_to}
@@ -19,7 +19,7 @@ use Rattle.vr_space.specs.Numbered.{interval_of, is_number_place, at_in, item_re
 use Rattle.vr_space.specs.Way.{Found, IsWithin}
 use Rattle.vr_space.proofs.Chains.{area-below, chain-both, chain-here, chain-less, chain-within}
 use Rattle.vr_space.proofs.Chains.{roster-inside}
-use Rattle.vr_space.proofs.KeyedSound.{IsBlock, keyed-less, keyed-within}
+use Rattle.vr_space.proofs.KeyedSound.{IsBlock, keyed-less, keyed-within, whole-less}
 use Rattle.vr_space.proofs.Ways.{find-less, within-more}
 
 -- the blocks of the part that are there
@@ -52,7 +52,7 @@ numbered-within part owners now sound place = by_test (is_number_place part plac
 -- A way to a place reads blocks of the part alone.
 pub way-within : (shape : Shape) (owners : Owners) (now : Seen) → IsSound shape owners now
     → (place : List ℕ) → IsWithin (IsPartBlock shape owners now) now.may (way_to shape place)
-way-within (KeyedShape part) owners now (sound, owned) place = within-more (IsBlock part now)
+way-within (KeyedShape part) owners now (sound, whole, owned) place = within-more (IsBlock part now)
     (IsPartBlock (KeyedShape part) owners now) now.may (λ n is. (is.0, owned n is.1))
     (keyed_way part place) (keyed-within part now sound place)
 way-within (NumberedShape part) owners now sound place = numbered-within part owners now sound place
@@ -69,7 +69,7 @@ holds-less shape owners now less sound each place item = find-less (IsPartBlock 
 -- the blocks of the first area are the part's own
 pub first-owned : (shape : Shape) (owners : Owners) (now : Seen) → IsSound shape owners now
     → (n : ℕ) → InFirstArea shape n → InPart shape owners n
-first-owned (KeyedShape part) owners now (sound, owned) n inside = owned n inside
+first-owned (KeyedShape part) owners now (sound, whole, owned) n inside = owned n inside
 first-owned (NumberedShape part) owners now sound n inside =
     (chain-here part (IsOwnArea part owners) (IsFilled part) now.may (area_count part.geometry)
     part.first sound.chain).owned n inside
@@ -77,7 +77,7 @@ first-owned (NumberedShape part) owners now sound n inside =
 -- what is at rest is sound
 pub rest-sound : (shape : Shape) (owners : Owners) (now : Seen) → IsAtRest shape owners now
     → IsSound shape owners now
-rest-sound (KeyedShape part) owners now (rests, owned) = (rests.sound, owned)
+rest-sound (KeyedShape part) owners now (rests, whole, owned) = (rests.sound, whole, owned)
 rest-sound (NumberedShape part) owners now rests = record {
   on = rests.on;
   chain = chain-less part (IsRestingArea part owners now) (IsOwnArea part owners) (IsFilled part)
@@ -128,15 +128,30 @@ on-less part a b count size on = record {
   size = size ∙ on.size;
 }
 
+-- an area of a keyed part stays at rest where its head stays and a crash may leave no more
+pub keyed-rest : (part : Keyed) (a b : Seen) → b.count ≡ a.count → b.size ≡ a.size
+    → ((n : ℕ) (block : Block) → IsBlock part a n → b.may n block → a.may n block)
+    → block_at b.cur part.head ≡ block_at a.cur part.head → IsKeyedAtRest part a
+    → IsKeyedAtRest part b
+keyed-rest part a b count size less head rests = record {
+  sound = keyed-less part a b count size less rests.sound;
+  one_head = λ top may. rests.one_head top
+      (less part.head top (omega (arith, rests.sound.area), (omega arith, omega arith)) may)
+      ∙ sym head;
+}
+
 module _ (a b : Seen) where
   -- A part stays sound where a crash may leave no more of its blocks,
   pub sound-less : (shape : Shape) (owners : Owners) → b.count ≡ a.count → b.size ≡ a.size
       → ((n : ℕ) (block : Block) → IsPartBlock shape owners a n → b.may n block → a.may n block)
       → IsSound shape owners a → IsSound shape owners b
-  sound-less (KeyedShape part) owners count size less (sound, owned) = (
-    keyed-less part a b count size (λ n block is may. less n block (is.0, owned n is.1) may) sound,
-    owned,
-  )
+  sound-less (KeyedShape part) owners count size less (sound, whole, owned) =
+      let within : (n : ℕ) (block : Block) → IsBlock part a n → b.may n block → a.may n block =
+      λ n block is may. less n block (is.0, owned n is.1) may in (
+        keyed-less part a b count size within sound,
+        whole-less part a b within sound whole,
+        owned,
+      )
   sound-less (NumberedShape part) owners count size less sound = record {
     on = on-less part a b count size sound.on;
     chain = chain-less part (IsOwnArea part owners) (IsOwnArea part owners) (IsFilled part) b.may
@@ -149,16 +164,13 @@ module _ (a b : Seen) where
   -- and stays at rest where they have what they had.
   pub rest-stays : (shape : Shape) (owners : Owners) → StaysPart shape owners a b
       → IsAtRest shape owners a → IsAtRest shape owners b
-  rest-stays (KeyedShape part) owners stays (rests, owned) =
+  rest-stays (KeyedShape part) owners stays (rests, whole, owned) =
       let less : (n : ℕ) (block : Block) → IsBlock part a n → b.may n block → a.may n block =
       λ n block is. stays.fewer n block is.0 (owned n is.1) in
       let here : InArea part part.head = (omega arith, omega arith) in (
-        record {
-          sound = keyed-less part a b stays.count stays.size less rests.sound;
-          one_head = λ top may. rests.one_head top
-              (less part.head top (omega (arith, rests.sound.area), here) may)
-              ∙ sym (stays.same part.head (owned part.head here));
-        },
+        keyed-rest part a b stays.count stays.size less
+            (stays.same part.head (owned part.head here)) rests,
+        whole-less part a b less rests.sound whole,
         owned,
       )
   rest-stays (NumberedShape part) owners stays rests =
@@ -195,8 +207,8 @@ module _ (owners grown : Owners) (now : Seen)
     (leaves : (n part : ℕ) → owners n ≡ Some part → grown n ≡ Some part) where
   -- By owners who leave each part the blocks that it has, a part stays sound,
   pub sound-grows : (shape : Shape) → IsSound shape owners now → IsSound shape grown now
-  sound-grows (KeyedShape part) (sound, owned) =
-      (sound, λ n inside. leaves n part.part (owned n inside))
+  sound-grows (KeyedShape part) (sound, whole, owned) =
+      (sound, whole, λ n inside. leaves n part.part (owned n inside))
   sound-grows (NumberedShape part) sound = record {
     on = sound.on;
     chain = chain-less part (IsOwnArea part owners) (IsOwnArea part grown) (IsFilled part) now.may
@@ -206,8 +218,8 @@ module _ (owners grown : Owners) (now : Seen)
 
   -- and at rest.
   pub rest-grows : (shape : Shape) → IsAtRest shape owners now → IsAtRest shape grown now
-  rest-grows (KeyedShape part) (rests, owned) =
-      (rests, λ n inside. leaves n part.part (owned n inside))
+  rest-grows (KeyedShape part) (rests, whole, owned) =
+      (rests, whole, λ n inside. leaves n part.part (owned n inside))
   rest-grows (NumberedShape part) rests = record {
     on = rests.on;
     chain = chain-less part (IsRestingArea part owners now) (IsRestingArea part grown now)
@@ -236,6 +248,6 @@ numbered-quiet part owners other now rests sound = record {
 -- A part that is at rest by some owners is so by those by which it is sound.
 pub rest-of-quiet : (shape : Shape) (owners : Owners) (now : Seen) → IsQuiet shape now
     → IsSound shape owners now → IsAtRest shape owners now
-rest-of-quiet (KeyedShape part) owners now quiet sound = (quiet.1.0, sound.1)
+rest-of-quiet (KeyedShape part) owners now quiet sound = (quiet.1.0, sound.1, sound.2)
 rest-of-quiet (NumberedShape part) owners now quiet sound =
     numbered-quiet part owners quiet.0 now quiet.1 sound

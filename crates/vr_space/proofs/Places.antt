@@ -34,6 +34,17 @@ over Less is = absurd (true≢false is)
 over Equal is = absurd (true≢false is)
 over Greater is = refl
 
+most-of : (o : Ordering) → is_lt o ≡ false → is_le (ordering_reverse o) ≡ true
+most-of Less is = absurd (true≢false is)
+most-of Equal is = refl
+most-of Greater is = refl
+
+-- what isn't above a place is at most it
+pub not_above : (low place : List ℕ) → is_above (Some low) place ≡ false
+    → is_le (place_cmp place low) ≡ true
+not_above low place is =
+    ap is_le (nat_list_cmp_total.antisymm place low) ∙ most-of (place_cmp low place) is
+
 -- what isn't at most a place is past it
 pub is_past : (place high : List ℕ) → is_le (place_cmp place high) ≡ false
     → place_cmp high place ≡ Less

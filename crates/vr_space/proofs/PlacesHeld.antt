@@ -14,7 +14,7 @@ use Rattle.vr_ci.specs.Interval as ci
 use Rattle.vr_seqset.specs.Entry.{Entry}
 use Rattle.vr_space.specs.Room.{Range, is_in}
 use Rattle.vr_space.specs.Keyed.{HoldRanges, IsKept, Keyed, content_from, entries_of, entry_block}
-use Rattle.vr_space.specs.Keyed.{items_of, key_of, placed, range_of, records_in}
+use Rattle.vr_space.specs.Keyed.{items_of, key_of, low_of, placed, range_of, records_in}
 use Rattle.vr_space.specs.Part.{IsPlaceOf, KeyedShape, NumberedShape, Shape, Stands, item_of}
 use Rattle.vr_space.specs.Part.{record_read}
 use Rattle.vr_space.proofs.Adding.{content_item}
@@ -90,10 +90,11 @@ read-place (KeyedShape part) image place stands some =
     by_item None is =
         absurd (some (ap (λ (item : Option Item). option_and_then record_of item) is))
     by_item (Some item) is =
+        let low = low_of (block_at image part.head) in
         let entries = entries_of (block_at image part.head) in
-        found-key part.key (content_from part image None entries) place
-        (content-keys part image None entries stands.1.intervals) item
-        (sym (ap (λ (content : Content). item_at content place) stands.1.records)
+        found-key part.key (content_from part image low entries) place
+        (content-keys part image low entries stands.1.0.intervals) item
+        (sym (ap (λ (content : Content). item_at content place) stands.1.0.records)
         ∙ content_item (KeyedShape part) image stands.0 stands.1 place ∙ is)
 read-place (NumberedShape part) image place stands some =
     found-place part image place

@@ -1,5 +1,5 @@
 -- The items of a part's content: each is a record that may stand at its place.
-use Rattle.std.proofs.Common.{◌≡◌, ℕ, List, [], ◌∷◌, ◌++◌, Option, Some, None, refl, ap, ◌∙◌, map}
+use Rattle.std.proofs.Common.{◌≡◌, ℕ, List, [], ◌∷◌, ◌++◌, Option, Some, refl, ap, ◌∙◌, map}
 use Rattle.std.proofs.Common.{◌+◌, arith, subst, sym}
 use Rattle.std.specs.Prelude.{filter, cond, All, Bool, true, false}
 use Rattle.std.specs.declared.cmp.Ordering.{Ordering}
@@ -13,7 +13,7 @@ use Rattle.vr_ci.specs.Interval as ci
 use Rattle.vr_seqset.specs.Entry.{Entry}
 use Rattle.vr_space.specs.Room.{Range, is_in}
 use Rattle.vr_space.specs.Keyed.{HoldRanges, IsKept, Keyed, content_from, entries_of, entry_block}
-use Rattle.vr_space.specs.Keyed.{items_of, placed, range_of, records_in}
+use Rattle.vr_space.specs.Keyed.{items_of, low_of, placed, range_of, records_in}
 use Rattle.vr_space.specs.Numbered.{start_of}
 use Rattle.vr_space.specs.Part.{IsRecordOf, KeyedShape, NumberedShape, Shape, StandsFor}
 use Rattle.vr_space.proofs.Numbers.{numbers-below, span_up}
@@ -68,8 +68,9 @@ from-records part image low (entry ∷ entries) hold = append-records part
 
 content-records : (part : Keyed) (image : Image) (content : Content)
     → StandsFor (KeyedShape part) image content → AreRecords part content
-content-records part image content stands = subst (AreRecords part) (sym stands.records)
-    (from-records part image None (entries_of (block_at image part.head)) stands.intervals)
+content-records part image content stands = subst (AreRecords part) (sym stands.0.records)
+    (from-records part image (low_of (block_at image part.head))
+    (entries_of (block_at image part.head)) stands.0.intervals)
 
 read-record : (part : Keyed) (content : Content) (place bytes : List ℕ) → AreRecords part content
     → item_at content place ≡ Some (Standing bytes) → IsRecordOf (KeyedShape part) place bytes

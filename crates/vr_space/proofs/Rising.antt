@@ -1,6 +1,6 @@
 -- The places of a content that blocks stand for ascend.
 use Rattle.std.proofs.Common.{◌≡◌, ℕ, Bool, true, false, List, [], ◌∷◌, ◌++◌, map, Option, Some}
-use Rattle.std.proofs.Common.{None, refl, sym, ap, subst, ◌∙◌, true≢false, suc, arith}
+use Rattle.std.proofs.Common.{refl, sym, ap, subst, ◌∙◌, true≢false, suc, arith}
 use Rattle.std.proofs.Common.{◌+◌, ◌^◌, ◌<◌, ◌≤◌}
 use Rattle.std.specs.Prelude.{filter, cond}
 use Rattle.std.specs.List.{AllByRecursion}
@@ -16,13 +16,14 @@ use Rattle.vr_types.specs.Content.{Item}
 use Rattle.vr_types.specs.Content.Item.{Standing, Withdrawn}
 use Rattle.vr_types.specs.Fields.{four}
 use Rattle.vr_types.specs.Geometry.{area_count}
-use Rattle.vr_types.specs.Image.{Image, block_at}
+use Rattle.vr_types.specs.Image.{Block, Image, block_at}
 use Rattle.vr_types.proofs.CallerLemmas.{same_place}
 use Rattle.vr_ci.specs.Interval as ci
 use Rattle.vr_seqset.specs.Entry.{Entry}
 use Rattle.vr_space.specs.Room.{Range, is_in, is_above}
 use Rattle.vr_space.specs.Keyed.{Keyed, HoldRanges, entry_block, entries_of, items_of, key_of}
 use Rattle.vr_space.specs.Keyed.{placed, records_of, records_in, range_of, content_from}
+use Rattle.vr_space.specs.Keyed.{low_of}
 use Rattle.vr_space.specs.Numbered.{start_of}
 use Rattle.vr_space.specs.Part.{Shape, KeyedShape, NumberedShape, StandsFor}
 use Rattle.vr_space.specs.Rosters.{Numbered}
@@ -236,12 +237,13 @@ items-lengths part from to ((place, item) ∷ content) (number, is, least, below
 pub stands_content : (shape : Shape) (image : Image) (content : Content)
     → StandsFor shape image content → IsContent content
 stands_content (KeyedShape part) image content stands =
-    subst IsContent (sym stands.records) (record {
+    let top : Block = block_at image part.head in
+    subst IsContent (sym stands.0.records) (record {
       ascends = sorted-rising _
-          (content-rises part image None (entries_of (block_at image part.head))
-          (head-ascends part (block_at image part.head) stands.head) stands.intervals);
+          (content-rises part image (low_of top) (entries_of top)
+          (head-ascends part top stands.0.head) stands.0.intervals);
       lengths = All-from_recursion HasLength _
-          (content-lengths part image None (entries_of (block_at image part.head)));
+          (content-lengths part image (low_of top) (entries_of top));
     })
 stands_content (NumberedShape part) image content stands =
     let start = start_of part in
@@ -257,5 +259,6 @@ stands_content (NumberedShape part) image content stands =
 -- and one content at most
 pub one_content : (shape : Shape) (image : Image) (one other : Content) → StandsFor shape image one
     → StandsFor shape image other → one ≡ other
-one_content (KeyedShape part) image one other first second = first.records ∙ sym second.records
+one_content (KeyedShape part) image one other first second =
+    first.0.records ∙ sym second.0.records
 one_content (NumberedShape part) image one other first second = first.records ∙ sym second.records

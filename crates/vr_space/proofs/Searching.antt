@@ -3,7 +3,7 @@ use Rattle.std.proofs.Common.{◌≡◌, ◌≢◌, ◌<◌, ◌≤◌, ◌+◌,
 use Rattle.std.proofs.Common.{true, false, List, [], ◌∷◌, ◌++◌, length, map, Option, Some}
 use Rattle.std.proofs.Common.{None, All, refl, sym, ap, subst, ◌∙◌, arith, unwrap_or, append_assoc}
 use Rattle.std.proofs.Common.{◌/◌, get_or, ◌-◌, ◌↔◌, true≢false}
-use Rattle.std.specs.Prelude.{cond, min, slice_index}
+use Rattle.std.specs.Prelude.{cond, min, slice_index, IfSome, IfNone}
 use Rattle.std.specs.List.{position, position_from, slice_get, flat_map, AllByRecursion}
 use Rattle.std.specs.List.Sorted.{IsStrictlySortedBy}
 use Rattle.std.specs.Ordering.{is_le}
@@ -27,10 +27,11 @@ use Rattle.vr_seqset.specs.SequenceSet.{SequenceSet, KeepsRules}
 use Rattle.vr_seqset.proofs.CallerLemmas.{All-left, All-right}
 use Rattle.std.proofs.lemmas.Option.{slice_get_within, get_or_from_slice_get}
 use Rattle.vr_seqset.specs.Search.{reaches}
-use Rattle.vr_space.specs.Room.{Range}
+use Rattle.vr_space.specs.Room.{Range, is_above}
 use Rattle.vr_space.specs.Keyed.{Keyed, IsKept, HoldsRange, range_of, entry_for, key_of, placed}
-use Rattle.vr_space.specs.Keyed.{items_of, HoldRanges, entry_block}
+use Rattle.vr_space.specs.Keyed.{items_of, HoldRanges, entry_above, entry_block}
 use Rattle.vr_space.specs.Search.{AreUpTo, low_before}
+use Rattle.vr_space.proofs.KeyedContent.{leads-above}
 use Rattle.vr_space.proofs.Places.{by_other, same_is_equal, is_past}
 
 -- ---- entries
@@ -95,18 +96,40 @@ none-from place low (entry ∷ entries) k is =
     by_test true same more = absurd cc
     by_test false same more = more same
 
-pub found-entry : (place : List ℕ) (entries : List Entry) (i : ℕ) (found : Entry)
-    → position (reaches place) entries ≡ Some i → slice_get entries i ≡ Some found
-    → entry_for None entries place ≡ Some (range_of (low_before None entries i) found, found)
-found-entry place entries i found is has =
+pub found-entry : (place : List ℕ) (low : Option (List ℕ)) (entries : List Entry) (i : ℕ)
+    (found : Entry) → position (reaches place) entries ≡ Some i → slice_get entries i ≡ Some found
+    → entry_for low entries place ≡ Some (range_of (low_before low entries i) found, found)
+found-entry place low entries i found is has =
     let shifted : i ≡ 0 + i = omega arith in
-    found-from place None entries 0 i found
+    found-from place low entries 0 i found
     (sym (position_from-zero (reaches place) entries) ∙ is ∙ ap (λ (n : ℕ). Some n) shifted) has
 
-pub found-none : (place : List ℕ) (entries : List Entry)
-    → position (reaches place) entries ≡ None → entry_for None entries place ≡ None
-found-none place entries is =
-    none-from place None entries 0 (sym (position_from-zero (reaches place) entries) ∙ is)
+pub found-none : (place : List ℕ) (low : Option (List ℕ)) (entries : List Entry)
+    → position (reaches place) entries ≡ None → entry_for low entries place ≡ None
+found-none place low entries is =
+    none-from place low entries 0 (sym (position_from-zero (reaches place) entries) ∙ is)
+
+-- the same of what a search answers for a place above the low one
+pub above-found : (place : List ℕ) (low : Option (List ℕ)) (entries : List Entry)
+    (found : Option (ℕ × Entry)) → is_above low place ≡ true
+    → IfSome found (λ f. position (reaches place) entries ≡ Some f.0)
+    → IfSome found (λ f. slice_get entries f.0 ≡ Some f.1)
+    → IfSome found (λ f. entry_above low entries place
+    ≡ Some (range_of (low_before low entries f.0) f.1, f.1))
+above-found place low entries None above first there = tt
+above-found place low entries (Some found) above first there =
+    leads-above low entries place above
+    ∙ found-entry place low entries found.0 found.1 first there
+
+pub above-none : (place : List ℕ) (low : Option (List ℕ)) (entries : List Entry)
+    (found : Option (ℕ × Entry)) → IfNone found (position (reaches place) entries ≡ None)
+    → IfNone found (entry_above low entries place ≡ None)
+above-none place low entries None none = by_test (is_above low place)
+  where
+    by_test : (b : Bool) → cond b (entry_for low entries place) None ≡ None
+    by_test true = found-none place low entries none
+    by_test false = refl
+above-none place low entries (Some found) none = tt
 
 -- it begins where the entry before ends
 low-after : (low : Option (List ℕ)) (entries : List Entry) (i : ℕ) (d : Entry)
@@ -116,12 +139,12 @@ low-after low (entry ∷ entries) zero d within = refl
 low-after low (entry ∷ entries) (suc i) d within =
     low-after (Some entry.high) entries i d (omega (arith, within))
 
-pub low_at : (entries : List Entry) (n : ℕ) (d : Entry) → n ≢ 0 → n < length entries
-    → low_before None entries n ≡ Some (get_or entries (n - 1) d).high
-low_at entries zero d some within = absurd (some refl)
-low_at entries (suc n) d some within =
+pub low_at : (low : Option (List ℕ)) (entries : List Entry) (n : ℕ) (d : Entry) → n ≢ 0
+    → n < length entries → low_before low entries n ≡ Some (get_or entries (n - 1) d).high
+low_at low entries zero d some within = absurd (some refl)
+low_at low entries (suc n) d some within =
     let same : suc n - 1 ≡ n = omega arith in
-    low-after None entries n d (omega (arith, within))
+    low-after low entries n d (omega (arith, within))
     ∙ ap (λ (k : ℕ). Some (get_or entries k d).high) (sym same)
 
 -- the range that is answered

@@ -11,7 +11,7 @@ use Rattle.vr_types.specs.Content.Item.{Standing}
 use Rattle.vr_types.specs.Image.{Image, block_at}
 use Rattle.vr_ci.specs.Interval as ci
 use Rattle.vr_seqset.specs.Entry.{Entry}
-use Rattle.vr_space.specs.Keyed.{Keyed, entries_of, entry_block, entry_for, items_of, placed}
+use Rattle.vr_space.specs.Keyed.{Keyed, entry_block, entry_in, items_of, placed}
 use Rattle.vr_space.specs.Keyed.{way_in}
 use Rattle.vr_space.specs.Numbered.{left_in}
 use Rattle.vr_space.specs.Part.{KeyedShape, NumberedShape, Shape, WithdrawsNone, item_of, left_by}
@@ -47,7 +47,7 @@ way-stands part image place (Some at) =
 pub item-read : (shape : Shape) (image : Image) (place : List ℕ) → WithdrawsNone shape
     → item_of shape image place ≡ option_map Standing (record_read shape image place)
 item-read (KeyedShape part) image place none =
-    way-stands part image place (entry_for None (entries_of (block_at image part.head)) place)
+    way-stands part image place (entry_in (block_at image part.head) place)
 item-read (NumberedShape part) image place relative = slot-stands part image place relative
 
 -- and what a call leaves there is the record that it gives

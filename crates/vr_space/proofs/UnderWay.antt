@@ -15,13 +15,13 @@ use Rattle.vr_ci_match.specs.Fault.{is_busy}
 use Rattle.vr_seqset.specs.Entry.{Entry}
 use Rattle.vr_seqset.specs.Numbers.{intervals_used}
 use Rattle.vr_space.specs.Room.{Range}
-use Rattle.vr_space.specs.Keyed.{Keyed, IsHead, HoldsRange, IsKeyedSound, entries_of, entry_for}
-use Rattle.vr_space.specs.Keyed.{InArea, records_in}
+use Rattle.vr_space.specs.Keyed.{Keyed, IsHead, HoldsRange, IsKeyedSound, entries_of, entry_in}
+use Rattle.vr_space.specs.Keyed.{InArea, low_of, records_in}
 use Rattle.vr_space.specs.Split.{SplitNow, free_from, free_interval}
 use Rattle.vr_space.specs.UnderWay.{IsBegun, IsCopied, IsSwitched, IsReadyFor, KeyedUnderWay}
 use Rattle.vr_space.specs.UnderWay.{interval_block, above_cut}
 use Rattle.vr_space.specs.Met.{Met, IsMet}
-use Rattle.vr_space.proofs.KeyedSound.{IsBlock, entry-in, head-in}
+use Rattle.vr_space.proofs.KeyedSound.{IsBlock, entry-in-above, head-in}
 
 -- the blocks that a split under way has to do with
 abbrev pub IsSplitBlock : Keyed → SplitNow → ℕ → Type 0
@@ -37,12 +37,13 @@ pub record StaysAt (a b : Seen) (n : ℕ) : Type 0 where
 
 -- the interval of an entry that is found is in the area
 pub found-in : (part : Keyed) (top : Block) (place : List ℕ) (at : Range × Entry)
-    → IsHead part top → entry_for None (entries_of top) place ≡ Some at
+    → IsHead part top → entry_in top place ≡ Some at
     → slice_index at.1.intervals 0 < part.area
 found-in part top place at head is =
     let within : IfSome (Some at) (λ f. slice_index f.1.intervals 0 < part.area) =
     subst (λ (o : Option (Range × Entry)). IfSome o (λ f. slice_index f.1.intervals 0 < part.area))
-    is (entry-in part.area None (entries_of top) place (head-in part top head)) in within
+    is (entry-in-above part.area (low_of top) (entries_of top) place (head-in part top head)) in
+    within
 
 free-below : (k n m : ℕ) (used : List ℕ) → free_from k n used ≡ Some m → m < n + k
 free-below zero n m used is = absurd cc
@@ -76,7 +77,7 @@ abbrev pub begun-stays : (part : Keyed) (split : SplitNow) (a b : Image)
 begun-stays part split a b head is = record {
   at = is.at;
   length = is.length;
-  found = ap (λ (top : Block). entry_for None (entries_of top) split.cut) head ∙ is.found;
+  found = ap (λ (top : Block). entry_in top split.cut) head ∙ is.found;
   old = is.old;
   below = is.below;
   free = ap (free_interval part) head ∙ is.free;
@@ -105,7 +106,7 @@ module _ (part : Keyed) (split : SplitNow) (a b : Seen) where
       (omega (arith, sound.area, below), (omega arith, omega (arith, below))) (inr (inr refl))
 
   old-below : IsKeyedSound part a → Left a a.cur → (at : Range × Entry)
-      → entry_for None (entries_of (block_at a.cur part.head)) split.cut ≡ Some at
+      → entry_in (block_at a.cur part.head) split.cut ≡ Some at
       → slice_index at.1.intervals 0 ≡ split.old → split.old < part.area
   old-below sound left at found is = subst (λ (n : ℕ). n < part.area) is
       (found-in part (block_at a.cur part.head) split.cut at (top-head sound left) found)
@@ -134,7 +135,7 @@ module _ (part : Keyed) (split : SplitNow) (a b : Seen) where
       let old = old-stays sound stay (old-below sound left is.at is.found is.interval) in
       record {
         at = is.at;
-        found = ap (λ (top : Block). entry_for None (entries_of top) split.cut)
+        found = ap (λ (top : Block). entry_in top split.cut)
             (head-stays sound stay).cur ∙ is.found;
         interval = is.interval;
         high = is.high;
@@ -168,7 +169,7 @@ met-stays part a b met head top still is =
     found-in part (block_at a part.head) met.place (met.range, is.entry) head is.leads in
     record {
       entry = is.entry;
-      leads = ap (λ (block : Block). entry_for None (entries_of block) met.place) top ∙ is.leads;
+      leads = ap (λ (block : Block). entry_in block met.place) top ∙ is.leads;
       number = is.number;
       still = still (omega (arith, is.number), omega (arith, is.number, below)) ∙ is.still;
     }

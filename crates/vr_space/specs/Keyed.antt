@@ -1,10 +1,12 @@
--- The blocks of a keyed part of one area: its head, which is a sequence-set record of one entry or
--- more, and its control intervals (DFSMS Using Data Sets, key-sequenced data sets). Which content
--- they stand for, and what a crash may leave of them, are this project's own rules.
+-- The blocks of one area of a keyed part: its head, which is a sequence-set record of one entry or
+-- more, and its control intervals (DFSMS Using Data Sets, key-sequenced data sets). A part is a
+-- chain of such areas; nothing here asks that this one is the first or the last of its chain but
+-- `IsWhole`. Which content the blocks stand for, and what a crash may leave of them, are this
+-- project's own rules.
 use Rattle.std.specs.Prelude.{◌≡◌, ℕ, ◌+◌, ◌<◌, ◌≤◌, true, false, IsTrue, List, [], ◌∷◌, ◌++◌}
 use Rattle.std.specs.Prelude.{length, take, drop, map, filter, All, Option, Some, None, slice_index}
 use Rattle.std.specs.Prelude.{replicate, if◌then◌else◌}
-use Rattle.std.specs.List.{flat_map}
+use Rattle.std.specs.List.{flat_map, last_or}
 use Rattle.std.specs.List.Sorted.{IsStrictlySortedBy}
 use Rattle.std.specs.Ordering.{is_le}
 use Rattle.vr_types.specs.Content.{Content, Placed, Item, place_cmp, item_at}
@@ -18,11 +20,12 @@ use Rattle.vr_ci_match.specs.Fault.{free_end, is_busy}
 use Rattle.vr_ci.specs.Interval as ci
 use Rattle.vr_ci.specs.Reading.{items_at, rdfs_in}
 use Rattle.vr_seqset.specs.Entry.{Entry}
-use Rattle.vr_seqset.specs.SequenceSet.{IsSequenceSet}
+use Rattle.vr_seqset.specs.SequenceSet.{SequenceSet, IsSequenceSet}
 use Rattle.vr_seqset.specs.Reading.{record_in}
 use Rattle.vr_space.specs.Owners.{Owners}
 use Rattle.vr_space.specs.Way.{Way, Found, Reads}
-use Rattle.vr_space.specs.Room.{Lengths, Range, is_in, lengths_in, with_lengths, HaveRoom}
+use Rattle.vr_space.specs.Room.{Lengths, Range, is_above, is_in, lengths_in, with_lengths}
+use Rattle.vr_space.specs.Room.{HaveRoom}
 
 -- Where a keyed part is, and what its records are: the number of the part, the block of its head,
 -- how many intervals an area has, the bytes of a block; the length and offset of the key, and the
@@ -59,6 +62,18 @@ pub record IsValid (part : Keyed) (bytes : List ℕ) : Type 0 where
 abbrev pub entries_of : Block → List Entry
 entries_of top = (record_in top).entries
 
+-- where the first range of a record begins: nowhere in the first of a chain, else at its low place
+abbrev pub low_in : SequenceSet → Option (List ℕ)
+low_in s = if s.first then None else Some s.low
+
+-- the same of a head
+abbrev pub low_of : Block → Option (List ℕ)
+low_of top = low_in (record_in top)
+
+-- the high place of the last entry
+abbrev pub last_high : List Entry → Option (List ℕ)
+last_high entries = last_or None (map (λ (entry : Entry). entry.high) entries)
+
 -- the block of the interval of an entry
 abbrev pub entry_block : Keyed → Entry → ℕ
 entry_block part entry = part.head + 1 + slice_index entry.intervals 0
@@ -76,20 +91,31 @@ records_of part block = map (placed part) (items_of block)
 
 -- ---- what the blocks stand for
 
--- The block is a head of the part: of one area and without an index, each entry with one interval,
--- and the last range up to the greatest key.
+-- The block is a head of the part: without an index, each entry with one interval. It may be any of
+-- a chain.
 pub record IsHead (part : Keyed) (top : Block) : Type 0 where
   pub spelled : IsSequenceSet part.area top (record_in top)
   pub size : length top ≡ part.size
   pub number : (record_in top).part ≡ part.part
   pub key : length (record_in top).low ≡ part.key
-  pub first : (record_in top).first ≡ true
-  pub next : (record_in top).next ≡ None
   pub index : (record_in top).top ≡ 0
   pub index_area : (record_in top).index_area ≡ None
   pub single : All (λ (entry : Entry). length entry.intervals ≡ 1) (entries_of top)
+
+-- It is the head of a part of one area: the first and the last of its chain, and its last range
+-- goes up to the greatest key.
+pub record IsWhole (part : Keyed) (top : Block) : Type 0 where
+  pub first : (record_in top).first ≡ true
+  pub next : (record_in top).next ≡ None
   pub last : (before : List Entry) (entry : Entry) → entries_of top ≡ before ++ entry ∷ []
       → entry.high ≡ replicate part.key 255
+
+-- The head has the ends of another: its place in the chain, and where its ranges begin and end.
+pub record HasEnds (old new : Block) : Type 0 where
+  pub first : (record_in new).first ≡ (record_in old).first
+  pub low : (record_in new).low ≡ (record_in old).low
+  pub next : (record_in new).next ≡ (record_in old).next
+  pub last : last_high (entries_of new) ≡ last_high (entries_of old)
 
 -- a record in an interval: live, and valid
 pub record IsKept (part : Keyed) (item : ci.Item) : Type 0 where
@@ -135,11 +161,13 @@ content_from part image low (entry ∷ entries) =
     records_in part (range_of low entry) (block_at image (entry_block part entry))
     ++ content_from part image (Some entry.high) entries
 
--- The blocks stand for the content.
+-- The blocks of the area stand for the content.
 pub record KeyedStandsFor (part : Keyed) (image : Image) (content : Content) : Type 0 where
   pub head : IsHead part (block_at image part.head)
-  pub intervals : HoldRanges part image None (entries_of (block_at image part.head))
-  pub records : content ≡ content_from part image None (entries_of (block_at image part.head))
+  pub intervals : HoldRanges part image (low_of (block_at image part.head))
+      (entries_of (block_at image part.head))
+  pub records : content ≡ content_from part image (low_of (block_at image part.head))
+      (entries_of (block_at image part.head))
 
 -- ---- the way to a place
 
@@ -150,6 +178,14 @@ entry_for low (entry ∷ entries) place =
     if is_le (place_cmp place entry.high) then Some (range_of low entry, entry) else entry_for
     (Some entry.high) entries place
 
+-- the same for a place above this low one alone: those up to it are of the areas before
+abbrev pub entry_above : Option (List ℕ) → List Entry → List ℕ → Option (Range × Entry)
+entry_above low entries place = if is_above low place then entry_for low entries place else None
+
+-- the entry of a head whose range holds the place, with the range
+abbrev pub entry_in : Block → List ℕ → Option (Range × Entry)
+entry_in top place = entry_above (low_of top) (entries_of top) place
+
 abbrev pub way_in : Keyed → List ℕ → Option (Range × Entry) → Way
 way_in part place None = Found None
 way_in part place (Some found) =
@@ -157,7 +193,7 @@ way_in part place (Some found) =
 
 -- by way of this head
 abbrev pub way_under : Keyed → List ℕ → Block → Way
-way_under part place top = way_in part place (entry_for None (entries_of top) place)
+way_under part place top = way_in part place (entry_in top place)
 
 -- over the head and one interval
 abbrev pub keyed_way : Keyed → List ℕ → Way
@@ -180,12 +216,22 @@ pub record IsKeyedSound (part : Keyed) (now : Seen) : Type 0 where
   pub size : now.size ≡ part.size
   pub heads : (top : Block) → now.may part.head top → IsHead part top
   pub intervals : (top : Block) → now.may part.head top
-      → EachMayLeave part now None (entries_of top) (HoldsRange part)
+      → EachMayLeave part now (low_of top) (entries_of top) (HoldsRange part)
 
 -- Between two events: it leaves the current head alone.
 pub record IsKeyedAtRest (part : Keyed) (now : Seen) : Type 0 where
   pub sound : IsKeyedSound part now
   pub one_head : Only now part.head (λ top. top ≡ block_at now.cur part.head)
+
+-- It leaves heads of a part of one area alone.
+abbrev pub AreWhole : Keyed → Seen → Type 0
+AreWhole part now = Only now part.head (IsWhole part)
+
+-- Each head that a crash may leave has the ends of one that it might have left before. So whole
+-- heads stay whole.
+abbrev pub KeepsEnds : Keyed → Seen → Seen → Type 0
+KeepsEnds part old new = (top : Block) → new.may part.head top
+    → (before : Block) × old.may part.head before × HasEnds before top
 
 -- ---- room
 
@@ -203,7 +249,7 @@ lengths_of part kept range block =
 pub record KeepsRoom (part : Keyed) (kept : Lengths) (now : Seen) : Type 0 where
   pub places : All (λ (entry : List ℕ × ℕ). length entry.0 ≡ part.key) kept
   pub each : (top : Block) → now.may part.head top
-      → EachMayLeave part now None (entries_of top)
+      → EachMayLeave part now (low_of top) (entries_of top)
       (λ range block. HaveRoom part.size (lengths_of part kept range block))
 
 -- In an image: what is kept for the range of each interval has room beside what it has.

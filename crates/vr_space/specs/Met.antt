@@ -1,11 +1,11 @@
 -- What a part keeps of the blocks that its last calls of `room` met, so that `set` at one of their
 -- places reads nothing. The rules are this project's own.
-use Rattle.std.specs.Prelude.{◌≡◌, ℕ, List, ◌∷◌, Some, None, take}
+use Rattle.std.specs.Prelude.{◌≡◌, ℕ, List, ◌∷◌, Some, take}
 use Rattle.std.specs.Prelude.{filter, not, bytes_eq}
 use Rattle.vr_types.specs.Image.{Block, Image, block_at}
 use Rattle.vr_seqset.specs.Entry.{Entry}
 use Rattle.vr_space.specs.Room.{Range}
-use Rattle.vr_space.specs.Keyed.{Keyed, entries_of, entry_block, entry_for}
+use Rattle.vr_space.specs.Keyed.{Keyed, entry_block, entry_in}
 
 -- The interval of a place: the range of its entry, its block, and what the block has.
 pub record Met : Type 0 where
@@ -17,8 +17,7 @@ pub record Met : Type 0 where
 -- the head leads to it, and the block still has that
 pub record IsMet (part : Keyed) (image : Image) (met : Met) : Type 0 where
   pub entry : Entry
-  pub leads : entry_for None (entries_of (block_at image part.head)) met.place
-      ≡ Some (met.range, entry)
+  pub leads : entry_in (block_at image part.head) met.place ≡ Some (met.range, entry)
   pub number : entry_block part entry ≡ met.number
   pub still : block_at image met.number ≡ met.block
 

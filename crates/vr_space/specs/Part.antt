@@ -29,8 +29,9 @@ use Rattle.vr_space.specs.Split.{IsIntervalStage, keyed_room, keyed_stage, keyed
 use Rattle.vr_space.specs.UnderWay.{KeyedUnderWay}
 use Rattle.vr_space.specs.Met.{IsMet}
 use Rattle.vr_space.specs.Owners.{Owners}
-use Rattle.vr_space.specs.Keyed.{InArea, IsOwned, Keyed, keyed_way, KeyedStandsFor, IsKeyedSound}
-use Rattle.vr_space.specs.Keyed.{IsKeyedAtRest, KeepsRoom, HaveRooms, IsValid, entries_of, key_of}
+use Rattle.vr_space.specs.Keyed.{AreWhole, InArea, IsOwned, IsWhole, Keyed, keyed_way}
+use Rattle.vr_space.specs.Keyed.{KeyedStandsFor, IsKeyedSound, IsKeyedAtRest, KeepsRoom, HaveRooms}
+use Rattle.vr_space.specs.Keyed.{IsValid, entries_of, key_of, low_of}
 use Rattle.vr_space.specs.Rosters.{IsInArea, IsOf, Numbered}
 use Rattle.vr_space.specs.Numbered.{IsKeptLength, IsNumberPlace, IsNumberedAtRest, IsNumberedLength}
 use Rattle.vr_space.specs.Numbered.{IsNumberedOn, IsNumberedRecord, IsNumberedSound, KeepsNumbered}
@@ -81,9 +82,11 @@ abbrev pub IsRecordOf : Shape → List ℕ → List ℕ → Type 0
 IsRecordOf (KeyedShape part) place bytes = IsValid part bytes × (key_of part bytes ≡ place)
 IsRecordOf (NumberedShape part) place bytes = IsNumberedRecord part place bytes
 
--- the blocks of the image stand for the content
+-- The blocks of the image stand for the content. A keyed part has one area today, whose head is the
+-- first and the last of its chain.
 abbrev pub StandsFor : Shape → Image → Content → Type 0
-StandsFor (KeyedShape part) image content = KeyedStandsFor part image content
+StandsFor (KeyedShape part) image content =
+    KeyedStandsFor part image content × IsWhole part (block_at image part.head)
 StandsFor (NumberedShape part) image content = NumberedStandsFor part image content
 
 -- they stand for some content
@@ -98,12 +101,14 @@ way_to (NumberedShape part) place = numbered_way part place
 -- every content that a crash may leave of a block is in order, and leads to blocks of the part
 -- alone
 abbrev pub IsSound : Shape → Owners → Seen → Type 0
-IsSound (KeyedShape part) owners now = IsKeyedSound part now × IsOwned part owners
+IsSound (KeyedShape part) owners now =
+    IsKeyedSound part now × AreWhole part now × IsOwned part owners
 IsSound (NumberedShape part) owners now = IsNumberedSound part owners now
 
 -- and blocks that say where others are have one content
 abbrev pub IsAtRest : Shape → Owners → Seen → Type 0
-IsAtRest (KeyedShape part) owners now = IsKeyedAtRest part now × IsOwned part owners
+IsAtRest (KeyedShape part) owners now =
+    IsKeyedAtRest part now × AreWhole part now × IsOwned part owners
 IsAtRest (NumberedShape part) owners now = IsNumberedAtRest part owners now
 
 -- the same, whichever blocks are the part's
@@ -123,7 +128,8 @@ HasKeptRoom (NumberedShape part) kept now = KeepsNumbered part kept now.may
 -- the same in one image
 abbrev pub HasRoom : Shape → Lengths → Image → Type 0
 HasRoom (KeyedShape part) kept image =
-    HaveRooms part kept image None (entries_of (block_at image part.head))
+    HaveRooms part kept image (low_of (block_at image part.head))
+    (entries_of (block_at image part.head))
 HasRoom (NumberedShape part) kept image = KeepsNumbered part kept (IsOf image)
 
 -- the item at a place

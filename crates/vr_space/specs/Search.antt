@@ -1,7 +1,7 @@
 -- Where a place is found in a head or among the records of an interval.
 use Rattle.std.specs.Prelude.{◌≡◌, ◌↔◌, ℕ, zero, suc, ◌+◌, ◌≤◌, IsTrue, List, [], ◌∷◌, All}
 use Rattle.std.specs.Prelude.{map, take, drop, length}
-use Rattle.std.specs.Prelude.{Option, Some, None, IfSome, slice_get, slice_index}
+use Rattle.std.specs.Prelude.{Option, Some, IfSome, slice_get, slice_index}
 use Rattle.std.specs.Borrow.{Bor}
 use Rattle.std.specs.List.{position}
 use Rattle.std.specs.Option.{option_map}
@@ -13,7 +13,7 @@ use Rattle.vr_ci.specs.Interval as ci
 use Rattle.vr_seqset.specs.Entry.{Entry}
 use Rattle.vr_seqset.specs.Search.{reaches as entry_reaches}
 use Rattle.vr_space.specs.Room.{Range}
-use Rattle.vr_space.specs.Keyed.{Keyed, key_of, entries_of, entry_for, items_of, range_of}
+use Rattle.vr_space.specs.Keyed.{Keyed, key_of, entries_of, entry_in, items_of, low_of, range_of}
 use Rattle.vr_space.specs.declared.search.FoundEntry.{FoundEntry}
 
 -- where the range of an entry of this number begins: at the end of the one before
@@ -37,7 +37,7 @@ pub record HasPlaces (key : ℕ) (found : FoundEntry) : Type 0 where
 -- It is the entry whose range holds the place.
 pub record IsEntryFor (top : Block) (place : List ℕ) (found : FoundEntry) : Type 0 where
   pub entry : Entry
-  pub reaches : entry_for None (entries_of top) place ≡ Some (range_found found, entry)
+  pub reaches : entry_in top place ≡ Some (range_found found, entry)
   pub interval : found.interval ≡ slice_index entry.intervals 0
   pub number : slice_get (entries_of top) found.number ≡ Some entry
   pub first : position (entry_reaches place) (entries_of top) ≡ Some found.number
@@ -47,7 +47,7 @@ pub record IsEntryFor (top : Block) (place : List ℕ) (found : FoundEntry) : Ty
 pub record IsEntryAt (top : Block) (n : ℕ) (found : FoundEntry) : Type 0 where
   pub entry : Entry
   pub number : slice_get (entries_of top) n ≡ Some entry
-  pub range : range_found found ≡ range_of (low_before None (entries_of top) n) entry
+  pub range : range_found found ≡ range_of (low_before (low_of top) (entries_of top) n) entry
   pub interval : found.interval ≡ slice_index entry.intervals 0
 
 -- the keys of the records of a block

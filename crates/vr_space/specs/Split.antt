@@ -11,7 +11,7 @@ use Rattle.vr_seqset.specs.Numbers.{intervals_used}
 use Rattle.vr_space.specs.declared.room.Room as answer
 use Rattle.vr_space.specs.declared.room.Room.TheVariants.{Ready, Stage, NoSpace}
 use Rattle.vr_space.specs.Room.{Lengths, Range, with_length, have_room}
-use Rattle.vr_space.specs.Keyed.{Keyed, entries_of, entry_block, entry_for, lengths_of}
+use Rattle.vr_space.specs.Keyed.{Keyed, entries_of, entry_block, entry_in, lengths_of}
 
 -- A split of a control interval under way: the interval that is cut, the free one that gets the
 -- upper records, the greatest place that stays below the cut, and the stage that is next.
@@ -62,7 +62,7 @@ stage_in split (Some found) = stage_at split found.1
 
 abbrev pub keyed_stage : Keyed → Option SplitNow → Image → List ℕ → Option StageKind
 keyed_stage part split image place =
-    stage_in split (entry_for None (entries_of (block_at image part.head)) place)
+    stage_in split (entry_in (block_at image part.head) place)
 
 -- a record of this length has room in the interval of its place
 abbrev pub fits_in : Keyed → Image → Lengths → List ℕ → ℕ → Option (Range × Entry) → Bool
@@ -74,7 +74,7 @@ fits_in part image kept place n (Some found) =
 
 abbrev pub keyed_fits : Keyed → Image → Lengths → List ℕ → ℕ → Bool
 keyed_fits part image kept place n =
-    fits_in part image kept place n (entry_for None (entries_of (block_at image part.head)) place)
+    fits_in part image kept place n (entry_in (block_at image part.head) place)
 
 -- What stands in the way of a record of this length at this place: a stage of a split of its
 -- interval; the next stage of a split, where the interval lacks room; or nothing. Where no interval

@@ -1,6 +1,6 @@
--- What the stages of a split under way left of the blocks of a keyed part: each is a condition of
--- the next. A split of a control interval is DFSMS Using Data Sets; its stages are this project's
--- own.
+-- What the stages of a split under way left of the blocks of an area of a keyed part: each is a
+-- condition of the next. A split of a control interval is DFSMS Using Data Sets; its stages are
+-- this project's own.
 use Rattle.std.specs.Prelude.{◌≡◌, ℕ, ◌+◌, true, List, length, Option, Some, None, slice_index}
 use Rattle.std.specs.declared.cmp.Ordering.TheVariants.{Less}
 use Rattle.vr_types.specs.Content.{place_cmp}
@@ -11,7 +11,7 @@ use Rattle.vr_types.specs.declared.unit.StageKind.TheVariants.{CiCopy, CiSwitch,
 use Rattle.vr_ci_match.specs.Fault.{is_busy}
 use Rattle.vr_seqset.specs.Entry.{Entry}
 use Rattle.vr_space.specs.Room.{Range}
-use Rattle.vr_space.specs.Keyed.{Keyed, HoldsRange, entries_of, entry_for, records_in}
+use Rattle.vr_space.specs.Keyed.{Keyed, HoldsRange, entry_in, records_in}
 use Rattle.vr_space.specs.Split.{SplitNow, free_interval}
 
 -- the block of an interval
@@ -31,7 +31,7 @@ above_cut range cut = record { low = Some cut; high = range.high }
 pub record IsBegun (part : Keyed) (split : SplitNow) (image : Image) : Type 0 where
   pub at : Range × Entry
   pub length : length split.cut ≡ part.key
-  pub found : entry_for None (entries_of (block_at image part.head)) split.cut ≡ Some at
+  pub found : entry_in (block_at image part.head) split.cut ≡ Some at
   pub old : slice_index at.1.intervals 0 ≡ split.old
   pub below : place_cmp split.cut at.0.high ≡ Less
   pub free : free_interval part (block_at image part.head) ≡ Some split.into
@@ -53,7 +53,7 @@ pub record IsCopied (part : Keyed) (split : SplitNow) (now : Seen) : Type 0 wher
 -- The head has both entries, the old interval's up to the cut, and the old interval is stable.
 pub record IsSwitched (part : Keyed) (split : SplitNow) (now : Seen) : Type 0 where
   pub at : Range × Entry
-  pub found : entry_for None (entries_of (block_at now.cur part.head)) split.cut ≡ Some at
+  pub found : entry_in (block_at now.cur part.head) split.cut ≡ Some at
   pub interval : slice_index at.1.intervals 0 ≡ split.old
   pub high : at.0.high ≡ split.cut
   pub old : IsStable now (interval_block part split.old)

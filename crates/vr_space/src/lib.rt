@@ -23,5 +23,7 @@ pub use part::Part;
 pub use range::{LentRange, is_in};
 pub use reading::read_block;
 pub use room::Room;
-pub use search::{FoundEntry, count_up_to, entry_at, entry_count, entry_for, record_at};
+pub use search::{
+    FoundEntry, count_up_to, entry_at, entry_count, entry_for, find_entry, record_at,
+};
 pub use whence::Whence;

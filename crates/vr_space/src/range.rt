@@ -13,7 +13,7 @@ pub struct LentRange<'a> {
 }
 
 /// Whether a place is above another, where there is one.
-fn is_above(low: Option<&[u8]>, place: &[u8]) -> bool
+pub(crate) fn is_above(low: Option<&[u8]>, place: &[u8]) -> bool
     ensures { result ≡ room.is_above (option_map (λ (low : Bor (List ℕ)). low.now) low.entry)
         place.now }
 {

@@ -1,6 +1,6 @@
 //! Where a place is found in a head or among the records of an interval.
 ghost use Rattle.std.specs.Prelude.{◌≡◌, ◌<◌, ◌≤◌, ℕ, List, Some, None, MatchOption, IfSome, All};
-ghost use Rattle.std.specs.Prelude.{length, map};
+ghost use Rattle.std.specs.Prelude.{IfNone, length, map, position, slice_get};
 ghost use Rattle.std.specs.Borrow.{Bor};
 ghost use Rattle.std.specs.Option.{option_map};
 ghost use Rattle.std.specs.List.Sorted.{IsStrictlySortedBy};
@@ -8,17 +8,19 @@ ghost use Rattle.vr_types.specs.Content.{place_cmp, item_at, Standing};
 ghost use Rattle.vr_types.specs.Image.{Block};
 ghost use Rattle.vr_ci.specs.Interval as ci;
 ghost use Rattle.vr_seqset.specs.Entry.{IsWhole};
+ghost use Rattle.vr_seqset.specs.Reading.{record_in};
+ghost use Rattle.vr_seqset.specs.Search.{reaches};
 ghost use Rattle.vr_seqset.specs.SequenceSet.{KeepsRules};
 ghost use Rattle.vr_space.specs.Room.{Range};
-ghost use Rattle.vr_space.specs.Keyed.{IsHead, HoldsRange, IsKept, entries_of, entry_for};
-ghost use Rattle.vr_space.specs.Keyed.{records_of};
-ghost use Rattle.vr_space.specs.Keyed.{placed, key_of};
+ghost use Rattle.vr_space.specs.Keyed.{IsHead, HoldsRange, IsKept, entries_of, entry_above};
+ghost use Rattle.vr_space.specs.Keyed.{entry_in, key_of, low_in, placed, range_of, records_of};
 ghost use Rattle.vr_space.specs.Search.{IsEntryFor, IsEntryAt, HasPlaces, AreUpTo, keys_of};
 ghost use Rattle.vr_space.specs.Search.{low_before};
 
 use crate::layout::Layout;
+use crate::range::is_above;
 use vr_ci::{CiView, Form};
-use vr_seqset::SeqView;
+use vr_seqset::{SeqEntry, SeqView};
 
 /// The entry of a head whose range holds a place: its number, its interval, its range, and whether
 /// it is the last.
@@ -31,45 +33,74 @@ pub struct FoundEntry<'a> {
     pub last: bool,
 }
 
+/// Where the first range of a head begins: nowhere in the first of a chain, else at its low place.
+fn first_low<'a>(view: &SeqView<'a>) -> Option<&'a [u8]>
+    ensures low { option_map (λ (low : Bor (List ℕ)). low.now) result ≡ low_in view.now }
+    ensures length { IfSome result (λ low. length low.now ≡ length view.now.low) }
+{
+    if view.first() {
+        return None;
+    }
+    Some(view.low())
+}
+
 /// Where the range of an entry begins: at the end of the one before.
-fn low_of<'a>(view: &SeqView<'a>, number: usize) -> Option<&'a [u8]>
+fn low_at<'a>(view: &SeqView<'a>, number: usize) -> Option<&'a [u8]>
     requires number { number < length view.now.entries }
     requires whole { All (IsWhole (length view.now.low)) view.now.entries }
     ensures low { option_map (λ (low : Bor (List ℕ)). low.now) result
-        ≡ low_before None view.now.entries number }
+        ≡ low_before (low_in view.now) view.now.entries number }
     ensures length { IfSome result (λ low. length low.now ≡ length view.now.low) }
 {
     if number == 0 {
-        return None;
+        return first_low(view);
     }
     Some(view.high(number - 1))
+}
+
+/// The entry of a head that was read whose range holds the place, with its number. None where no
+/// entry's does, as where the place is one of the areas before.
+pub fn find_entry<'a>(view: &SeqView<'a>, place: &[u8]) -> Option<(usize, SeqEntry<'a>)>
+    ensures found { IfSome result
+        (λ found. entry_above (low_in view.now) view.now.entries place.now ≡ Some
+        (range_of (low_before (low_in view.now) view.now.entries found.0) found.1, found.1)) }
+    ensures first { IfSome result
+        (λ found. position (reaches place.now) view.now.entries ≡ Some found.0) }
+    ensures entry { IfSome result (λ found. slice_get view.now.entries found.0 ≡ Some found.1) }
+    ensures none { IfNone result
+        (entry_above (low_in view.now) view.now.entries place.now ≡ None) }
+{
+    if !is_above(first_low(view), place) {
+        return None;
+    }
+    view.find(place)
 }
 
 /// The same as `entry_for`, of a head that was read.
 fn found_in<'a>(area: u16, view: &SeqView<'a>, place: &[u8]) -> Option<FoundEntry<'a>>
     requires { (size : ℕ) × KeepsRules area size view.now }
-    ensures found { (top : Block) → entries_of top ≡ view.now.entries → MatchOption result
-        (entry_for None (entries_of top) place.now ≡ None)
+    ensures found { (top : Block) → record_in top ≡ view.now → MatchOption result
+        (entry_in top place.now ≡ None)
         (IsEntryFor top place.now) }
     ensures interval { IfSome result (λ found. found.interval < area) }
     ensures places { IfSome result (HasPlaces (length view.now.low)) }
 {
     let count = view.count();
-    let (number, entry) = view.find(place)?;
+    let (number, entry) = find_entry(view, place)?;
     Some(FoundEntry {
         number,
         interval: entry.interval(0),
-        low: low_of(view, number),
+        low: low_at(view, number),
         high: entry.high(),
         last: number + 1 == count,
     })
 }
 
-/// The entry of a head whose range holds the place: the first that reaches it. None where no entry
-/// does, or the block is no head.
+/// The entry of a head whose range holds the place: the first that reaches it, where the place is
+/// above the low one of the head. None where no entry does, or the block is no head.
 pub fn entry_for<'a>(layout: &Layout, top: &'a [u8], place: &[u8]) -> Option<FoundEntry<'a>>
     ensures found { IsHead layout.now top.now → MatchOption result
-        (entry_for None (entries_of top.now) place.now ≡ None)
+        (entry_in top.now place.now ≡ None)
         (IsEntryFor top.now place.now) }
     // Whatever the block has.
     ensures interval { IfSome result (λ found. found.interval < layout.now.area) }
@@ -87,7 +118,7 @@ pub fn entry_for<'a>(layout: &Layout, top: &'a [u8], place: &[u8]) -> Option<Fou
 /// The same as `entry_at`, of a head that was read.
 fn found_at<'a>(area: u16, view: &SeqView<'a>, number: usize) -> Option<FoundEntry<'a>>
     requires { (size : ℕ) × KeepsRules area size view.now }
-    ensures found { (top : Block) → entries_of top ≡ view.now.entries → MatchOption result
+    ensures found { (top : Block) → record_in top ≡ view.now → MatchOption result
         (length (entries_of top) ≤ number) (IsEntryAt top number) }
     ensures interval { IfSome result (λ found. found.interval < area) }
     ensures places { IfSome result (HasPlaces (length view.now.low)) }
@@ -99,7 +130,7 @@ fn found_at<'a>(area: u16, view: &SeqView<'a>, number: usize) -> Option<FoundEnt
     Some(FoundEntry {
         number,
         interval: entry.interval(0),
-        low: low_of(view, number),
+        low: low_at(view, number),
         high: entry.high(),
         last: number + 1 == view.count(),
     })

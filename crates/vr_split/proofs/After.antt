@@ -16,12 +16,14 @@ use Rattle.vr_seqset.specs.Entry.{Entry}
 use Rattle.vr_space.specs.Way.{found_on, MayFind, MayOnceForced}
 use Rattle.vr_space.specs.Room.{Lengths, Range, HaveRoom}
 use Rattle.vr_space.specs.Keyed.{Keyed, HoldsRange, IsKeyedSound, IsKeyedAtRest}
-use Rattle.vr_space.specs.Keyed.{KeepsRoom, lengths_of, entries_of, entry_block, records_of}
-use Rattle.vr_space.specs.Keyed.{InArea, IsOwned, entry_for, way_in, way_under}
+use Rattle.vr_space.specs.Keyed.{KeepsEnds, KeepsRoom, entries_of, entry_block, entry_in}
+use Rattle.vr_space.specs.Keyed.{InArea, IsOwned, lengths_of, low_of, records_of, way_in, way_under}
 use Rattle.vr_space.specs.Owners.{Owners}
 use Rattle.vr_space.specs.Part.{KeyedShape, SetsOne, IsDueTo, HasRoom, InPart, item_of}
-use Rattle.vr_space.proofs.CallerLemmas.{each-less, head-in, entry-in, room-image}
-use Rattle.vr_split.proofs.Puts.{also, OfBlock, each-also, now-entries, KeepsOthers, equal_or}
+use Rattle.vr_space.proofs.CallerLemmas.{area-room-image, each-less, ends-less, entry-in-above}
+use Rattle.vr_space.proofs.CallerLemmas.{head-in}
+use Rattle.vr_split.specs.Switching.{OfRead, entry_read}
+use Rattle.vr_split.proofs.Puts.{also, OfBlock, each-also, KeepsOthers, equal_or}
 use Rattle.vr_split.proofs.Puts.{head-still, still-found, led-is, interval-sound}
 
 module _ (part : Keyed) (tells : Bool) (told : IsTrue tells) (a b : Seen) (n : ℕ) (bytes : Block)
@@ -32,6 +34,11 @@ module _ (part : Keyed) (tells : Bool) (told : IsTrue tells) (a b : Seen) (n : �
     head-before sound call other top may =
         ⊎_elim (λ old. old) (λ new. absurd (other (sym new.0)))
         (call.adds told part.head top (omega (arith, sound.area)) may)
+
+    -- so each has its ends
+    pub ends-after : IsKeyedSound part a → Puts tells n bytes a b → n ≢ part.head
+        → KeepsEnds part a b
+    ends-after sound call other = ends-less part a b (head-before sound call other)
 
     -- the part is at rest
     pub rest-after : IsKeyedAtRest part a → Puts tells n bytes a b → n ≢ part.head
@@ -46,29 +53,28 @@ module _ (part : Keyed) (tells : Bool) (told : IsTrue tells) (a b : Seen) (n : �
     pub room-after : (kept : Lengths) → IsKeyedAtRest part a → Puts tells n bytes a b
         → n ≢ part.head
         → KeepsRoom part kept a
-        → OfBlock part n None (now-entries part a n bytes)
-        (λ range. HaveRoom part.size (lengths_of part kept range bytes)) → KeepsRoom part kept b
+        → OfRead part a.cur n (λ range. HaveRoom part.size (lengths_of part kept range bytes))
+        → KeepsRoom part kept b
     room-after kept rests call other room of = record {
       places = room.places;
       each = λ top may.
           let before : a.may part.head top = head-before rests.sound call other top may in
           each-less part (also a n bytes) b
-          (λ range block. HaveRoom part.size (lengths_of part kept range block)) None
+          (λ range block. HaveRoom part.size (lengths_of part kept range block)) (low_of top)
           (entries_of top)
           (λ k block is now. call.adds told k block is.0 now) rests.sound.area
           (head-in part top (rests.sound.heads top before))
           (each-also part a n bytes
-          (λ range block. HaveRoom part.size (lengths_of part kept range block)) None
+          (λ range block. HaveRoom part.size (lengths_of part kept range block)) (low_of top)
           (entries_of top) (room.each top before)
-          (subst (λ (head : Block). OfBlock part n None (entries_of head)
+          (subst (λ (head : Block). OfBlock part n (low_of head) (entries_of head)
           (λ range. HaveRoom part.size (lengths_of part kept range bytes)))
           (sym (rests.one_head top before)) of));
     }
 
     -- with the bytes too, whichever head is left
     room-also : (kept : Lengths) → IsKeyedAtRest part a → n ≢ part.head → KeepsRoom part kept a
-        → OfBlock part n None (now-entries part a n bytes)
-        (λ range. HaveRoom part.size (lengths_of part kept range bytes))
+        → OfRead part a.cur n (λ range. HaveRoom part.size (lengths_of part kept range bytes))
         → KeepsRoom part kept (also a n bytes)
     room-also kept rests other room of = record {
       places = room.places;
@@ -76,9 +82,9 @@ module _ (part : Keyed) (tells : Bool) (told : IsTrue tells) (a b : Seen) (n : �
           let before : a.may part.head top =
           ⊎_elim (λ old. old) (λ new. absurd (other (sym new.0))) may in
           each-also part a n bytes
-          (λ range block. HaveRoom part.size (lengths_of part kept range block)) None
+          (λ range block. HaveRoom part.size (lengths_of part kept range block)) (low_of top)
           (entries_of top) (room.each top before)
-          (subst (λ (head : Block). OfBlock part n None (entries_of head)
+          (subst (λ (head : Block). OfBlock part n (low_of head) (entries_of head)
           (λ range. HaveRoom part.size (lengths_of part kept range bytes)))
           (sym (rests.one_head top before)) of);
     }
@@ -86,21 +92,21 @@ module _ (part : Keyed) (tells : Bool) (told : IsTrue tells) (a b : Seen) (n : �
     -- and so has the image of each moment
     pub rooms-after : (kept : Lengths) → IsKeyedAtRest part a → Puts tells n bytes a b
         → n ≢ part.head → InArea part n → KeepsRoom part kept a
-        → OfBlock part n None (now-entries part a n bytes) (λ range. HoldsRange part range bytes)
-        → OfBlock part n None (now-entries part a n bytes)
-        (λ range. HaveRoom part.size (lengths_of part kept range bytes))
+        → OfRead part a.cur n (λ range. HoldsRange part range bytes)
+        → OfRead part a.cur n (λ range. HaveRoom part.size (lengths_of part kept range bytes))
         → (owners : Owners) → IsOwned part owners
         → Touches (InPart (KeyedShape part) owners) (HasRoom (KeyedShape part) kept) a b
     rooms-after kept rests call other inside room holds of owners owned =
         puts-touches tells (InPart (KeyedShape part) owners) (HasRoom (KeyedShape part) kept) n
         bytes a b told (owned n inside) call
-        (room-image (KeyedShape part) owners kept (also a n bytes)
-        (interval-sound part a n bytes rests other holds, owned) (room-also kept rests other room of))
+        (area-room-image part owners kept (also a n bytes)
+        (interval-sound part a n bytes rests other holds) owned
+        (room-also kept rests other room of))
 
     -- how a place is read by way of the same head
     read-after : Puts tells n bytes a b → n ≢ part.head → (place : List ℕ)
         → item_of (KeyedShape part) b.cur place ≡ found_on b.cur
-        (way_in part place (entry_for None (now-entries part a n bytes) place))
+        (way_in part place (entry_read part a.cur place))
     read-after call other place =
         ap (λ (top : Block). found_on b.cur (way_under part place top))
         (head-still part tells told a b n bytes call other)
@@ -108,7 +114,7 @@ module _ (part : Keyed) (tells : Bool) (told : IsTrue tells) (a b : Seen) (n : �
     -- one place has the record that the bytes have there, and each other what it had
     pub sets-one : (at : List ℕ) (given : Option (List ℕ)) (led : Range × Entry)
         → Puts tells n bytes a b → n ≢ part.head → block_at b.cur n ≡ bytes
-        → entry_for None (now-entries part a n bytes) at ≡ Some led → entry_block part led.1 ≡ n
+        → entry_read part a.cur at ≡ Some led → entry_block part led.1 ≡ n
         → item_at (records_of part bytes) at ≡ option_map Standing given
         → KeepsOthers part a n bytes at (option_map Standing given)
         → SetsOne (KeyedShape part) at given a.cur b.cur
@@ -119,7 +125,7 @@ module _ (part : Keyed) (tells : Bool) (told : IsTrue tells) (a b : Seen) (n : �
           ∙ ap (λ (block : Block). item_at (records_of part block) at) now ∙ has;
       others = λ place apart. read-after call other place
           ∙ still-found part tells told a b n bytes place
-          (entry_for None (now-entries part a n bytes) place) call (λ found is there. ⊎_elim
+          (entry_read part a.cur place) call (λ found is there. ⊎_elim
           (λ same. ap (λ (block : Block). item_at (records_of part block) place) now ∙ same
           ∙ led-is part tells told a b n bytes place found is
           ∙ ap (λ (k : ℕ). item_at (records_of part (block_at a.cur k)) place) there)
@@ -164,7 +170,7 @@ module _ (part : Keyed) (tells : Bool) (told : IsTrue tells) (a b : Seen) (n : �
     -- is has the record that is read there.
     pub due-put : (listed place : List ℕ) → IsKeyedAtRest part a → Left a a.cur
         → Puts tells n bytes a b → n ≢ part.head
-        → ((at : Range × Entry) → entry_for None (now-entries part a n bytes) place ≡ Some at
+        → ((at : Range × Entry) → entry_read part a.cur place ≡ Some at
         → entry_block part at.1 ≡ n → (block : Block) → MayOnceForced listed b n block
         → item_at (records_of part block) place ≡ item_of (KeyedShape part) b.cur place)
         → IsDueTo (KeyedShape part) listed a place → IsDueTo (KeyedShape part) listed b place
@@ -173,9 +179,9 @@ module _ (part : Keyed) (tells : Bool) (told : IsTrue tells) (a b : Seen) (n : �
         let may : a.may part.head now = left.each part.head (omega (arith, rests.sound.area)) in
         let top : is.0 ≡ now =
         rests.one_head is.0 (head-before rests.sound call other is.0 is.1.0) in
-        let found : Option (Range × Entry) = entry_for None (entries_of now) place in
+        let found : Option (Range × Entry) = entry_in now place in
         let within : IfSome found (λ f. slice_index f.1.intervals 0 < part.area) =
-        entry-in part.area None (entries_of now) place
+        entry-in-above part.area (low_of now) (entries_of now) place
         (head-in part now (rests.sound.heads now may)) in
         due-found listed place item found rests.sound.area call
         (λ at some. omega (arith, rests.sound.area, below-some found at some within))

@@ -1,7 +1,7 @@
 -- The stages of a split: the blocks that each writes may be put, and what they leave is what the
 -- next one wants.
 use Rattle.std.proofs.Common.{◌≡◌, ◌≢◌, ◌⊎◌, inl, inr, ⊎_elim, ◌<◌, ℕ, Bool, IsTrue, true}
-use Rattle.std.proofs.Common.{List, Some, None, refl, sym, ap, subst, ◌∙◌, arith}
+use Rattle.std.proofs.Common.{List, Option, Some, sym, ap, subst, ◌∙◌, arith}
 use Rattle.std.proofs.Common.{true≢false, length}
 use Rattle.std.specs.Prelude.{filter, map}
 use Rattle.vr_types.specs.Content.{Content, Placed, item_at}
@@ -16,20 +16,22 @@ use Rattle.vr_seqset.specs.Reading.{record_in}
 use Rattle.vr_seqset.proofs.CallerLemmas.{record_is}
 use Rattle.vr_space.specs.Room.{Lengths, Range, HaveRoom, is_in, lengths_in, with_lengths}
 use Rattle.vr_space.specs.Keyed.{Keyed, HoldsRange, EachMayLeave, IsKeyedAtRest}
-use Rattle.vr_space.specs.Keyed.{entries_of, entry_block, entry_for, length_of, lengths_of}
-use Rattle.vr_space.specs.Keyed.{records_of, records_in, way_in, way_under}
+use Rattle.vr_space.specs.Keyed.{entries_of, entry_above, entry_block, entry_for, entry_in}
+use Rattle.vr_space.specs.Keyed.{length_of, lengths_of, low_in, low_of, records_of}
+use Rattle.vr_space.specs.Keyed.{records_in, way_in, way_under}
 use Rattle.vr_space.specs.Part.{KeyedShape, item_of}
 use Rattle.vr_space.specs.Split.{SplitNow, free_interval}
 use Rattle.vr_space.specs.UnderWay.{IsBegun, IsCopied, IsSwitched, IsStable, interval_block}
 use Rattle.vr_space.specs.UnderWay.{above_cut}
 use Rattle.vr_space.proofs.CallerLemmas.{above-more, record-filter, in-above, in-most, in-both}
-use Rattle.vr_split.specs.Switching.{OfBlock, CanReplace, CanSwitch, IsSettledAt}
-use Rattle.vr_split.specs.Switching.{IsResting}
+use Rattle.vr_space.proofs.CallerLemmas.{found-above, leads-above}
+use Rattle.vr_split.specs.Switching.{CanReplace, CanSwitch, IsResting, IsSettledAt, OfRead}
+use Rattle.vr_split.specs.Switching.{entry_read}
 use Rattle.vr_split.specs.Halves.{HasRange, IsBusyCopy, halves, halved_record}
-use Rattle.vr_split.proofs.Leading.{found-range, of-each, of-more, of-one, one-range}
+use Rattle.vr_split.proofs.Leading.{in-leads, in-range, of-each, of-more, of-one, one-range}
 use Rattle.vr_split.proofs.Lighter.{IsInside, twice, room-inside}
-use Rattle.vr_split.proofs.HalvedHead.{found-halves, cut-halves, each-halves, halved-head}
-use Rattle.vr_split.proofs.HalvedHead.{le-trans}
+use Rattle.vr_split.proofs.HalvedHead.{above-halves, cut-halves, each-halves, halved-ends}
+use Rattle.vr_split.proofs.HalvedHead.{halved-head, le-trans}
 use Rattle.vr_split.proofs.Ready.{may-top, head-now, once-now, may-found, holds-found, room-found}
 use Rattle.vr_split.proofs.Ready.{item-found, is-old, old-holds, old-in, into-in}
 
@@ -97,6 +99,16 @@ module _ (part : Keyed) (kept : Lengths) (split : SplitNow) (a : Seen)
   abbrev into_now : Block
   into_now = block_at a.cur (interval_block part split.into)
 
+  abbrev low_now : Option (List ℕ)
+  low_now = low_of (block_at a.cur part.head)
+
+  abbrev entries_now : List Entry
+  entries_now = entries_of (block_at a.cur part.head)
+
+  -- with both of the interval that is split
+  abbrev entries_new : List Entry
+  entries_new = halves split.old split.into split.cut entries_now
+
   -- ---- the copy
 
   -- the old interval may be written whole and busy
@@ -116,13 +128,14 @@ module _ (part : Keyed) (kept : Lengths) (split : SplitNow) (a : Seen)
       (ap (filter (λ (entry : Placed). is_in range entry.0)) copy.records) in
       record {
         holds = of-more part n (λ range. Only a n (Q range)) (λ range. HoldsRange part range whole)
-            None (entries_of top) (λ range each. copy.holds range)
-            (of-each part a n Q None (entries_of top)
+            (low_of top) (entries_of top) (λ range each. copy.holds range)
+            (of-each part a n Q (low_of top) (entries_of top)
             (resting.room.each top (may-top part split a resting.rests left)));
         room = of-more part n (λ range. Only a n (Q range))
-            (λ range. HaveRoom part.size (lengths_of part kept range whole)) None (entries_of top)
+            (λ range. HaveRoom part.size (lengths_of part kept range whole)) (low_of top)
+            (entries_of top)
             (λ range each. subst (HaveRoom part.size) (sym (same range)) (each old_now now))
-            (of-each part a n Q None (entries_of top)
+            (of-each part a n Q (low_of top) (entries_of top)
             (resting.room.each top (may-top part split a resting.rests left)));
         records = λ place at leads here. ap (λ (xs : Content). item_at xs place) copy.records
             ∙ ap (λ (k : ℕ). item_at (records_of part (block_at a.cur k)) place) (sym here)
@@ -139,8 +152,10 @@ module _ (part : Keyed) (kept : Lengths) (split : SplitNow) (a : Seen)
     at_range = begun.at.0
 
     cut-in : is_in at_range split.cut ≡ true
-    cut-in = found-range None (entries_of (block_at a.cur part.head)) split.cut begun.at refl
-        begun.found
+    cut-in = in-range low_now entries_now split.cut begun.at begun.found
+
+    cut-leads : entry_for low_now entries_now split.cut ≡ Some begun.at
+    cut-leads = in-leads (block_at a.cur part.head) split.cut begun.at begun.found
 
     old-range : HoldsRange part at_range old_now
     old-range = old-holds part split a resting.rests left begun
@@ -164,13 +179,11 @@ module _ (part : Keyed) (kept : Lengths) (split : SplitNow) (a : Seen)
 
     each-switch : (Q : Range → Block → Type 0) → Q (below_cut at_range split.cut) old_now
         → Q (above_cut at_range split.cut) into_now
-        → EachMayLeave part a None (entries_of (block_at a.cur part.head)) Q
-        → EachMayLeave part a None
-        (halves split.old split.into split.cut (entries_of (block_at a.cur part.head))) Q
+        → EachMayLeave part a low_now entries_now Q
+        → EachMayLeave part a low_now (halves split.old split.into split.cut entries_now) Q
     each-switch Q lower upper each =
-        each-halves part split.old split.into split.cut a Q None
-        (entries_of (block_at a.cur part.head)) begun.at
-        (once-now part split a resting.rests left) begun.found begun.old
+        each-halves part split.old split.into split.cut a Q low_now entries_now begun.at
+        (once-now part split a resting.rests left) cut-leads begun.old
         (λ block may. subst (Q (below_cut at_range split.cut)) (sym (copied.old block may)) lower)
         (λ block may. subst (Q (above_cut at_range split.cut)) (sym (copied.into block may)) upper)
         each
@@ -178,7 +191,7 @@ module _ (part : Keyed) (kept : Lengths) (split : SplitNow) (a : Seen)
     -- a place that moved has the record that it had
     moved-record : (place : List ℕ) (to : Range × Entry) → is_in to.0 place ≡ true
         → to.0 ≡ above_cut at_range split.cut
-        → entry_for None (entries_of (block_at a.cur part.head)) place ≡ Some begun.at
+        → entry_in (block_at a.cur part.head) place ≡ Some begun.at
         → item_at (records_of part into_now) place ≡ item_of (KeyedShape part) a.cur place
     moved-record place to within range leads =
         same-record part (above_cut at_range split.cut) old_now into_now place
@@ -187,32 +200,27 @@ module _ (part : Keyed) (kept : Lengths) (split : SplitNow) (a : Seen)
         (sym (is-old part split a resting.rests left begun))
         ∙ sym (item-found part split a resting.rests left place begun.at leads)
 
-    switch-at : (entries : List Entry) (place : List ℕ)
-        → entries ≡ halves split.old split.into split.cut
-        (entries_of (block_at a.cur part.head))
-        → (way_in part place (entry_for None entries place)
+    switch-at : (place : List ℕ)
+        → (way_in part place (entry_above low_now entries_new place)
         ≡ way_under part place (block_at a.cur part.head))
-        ⊎ ((at : Range × Entry) × (entry_for None entries place ≡ Some at)
+        ⊎ ((at : Range × Entry) × (entry_above low_now entries_new place ≡ Some at)
         × Only a (entry_block part at.1)
         (λ block. item_at (records_of part block) place ≡ item_of (KeyedShape part) a.cur place))
-    switch-at entries place is = ⊎_elim
-        (λ same. inl (ap (λ (es : List Entry). way_in part place (entry_for None es place)) is
-        ∙ same))
+    switch-at place = ⊎_elim
+        (λ same. inl same)
         (λ moved.
         let within : is_in moved.to.0 place ≡ true =
-        found-range None (halves split.old split.into split.cut
-        (entries_of (block_at a.cur part.head))) place moved.to refl moved.now_at in
+        in-range low_now entries_new place moved.to moved.now_at in
         inr (
           moved.to,
-          ap (λ (es : List Entry). entry_for None es place) is ∙ moved.now_at,
+          moved.now_at,
           λ block may. ap (λ (b : Block). item_at (records_of part b) place)
               (copied.into block (subst (λ (n : ℕ). a.may n block)
               (ap (interval_block part) moved.interval) may))
               ∙ moved-record place moved.to within moved.its_range moved.was_at,
         ))
-        (found-halves part split.old split.into split.cut None
-        (entries_of (block_at a.cur part.head)) begun.at place
-        (once-now part split a resting.rests left) begun.found begun.old)
+        (above-halves part split.old split.into split.cut low_now entries_now begun.at place
+        (once-now part split a resting.rests left) cut-leads begun.old)
 
     -- the head with both entries may be put
     pub can-switch : (top : Block) → length top ≡ length (block_at a.cur part.head)
@@ -221,24 +229,32 @@ module _ (part : Keyed) (kept : Lengths) (split : SplitNow) (a : Seen)
         → CanSwitch part kept top a
     can-switch top long spelled =
         let now : Block = block_at a.cur part.head in
-        let entries : entries_of top ≡ halves split.old split.into split.cut (entries_of now) =
-        ap (λ (s : SequenceSet). s.entries) (record_is part.area top
-        (halved_record split.old split.into split.cut (record_in now)) spelled) in
+        let said : record_in top ≡ halved_record split.old split.into split.cut (record_in now) =
+        record_is part.area top
+        (halved_record split.old split.into split.cut (record_in now)) spelled in
         record {
           head = halved-head part now top split.old split.into split.cut
               (head-now part split a resting.rests left) long spelled;
-          holds = subst (λ (es : List Entry). EachMayLeave part a None es (HoldsRange part))
-              (sym entries)
+          ends = halved-ends part.area now top split.old split.into split.cut spelled;
+          holds = subst
+              (λ (s : SequenceSet). EachMayLeave part a (low_in s) s.entries (HoldsRange part))
+              (sym said)
               (each-switch (HoldsRange part)
               (busy-any part at_range (below_cut at_range split.cut) old_now old-range copied.busy)
               copied.holds
               (resting.rests.sound.intervals now (may-top part split a resting.rests left)));
-          room = subst (λ (es : List Entry). EachMayLeave part a None es
-              (λ range block. HaveRoom part.size (lengths_of part kept range block))) (sym entries)
+          room = subst (λ (s : SequenceSet). EachMayLeave part a (low_in s) s.entries
+              (λ range block. HaveRoom part.size (lengths_of part kept range block))) (sym said)
               (each-switch (λ range block. HaveRoom part.size (lengths_of part kept range block))
               room-lower room-upper
               (resting.room.each now (may-top part split a resting.rests left)));
-          places = λ place. switch-at (entries_of top) place entries;
+          places = λ place. subst (λ (s : SequenceSet).
+              (way_in part place (entry_above (low_in s) s.entries place)
+              ≡ way_under part place now)
+              ⊎ ((at : Range × Entry) × (entry_above (low_in s) s.entries place ≡ Some at)
+              × Only a (entry_block part at.1)
+              (λ block. item_at (records_of part block) place
+              ≡ item_of (KeyedShape part) a.cur place))) (sym said) (switch-at place);
         }
 
   -- ---- the cleaning
@@ -258,24 +274,24 @@ module _ (part : Keyed) (kept : Lengths) (split : SplitNow) (a : Seen)
 
     -- the entries that lead to the old interval are one
     clean-of : (P : Range → Type 0) → P switched.at.0
-        → OfBlock part (interval_block part split.old) None
-        (entries_of (block_at a.cur part.head)) P
-    clean-of P holds = subst (λ (n : ℕ). OfBlock part n None
-        (entries_of (block_at a.cur part.head)) P) clean-block
-        (of-one part P None (entries_of (block_at a.cur part.head)) split.cut switched.at
-        (once-now part split a resting.rests left) switched.found holds)
+        → OfRead part a.cur (interval_block part split.old) P
+    clean-of P holds = subst (λ (n : ℕ). OfRead part a.cur n P) clean-block
+        (of-one part P low_now entries_now split.cut switched.at
+        (once-now part split a resting.rests left)
+        (in-leads (block_at a.cur part.head) split.cut switched.at switched.found) holds)
 
     -- a place that leads there is in its range
     clean-in : (place : List ℕ) (at : Range × Entry)
-        → entry_for None (entries_of (block_at a.cur part.head)) place ≡ Some at
+        → entry_read part a.cur place ≡ Some at
         → entry_block part at.1 ≡ interval_block part split.old
         → is_in switched.at.0 place ≡ true
     clean-in place at leads here =
         subst (λ (r : Range). is_in r place ≡ true)
-        (one-range part None (entries_of (block_at a.cur part.head)) split.cut place switched.at
-        at (once-now part split a resting.rests left) switched.found leads
-        (here ∙ sym clean-block))
-        (found-range None (entries_of (block_at a.cur part.head)) place at refl leads)
+        (one-range part low_now entries_now split.cut place switched.at at
+        (once-now part split a resting.rests left)
+        (in-leads (block_at a.cur part.head) split.cut switched.at switched.found)
+        (in-leads (block_at a.cur part.head) place at leads) (here ∙ sym clean-block))
+        (in-range low_now entries_now place at leads)
 
     -- the old interval may be written with the records of its range alone
     pub can-clean : (lower : Block) → HasRange part switched.at.0 old_now lower
@@ -330,8 +346,7 @@ module _ (part : Keyed) (split : SplitNow) (a b : Seen) where
         begun = record {
           at = begun.at;
           length = begun.length;
-          found = ap (λ (top : Block). entry_for None (entries_of top) split.cut) head
-              ∙ begun.found;
+          found = ap (λ (top : Block). entry_in top split.cut) head ∙ begun.found;
           old = begun.old;
           below = begun.below;
           free = ap (free_interval part) head ∙ begun.free;
@@ -359,15 +374,19 @@ module _ (part : Keyed) (split : SplitNow) (a b : Seen) where
       let other : n ≢ part.head = λ same. omega (arith, same) in
       let below : n < a.count =
       omega (arith, rests.sound.area, old-in part split a rests left copied.begun) in
-      let to = cut-halves part split.old split.into split.cut None (entries_of was)
-      copied.begun.at (once-now part split a rests left) copied.begun.found copied.begun.old in
-      let entries : entries_of top ≡ halves split.old split.into split.cut (entries_of was) =
-      ap (λ (s : SequenceSet). s.entries) (record_is part.area top
-      (halved_record split.old split.into split.cut (record_in was)) spelled) in
+      let at : Range × Entry = copied.begun.at in
+      let both : List Entry = halves split.old split.into split.cut (entries_of was) in
+      let leads = found-above (low_of was) (entries_of was) split.cut at copied.begun.found in
+      let to = cut-halves part split.old split.into split.cut (low_of was) (entries_of was) at
+      (once-now part split a rests left) leads.leads copied.begun.old in
+      let said : record_in top ≡ halved_record split.old split.into split.cut (record_in was) =
+      record_is part.area top
+      (halved_record split.old split.into split.cut (record_in was)) spelled in
       record {
         at = to.0;
-        found = ap (λ (block : Block). entry_for None (entries_of block) split.cut) now
-            ∙ ap (λ (es : List Entry). entry_for None es split.cut) entries ∙ to.1;
+        found = ap (λ (block : Block). entry_in block split.cut) now
+            ∙ ap (λ (s : SequenceSet). entry_above (low_in s) s.entries split.cut) said
+            ∙ leads-above (low_of was) both split.cut leads.above ∙ to.1;
         interval = to.2;
         high = to.3;
         old = λ block may. only-elsewhere tells a b n part.head top

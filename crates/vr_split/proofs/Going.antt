@@ -2,13 +2,14 @@
 use Rattle.std.proofs.Common.{ap, ◌≡◌, ◌≢◌, ◌<◌, ℕ, ◌+◌, ◌≤◌, Bool, IsTrue, true, false, List, []}
 use Rattle.std.proofs.Common.{◌∷◌}
 use Rattle.std.proofs.Common.{refl, sym}
-use Rattle.std.proofs.Common.{subst, ◌∙◌, arith, length, Option, Some, None}
+use Rattle.std.proofs.Common.{subst, ◌∙◌, arith, length, Option, Some}
 use Rattle.std.specs.Prelude.{cond, filter, map}
 use Rattle.std.proofs.lemmas.List.Elements.{All-nil}
 use Rattle.vr_types.specs.Content.{Content, Placed}
 use Rattle.vr_types.specs.Image.{Block, Image, block_at}
 use Rattle.vr_types.specs.Seen.{Seen, Left, Only}
 use Rattle.vr_types.specs.Blocks.{Keeps, Puts}
+use Rattle.vr_types.proofs.CallerLemmas.{keeps-touches}
 use Rattle.vr_types.specs.declared.unit.StageKind.{StageKind}
 use Rattle.vr_types.specs.declared.unit.StageKind.TheVariants.{CiSwitch, CiClean}
 use Rattle.vr_ci_match.specs.declared.form.Form.TheVariants.{Plain}
@@ -21,13 +22,13 @@ use Rattle.vr_seqset.proofs.CallerLemmas.{record_is}
 use Rattle.vr_ci_match.specs.Fault.{is_busy}
 use Rattle.vr_space.specs.Room.{Lengths, Range, HaveRoom, is_in, weight}
 use Rattle.vr_space.specs.Keyed.{Keyed, HoldsRange, EachMayLeave, IsKeyedSound, IsKeyedAtRest}
-use Rattle.vr_space.specs.Keyed.{KeepsRoom, entries_of, items_of, length_of}
+use Rattle.vr_space.specs.Keyed.{KeepsRoom, entries_of, items_of, length_of, low_of}
 use Rattle.vr_space.specs.Keyed.{lengths_of, placed, range_of, key_of}
-use Rattle.vr_space.specs.Part.{KeyedShape, IsSound}
+use Rattle.vr_space.specs.Part.{HasRoom, InPart, KeyedShape}
 use Rattle.vr_space.specs.Split.{SplitNow}
 use Rattle.vr_space.specs.UnderWay.{KeyedUnderWay, IsBegun, IsCopied, IsSwitched, interval_block}
-use Rattle.vr_space.proofs.CallerLemmas.{keeps-adds, same-keeps, room-keeps, rest-keeps, due-keeps}
-use Rattle.vr_space.proofs.CallerLemmas.{keeps-rooms, way-keeps}
+use Rattle.vr_space.proofs.CallerLemmas.{IsBlock, area-due-keeps, area-room-image, area-room-less}
+use Rattle.vr_space.proofs.CallerLemmas.{ends-less, keeps-adds, keyed-rest, same-keeps, way-stays}
 use Rattle.vr_split.specs.Switching.{IsResting, KeepsPart, IsStageDone, IsIntervalBlock, IsFree}
 use Rattle.vr_split.specs.Switching.{CanReplace, CanSwitch, IsSettledAt}
 use Rattle.vr_split.specs.Halves.{halves, MakesUpper, MakesLower, MakesHead, IsBusyCopy}
@@ -36,7 +37,6 @@ use Rattle.vr_split.proofs.Ready.{head-now, old-holds, old-block, into-block, in
 use Rattle.vr_split.proofs.Ready.{can-halve, into-in}
 use Rattle.vr_split.proofs.EachStage.{can-copy, can-switch, can-clean, clean-holds, settled-old}
 use Rattle.vr_split.proofs.EachStage.{copied-after, switched-after}
-use Rattle.vr_split.proofs.Owned.{all_of, all-owned}
 use Rattle.vr_split.proofs.StageLemmas.{keeps-then, done-then}
 
 -- ---- room where nothing is kept
@@ -81,7 +81,7 @@ each-fits part now low (entry ∷ entries) left = (
 pub none-kept : (part : Keyed) (now : Seen) → IsKeyedSound part now → KeepsRoom part [] now
 none-kept part now sound = record {
   places = All-nil (λ (entry : List ℕ × ℕ). length entry.0 ≡ part.key);
-  each = λ top may. each-fits part now None (entries_of top)
+  each = λ top may. each-fits part now (low_of top) (entries_of top)
       (sound.intervals top may);
 }
 
@@ -89,27 +89,31 @@ none-kept part now sound = record {
 
 module _ (part : Keyed) (tells : Bool) (told : IsTrue tells) (a m : Seen) (call : Keeps tells a m)
     (rests : IsKeyedAtRest part a) where
-  -- whichever blocks are the part's
-  any-sound : IsSound (KeyedShape part) (all_of part) a
-  any-sound = (rests.sound, all-owned part)
+  -- a crash may leave no more
+  less-kept : (n : ℕ) (block : Block) → IsBlock part a n → m.may n block → a.may n block
+  less-kept n block is may = call.adds_none told n block is.0 may
+
+  head-kept : block_at m.cur part.head ≡ block_at a.cur part.head
+  head-kept = ap (λ (image : Image). block_at image part.head) (call.content told)
 
   kept-room : (kept : Lengths) → KeepsRoom part kept a → KeepsRoom part kept m
-  kept-room kept room =
-      room-keeps tells told (KeyedShape part) (all_of part) kept a m call any-sound room
+  kept-room kept room = area-room-less part kept a m less-kept rests.sound room
 
   pub kept-part : (kept : Lengths) → KeepsRoom part kept a → KeepsPart part kept a m
   kept-part kept room = record {
-    adds = λ owners owned. keeps-adds tells told (KeyedShape part) owners a m call
-        (rests.sound, owned);
+    adds = λ whole owners owned. keeps-adds tells told (KeyedShape part) owners a m call
+        (rests.sound, whole, owned);
     same = same-keeps tells told (KeyedShape part) a m call;
+    ends = ends-less part a m
+        (λ top may. call.adds_none told part.head top (omega (arith, rests.sound.area)) may);
     room = kept-room kept room;
-    rooms = λ owners owned. keeps-rooms tells told (KeyedShape part) owners kept a m call
-        (rests.sound, owned) room;
+    rooms = λ owners owned. keeps-touches tells (InPart (KeyedShape part) owners)
+        (HasRoom (KeyedShape part) kept) a m told call
+        (area-room-image part owners kept a rests.sound owned room);
   }
 
   pub kept-rest : IsKeyedAtRest part m
-  kept-rest =
-      (rest-keeps tells told (KeyedShape part) (all_of part) a m call (rests, all-owned part)).0
+  kept-rest = keyed-rest part a m call.count_same call.size_same less-kept head-kept rests
 
   pub kept-resting : (kept : Lengths) → KeepsRoom part kept a → IsResting part kept m
   kept-resting kept room = record {
@@ -120,15 +124,16 @@ module _ (part : Keyed) (tells : Bool) (told : IsTrue tells) (a m : Seen) (call 
   pub kept-done : IsStageDone part a m
   kept-done = record {
     rests = kept-rest;
-    due = due-keeps tells told (KeyedShape part) (all_of part) a m call any-sound;
+    due = area-due-keeps tells told part a m call rests.sound;
   }
 
   pub kept-way : (split : SplitNow) → Left a a.cur → KeyedUnderWay part (Some split) a
       → KeyedUnderWay part (Some split) m
-  kept-way split left way =
-      way-keeps tells told (KeyedShape part) (all_of part)
-      (record { split = Some split; met = []; areas = []; used = 0; tail = None }) a m call any-sound
-      left way
+  kept-way split left way = way-stays part (Some split) a m rests.sound left
+      (λ now some n is named. record {
+        cur = ap (λ (image : Image). block_at image n) (call.content told);
+        less = λ block may. less-kept n block is may;
+      }) way
 
   pub then-part : (kept : Lengths) (b : Seen) → KeepsRoom part kept a → KeepsPart part kept m b
       → KeepsPart part kept a b

@@ -1,8 +1,9 @@
 -- A head whose entry of one interval became two: it is a head of the part, and each place is found
 -- in the interval that it was in, or in the one that got the upper records.
-use Rattle.std.proofs.Common.{◌≡◌, ◌≢◌, ◌⊎◌, inl, inr, ⊎_elim, ◌<◌, ℕ, Bool, true, false, List}
-use Rattle.std.proofs.Common.{[], ◌∷◌, ◌++◌, length, Option, Some, refl, sym, ap, subst, ◌∙◌}
-use Rattle.std.proofs.Common.{arith, true≢false, replicate}
+use Rattle.std.proofs.Common.{◌≡◌, ◌≢◌, ◌⊎◌, inl, inr, ⊎_elim, ℕ, Bool, true, false, List}
+use Rattle.std.proofs.Common.{[], ◌∷◌, ◌++◌, length, map, Option, Some, None, refl, sym, ap, subst}
+use Rattle.std.proofs.Common.{◌∙◌, true≢false, cond}
+use Rattle.std.specs.List.{last_or}
 use Rattle.std.specs.Ordering.{is_le, ordering_reverse}
 use Rattle.std.specs.declared.cmp.Ordering.{Ordering}
 use Rattle.std.specs.declared.cmp.Ordering.TheVariants.{Less, Equal, Greater}
@@ -16,16 +17,16 @@ use Rattle.vr_seqset.specs.Entry.{Entry}
 use Rattle.vr_seqset.specs.SequenceSet.{SequenceSet, IsSequenceSet}
 use Rattle.vr_seqset.specs.Reading.{record_in}
 use Rattle.vr_seqset.proofs.CallerLemmas.{record_is}
-use Rattle.vr_space.specs.Room.{Range}
-use Rattle.vr_space.specs.Keyed.{Keyed, IsHead, EachMayLeave, entries_of, entry_for}
-use Rattle.vr_space.specs.Keyed.{range_of, way_in}
+use Rattle.vr_space.specs.Room.{Range, is_above}
+use Rattle.vr_space.specs.Keyed.{EachMayLeave, HasEnds, IsHead, Keyed, entries_of, entry_above}
+use Rattle.vr_space.specs.Keyed.{entry_for, last_high, range_of, way_in}
 use Rattle.vr_space.specs.UnderWay.{interval_block, above_cut}
 use Rattle.vr_space.proofs.CallerLemmas.{not_past}
 use Rattle.vr_split.specs.Halves.{one_entry, halves, halved_record}
 use Rattle.vr_split.proofs.Leading.{slot, OtherThan, AreApart, AreSingle, led, leads-here}
 use Rattle.vr_split.proofs.Leading.{leads-on, none-some, without-found}
 use Rattle.vr_split.proofs.HalvedRules.{halves-both, halves-one, halves-none, two_entries}
-use Rattle.vr_split.proofs.HalvedRules.{single-halves, more-entries}
+use Rattle.vr_split.proofs.HalvedRules.{single-halves}
 
 -- ---- order
 
@@ -189,6 +190,28 @@ module _ (part : Keyed) (old into : ℕ) (cut : List ℕ) where
           }))
           more
 
+  -- the same of places above the low one
+  pub above-halves : (low : Option (List ℕ)) (entries : List Entry) (at : Range × Entry)
+      (place : List ℕ) → AreApart entries → entry_for low entries cut ≡ Some at
+      → slot at.1 ≡ old
+      → (way_in part place (entry_above low (halves old into cut entries) place)
+      ≡ way_in part place (entry_above low entries place))
+      ⊎ IsMoved into cut at (entry_above low entries place)
+      (entry_above low (halves old into cut entries) place)
+  above-halves low entries at place once leads is = by_test (is_above low place)
+    where
+      new : Option (Range × Entry)
+      new = entry_for low (halves old into cut entries) place
+
+      was : Option (Range × Entry)
+      was = entry_for low entries place
+
+      by_test : (b : Bool)
+          → (way_in part place (cond b new None) ≡ way_in part place (cond b was None))
+          ⊎ IsMoved into cut at (cond b was None) (cond b new None)
+      by_test true = found-halves low entries at place once leads is
+      by_test false = inl refl
+
   -- the cut is found in the old interval, whose range ends there
   pub cut-halves : (low : Option (List ℕ)) (entries : List Entry) (at : Range × Entry)
       → AreApart entries → entry_for low entries cut ≡ Some at → slot at.1 ≡ old
@@ -257,50 +280,18 @@ module _ (part : Keyed) (old into : ℕ) (cut : List ℕ) where
 
 -- ---- the last high place
 
--- the last high place has P
-abbrev LastHigh : (List ℕ → Type 0) → List Entry → Type 0
-LastHigh P [] = Unit {0}
-LastHigh P (entry ∷ []) = P entry.high
-LastHigh P (entry ∷ other ∷ entries) = LastHigh P (other ∷ entries)
-
-last-from : (P : List ℕ → Type 0) (entries : List Entry)
-    → ((before : List Entry) (entry : Entry) → entries ≡ before ++ entry ∷ [] → P entry.high)
-    → LastHigh P entries
-last-from P [] each = tt
-last-from P (entry ∷ []) each = each [] entry refl
-last-from P (entry ∷ other ∷ entries) each = last-from P (other ∷ entries)
-    (λ before last is. each (entry ∷ before) last (ap (λ (es : List Entry). entry ∷ es) is))
-
-last-to : (P : List ℕ → Type 0) (before : List Entry) (entry : Entry)
-    → LastHigh P (before ++ entry ∷ []) → P entry.high
-last-to P [] entry last = last
-last-to P (first ∷ []) entry last = last
-last-to P (first ∷ other ∷ before) entry last = last-to P (other ∷ before) entry last
-
-last-cons : (P : List ℕ → Type 0) (entry : Entry) (entries : List Entry) → 0 < length entries
-    → LastHigh P entries → LastHigh P (entry ∷ entries)
-last-cons P entry [] some last = absurd (omega (arith, some))
-last-cons P entry (other ∷ entries) some last = last
-
-last-halves : (P : List ℕ → Type 0) (old into : ℕ) (cut : List ℕ) (entries : List Entry)
-    → LastHigh P entries → LastHigh P (halves old into cut entries)
-last-halves P old into cut [] last = tt
-last-halves P old into cut (entry ∷ []) last = ⊎_elim
-    (λ same. subst (LastHigh P) (sym (halves-both old into cut entry [] same)) last)
-    (λ other. subst (LastHigh P) (sym (halves-one old into cut entry [] other)) last)
-    (cases_eq (slot entry) old)
-last-halves P old into cut (entry ∷ next ∷ entries) last =
-    let more : LastHigh P (halves old into cut (next ∷ entries)) =
-    last-halves P old into cut (next ∷ entries) last in
-    let some : 0 < length (halves old into cut (next ∷ entries)) =
-    omega (arith, more-entries old into cut (next ∷ entries)) in
+high-halves : (other : Option (List ℕ)) (old into : ℕ) (cut : List ℕ) (entries : List Entry)
+    → last_or other (map (λ (entry : Entry). entry.high) (halves old into cut entries))
+    ≡ last_or other (map (λ (entry : Entry). entry.high) entries)
+high-halves other old into cut [] = refl
+high-halves other old into cut (entry ∷ entries) =
+    let Last : List Entry → Type 0 =
+    λ es. last_or other (map (λ (e : Entry). e.high) es)
+    ≡ last_or other (map (λ (e : Entry). e.high) (entry ∷ entries)) in
+    let more = high-halves (Some entry.high) old into cut entries in
     ⊎_elim
-    (λ same. subst (LastHigh P) (sym (halves-both old into cut entry (next ∷ entries) same))
-    (last-cons P (one_entry old cut)
-    (one_entry into entry.high ∷ halves old into cut (next ∷ entries)) (omega arith)
-    (last-cons P (one_entry into entry.high) (halves old into cut (next ∷ entries)) some more)))
-    (λ other. subst (LastHigh P) (sym (halves-one old into cut entry (next ∷ entries) other))
-    (last-cons P entry (halves old into cut (next ∷ entries)) some more))
+    (λ same. subst Last (sym (halves-both old into cut entry entries same)) more)
+    (λ apart. subst Last (sym (halves-one old into cut entry entries apart)) more)
     (cases_eq (slot entry) old)
 
 -- ---- the head
@@ -320,14 +311,23 @@ halved-head part top bytes old into cut head long spelled =
       size = long ∙ head.size;
       number = ap (λ (s : SequenceSet). s.part) said ∙ head.number;
       key = ap (λ (s : SequenceSet). length s.low) said ∙ head.key;
-      first = ap (λ (s : SequenceSet). s.first) said ∙ head.first;
-      next = ap (λ (s : SequenceSet). s.next) said ∙ head.next;
       index = ap (λ (s : SequenceSet). s.top) said ∙ head.index;
       index_area = ap (λ (s : SequenceSet). s.index_area) said ∙ head.index_area;
       single = subst AreSingle (sym entries)
           (single-halves old into cut (entries_of top) head.single);
-      last = λ before entry is. last-to (λ high. high ≡ replicate part.key 255) before entry
-          (subst (LastHigh (λ high. high ≡ replicate part.key 255)) (sym entries ∙ is)
-          (last-halves (λ high. high ≡ replicate part.key 255) old into cut (entries_of top)
-          (last-from (λ high. high ≡ replicate part.key 255) (entries_of top) head.last)));
+    }
+
+-- and has the ends of the other
+pub halved-ends : (area : ℕ) (top bytes : Block) (old into : ℕ) (cut : List ℕ)
+    → IsSequenceSet area bytes (halved_record old into cut (record_in top))
+    → HasEnds top bytes
+halved-ends area top bytes old into cut spelled =
+    let said : record_in bytes ≡ halved_record old into cut (record_in top) =
+    record_is area bytes (halved_record old into cut (record_in top)) spelled in
+    record {
+      first = ap (λ (s : SequenceSet). s.first) said;
+      low = ap (λ (s : SequenceSet). s.low) said;
+      next = ap (λ (s : SequenceSet). s.next) said;
+      last = ap (λ (s : SequenceSet). last_high s.entries) said
+          ∙ high-halves None old into cut (entries_of top);
     }

@@ -22,9 +22,9 @@ use Rattle.vr_seqset.specs.Entry.{Entry, entry_bytes, IsWhole}
 use Rattle.vr_seqset.specs.Numbers.{intervals_used}
 use Rattle.vr_seqset.specs.SequenceSet.{SequenceSet, KeepsRules, bounds_of}
 use Rattle.vr_seqset.proofs.CallerLemmas.{length-spelling, length-entry_bytes}
-use Rattle.vr_space.specs.Room.{Range}
-use Rattle.vr_space.specs.Keyed.{entry_for}
-use Rattle.vr_space.proofs.CallerLemmas.{is_past}
+use Rattle.vr_space.specs.Room.{Range, is_above}
+use Rattle.vr_space.specs.Keyed.{entry_for, low_in}
+use Rattle.vr_space.proofs.CallerLemmas.{IsFoundAbove, found-above, is_past, lt_from_test}
 use Rattle.vr_split.specs.Halves.{one_entry, halves, halved_record, CanHalve}
 use Rattle.vr_split.proofs.Leading.{slot, OtherThan, AreApart, AreSingle, used, led}
 use Rattle.vr_split.proofs.Leading.{without-found, are-apart, used-more, without-unused}
@@ -275,9 +275,28 @@ sorted-halves old into cut low (entry ∷ entries) at once leads is less sorted 
     (sorted-halves old into cut (Some entry.high) entries at once.1 on.further is less others)))
     (led low entry entries cut at leads)
 
-first-highs : (s : SequenceSet) → s.first ≡ true → bounds_of s ≡ highs s.entries
-first-highs s first =
-    ap (λ (b : Bool). cond b [] (s.low ∷ []) ++ highs s.entries) first
+-- and where the record has a low place, above it
+bounds-halves : (old into : ℕ) (cut : List ℕ) (s : SequenceSet) (at : Range × Entry)
+    → AreApart s.entries → IsFoundAbove (low_in s) s.entries cut at → slot at.1 ≡ old
+    → place_cmp cut at.1.high ≡ Less → IsStrictlySortedBy place_cmp (bounds_of s)
+    → IsStrictlySortedBy place_cmp (bounds_of (halved_record old into cut s))
+bounds-halves old into cut s at once found is less = by_first s.first found.above
+  where
+    both : List Entry
+    both = halves old into cut s.entries
+
+    rises : IsStrictlySortedBy place_cmp (highs s.entries)
+        → IsStrictlySortedBy place_cmp (highs both)
+    rises = sorted-halves old into cut (low_in s) s.entries at once found.leads is less
+
+    by_first : (b : Bool) → is_above (cond b None (Some s.low)) cut ≡ true
+        → IsStrictlySortedBy place_cmp (cond b [] (s.low ∷ []) ++ highs s.entries)
+        → IsStrictlySortedBy place_cmp (cond b [] (s.low ∷ []) ++ highs both)
+    by_first true above sorted = rises sorted
+    by_first false above sorted = sorted-one s.low (highs both)
+        (past-halves old into cut s.low s.entries (lt_from_test (place_cmp s.low cut) above)
+        (sorted_head place_cmp s.low (highs s.entries) sorted))
+        (rises (sorted_tail place_cmp s.low (highs s.entries) sorted))
 
 -- ---- all rules
 
@@ -329,13 +348,15 @@ halved-rules cis size old into cut s rules can =
     let both : List Entry = halves old into cut s.entries in
     let limit : ℕ = intervals_used cis size (length s.low) in
     let single : AreSingle both = single-halves old into cut s.entries can.others.single in
+    let found : IsFoundAbove (low_in s) s.entries cut can.place.at =
+    found-above (low_in s) s.entries cut can.place.at can.place.leads in
     let once : AreApart s.entries = are-apart s.entries can.others.single rules.numbers.once in
     let distinct : IsDistinct eqb (used both) =
     distinct-of both single (once-halves old into cut s.entries once
     (without-unused into s.entries can.others.single can.others.unused)) in
     let is_below : old < limit = subst (λ (n : ℕ). n < limit) can.place.is_old
-    (slot-below limit None s.entries can.place.at
-    (below-of limit s.entries can.others.single rules.numbers.below) can.place.leads) in
+    (slot-below limit (low_in s) s.entries can.place.at
+    (below-of limit s.entries can.others.single rules.numbers.below) found.leads) in
     let below : All (λ n. n < limit) (used both) =
     below-all limit both single (all-halves old into cut (λ entry. slot entry < limit)
     (λ entry within. is_below) (λ entry within. can.below) s.entries
@@ -362,7 +383,7 @@ halved-rules cis size old into cut s rules can =
           length-spelling (halved_record old into cut s),
           length-entries (length s.low) both single whole,
           numbers-fit cis size (length s.low) (length both)
-              (halves-some old into cut None s.entries can.place.at can.place.leads) count,
+              (halves-some old into cut (low_in s) s.entries can.place.at found.leads) count,
         );
       };
       fields = record {
@@ -372,11 +393,8 @@ halved-rules cis size old into cut s rules can =
         index_area = rules.fields.index_area;
       };
       numbers = record { below = below; once = distinct };
-      ascends = subst (IsStrictlySortedBy place_cmp)
-          (sym (first-highs (halved_record old into cut s) can.first))
-          (sorted-halves old into cut None s.entries can.place.at once can.place.leads
-          can.place.is_old can.place.less
-          (subst (IsStrictlySortedBy place_cmp) (first-highs s can.first) rules.ascends));
+      ascends = bounds-halves old into cut s can.place.at once found can.place.is_old
+          can.place.less rules.ascends;
       chain = rules.chain;
     }
   where

@@ -15,7 +15,7 @@ use Rattle.vr_seqset.specs.Entry.{Entry}
 use Rattle.vr_seqset.specs.SequenceSet.{SequenceSet, KeepsRules}
 use Rattle.vr_seqset.proofs.CallerLemmas.{All-right, earlier_keep}
 use Rattle.vr_space.specs.Room.{Range}
-use Rattle.vr_space.specs.Keyed.{entry_for}
+use Rattle.vr_space.specs.Keyed.{entry_above, low_in}
 use Rattle.vr_split.specs.Halves.{one_entry, halved, halves, IsCutOf, AreSingleWithout}
 use Rattle.vr_split.proofs.Leading.{slot, used, used-more}
 
@@ -75,25 +75,25 @@ single-other into before others entry are same =
 
 -- ---- the entry of the cut
 
-pub cut-no-entry : (old : ℕ) (cut : List ℕ) (entries : List Entry)
-    → entry_for None entries cut ≡ None → IsCutOf old cut entries → ⊥
-cut-no-entry old cut entries none is =
+pub cut-no-entry : (old : ℕ) (cut : List ℕ) (s : SequenceSet)
+    → entry_above (low_in s) s.entries cut ≡ None → IsCutOf old cut s → ⊥
+cut-no-entry old cut s none is =
     let same : Some is.at ≡ None = sym is.leads ∙ none in absurd cc
 
-pub cut-entry : (old : ℕ) (cut : List ℕ) (entries : List Entry) (range : Range) (entry : Entry)
-    → entry_for None entries cut ≡ Some (range, entry) → IsCutOf old cut entries
+pub cut-entry : (old : ℕ) (cut : List ℕ) (s : SequenceSet) (range : Range) (entry : Entry)
+    → entry_above (low_in s) s.entries cut ≡ Some (range, entry) → IsCutOf old cut s
     → (slot entry ≡ old) × (place_cmp cut entry.high ≡ Less)
-cut-entry old cut entries range entry leads is =
+cut-entry old cut s range entry leads is =
     let found : is.at.1 ≡ entry =
     ap (λ (o : Option (Range × Entry)). (unwrap_or o is.at).1) (sym is.leads ∙ leads) in (
       ap slot (sym found) ∙ is.is_old,
       subst (λ (e : Entry). place_cmp cut e.high ≡ Less) found is.less,
     )
 
-pub cut-found : (old : ℕ) (cut : List ℕ) (entries : List Entry) (range : Range) (entry : Entry)
-    → entry_for None entries cut ≡ Some (range, entry) → slot entry ≡ old
-    → place_cmp cut entry.high ≡ Less → IsCutOf old cut entries
-cut-found old cut entries range entry leads is less =
+pub cut-found : (old : ℕ) (cut : List ℕ) (s : SequenceSet) (range : Range) (entry : Entry)
+    → entry_above (low_in s) s.entries cut ≡ Some (range, entry) → slot entry ≡ old
+    → place_cmp cut entry.high ≡ Less → IsCutOf old cut s
+cut-found old cut s range entry leads is less =
     record { at = (range, entry); leads = leads; is_old = is; less = less }
 
 -- ---- one entry more

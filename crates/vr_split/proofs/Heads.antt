@@ -1,4 +1,4 @@
--- Each place of the part has an entry in a head.
+-- Each place of a part of one area has an entry in its head.
 use Rattle.std.proofs.Common.{◌≡◌, ◌<◌, ℕ, zero, suc, Bool, true, false, List, []}
 use Rattle.std.proofs.Common.{◌∷◌, ◌++◌, length, Option, Some, None, refl, sym, ap, subst, ◌∙◌}
 use Rattle.std.proofs.Common.{arith, true≢false, get_or}
@@ -11,7 +11,8 @@ use Rattle.vr_types.specs.Content.{place_cmp}
 use Rattle.vr_types.specs.Image.{Block}
 use Rattle.vr_seqset.specs.Entry.{Entry}
 use Rattle.vr_space.specs.Room.{Range}
-use Rattle.vr_space.specs.Keyed.{Keyed, IsHead, entries_of, range_of, entry_for}
+use Rattle.vr_space.specs.Keyed.{IsHead, IsWhole, Keyed, entries_of, entry_for, entry_in, range_of}
+use Rattle.vr_space.proofs.CallerLemmas.{whole-entry}
 
 -- ---- each place has an entry
 
@@ -71,9 +72,10 @@ some-from low (entry ∷ entries) place some last =
 
 -- each place of the part has an entry
 pub found-some : (part : Keyed) (top : Block) (place : List ℕ) → IsHead part top
-    → length place ≡ part.key → ((i : ℕ) → get_or place i 0 < 256)
-    → (at : Range × Entry) × (entry_for None (entries_of top) place ≡ Some at)
-found-some part top place head long fits =
-    some-from None (entries_of top) place head.spelled.some
+    → IsWhole part top → length place ≡ part.key → ((i : ℕ) → get_or place i 0 < 256)
+    → (at : Range × Entry) × (entry_in top place ≡ Some at)
+found-some part top place head whole long fits =
+    let found = some-from None (entries_of top) place head.spelled.some
     (λ before entry is. subst (λ (high : List ℕ). is_le (place_cmp place high) ≡ true)
-    (sym (head.last before entry is)) (most-place place part.key long fits))
+    (sym (whole.last before entry is)) (most-place place part.key long fits)) in
+    (found.0, whole-entry part top place whole ∙ found.1)

@@ -13,10 +13,10 @@ use Rattle.vr_types.specs.Image.{Block}
 use Rattle.vr_types.specs.Seen.{Seen, Only}
 use Rattle.vr_seqset.specs.Entry.{Entry}
 use Rattle.vr_space.specs.Room.{Range, is_in, is_above}
-use Rattle.vr_space.specs.Keyed.{Keyed, IsHead, EachMayLeave, entries_of, entry_block, entry_for}
-use Rattle.vr_space.specs.Keyed.{range_of}
+use Rattle.vr_space.specs.Keyed.{Keyed, IsHead, EachMayLeave, entries_of, entry_above, entry_block}
+use Rattle.vr_space.specs.Keyed.{entry_for, entry_in, low_of, range_of}
 use Rattle.vr_space.specs.UnderWay.{interval_block}
-use Rattle.vr_space.proofs.CallerLemmas.{in-both, is_past}
+use Rattle.vr_space.proofs.CallerLemmas.{found-above, in-both, is_past}
 use Rattle.vr_split.specs.Switching.{OfBlock}
 use Rattle.vr_split.proofs.Puts.{of-found}
 
@@ -83,6 +83,18 @@ found-range low (entry ∷ entries) place at above is = ⊎_elim
     (λ on. found-range (Some entry.high) entries place at
     (ap is_lt (is_past place entry.high on.past)) on.further)
     (led low entry entries place at is)
+
+-- an entry that is found in a head is the first that reaches the place
+pub in-leads : (top : Block) (place : List ℕ) (at : Range × Entry) → entry_in top place ≡ Some at
+    → entry_for (low_of top) (entries_of top) place ≡ Some at
+in-leads top place at is = (found-above (low_of top) (entries_of top) place at is).leads
+
+-- and its range holds it
+pub in-range : (low : Option (List ℕ)) (entries : List Entry) (place : List ℕ)
+    (at : Range × Entry) → entry_above low entries place ≡ Some at → is_in at.0 place ≡ true
+in-range low entries place at is =
+    let found = found-above low entries place at is in
+    found-range low entries place at found.above found.leads
 
 -- what holds of each interval and its range holds of the one of a place
 pub each-found : (part : Keyed) (now : Seen) (Q : Range → Block

@@ -13,15 +13,17 @@ use Rattle.vr_types.proofs.CallerLemmas.{puts-touches, cur-elsewhere, cur-put}
 use Rattle.vr_seqset.specs.Entry.{Entry}
 use Rattle.vr_space.specs.Way.{found_on, MayFind}
 use Rattle.vr_space.specs.Room.{Range}
-use Rattle.vr_space.specs.Keyed.{Keyed, HoldsRange, EachMayLeave, IsKeyedSound}
-use Rattle.vr_space.specs.Keyed.{IsKeyedAtRest, entries_of, entry_block, records_of, range_of}
-use Rattle.vr_space.specs.Keyed.{InArea, IsOwned, entry_for, way_in, way_under, keyed_way}
+use Rattle.vr_space.specs.Keyed.{AreWhole, Keyed, HoldsRange, EachMayLeave, IsKeyedSound}
+use Rattle.vr_space.specs.Keyed.{IsKeyedAtRest, entries_of, entry_block, entry_for, entry_in}
+use Rattle.vr_space.specs.Keyed.{InArea, IsOwned, keyed_way, low_of, range_of, records_of, way_in}
+use Rattle.vr_space.specs.Keyed.{way_under}
 use Rattle.vr_space.specs.Owners.{Owners}
 use Rattle.vr_space.specs.Part.{KeyedShape, InPart, HasOnly, MayHold, MayAlsoHold, AddsTo}
 use Rattle.vr_space.specs.Part.{Nothing, Just, SameRecords, item_of}
 use Rattle.vr_space.proofs.CallerLemmas.{found-may, find-more, within-less}
 use Rattle.vr_space.proofs.CallerLemmas.{keyed-within, keyed-image, keyed-less, IsBlock}
-use Rattle.vr_space.proofs.CallerLemmas.{only-weaken}
+use Rattle.vr_space.proofs.CallerLemmas.{only-weaken, found-above, whole-less}
+use Rattle.vr_split.specs.Switching.{OfRead, entry_read}
 pub use Rattle.vr_split.specs.Switching.{OfBlock}
 
 -- what is seen, and what a put may leave beside it
@@ -35,6 +37,14 @@ also a n bytes = record {
   images = a.images;
 }
 
+-- with less of it the area stays sound
+pub sound-put : (part : Keyed) (tells : Bool) (n : ℕ) (bytes : Block) (a b : Seen)
+    → IsTrue tells → Puts tells n bytes a b → IsKeyedSound part (also a n bytes)
+    → IsKeyedSound part b
+sound-put part tells n bytes a b told call sound =
+    keyed-less part (also a n bytes) b call.count_same call.size_same
+    (λ k block is may. call.adds told k block is.0 may) sound
+
 -- A put into a block of the part: it owes that what a crash may leave is in order with the bytes
 -- too, and that A allows what may be held then.
 pub puts-adds : (part : Keyed) (tells : Bool) (A : List ℕ → Option Item
@@ -42,9 +52,10 @@ pub puts-adds : (part : Keyed) (tells : Bool) (A : List ℕ → Option Item
     → InArea part n → IsKeyedSound part (also a n bytes)
     → ((place : List ℕ) (item : Option Item)
     → MayHold (KeyedShape part) (MayAlso a.may n bytes) place item
-    → MayAlsoHold (KeyedShape part) a.may A place item) → (owners : Owners)
+    → MayAlsoHold (KeyedShape part) a.may A place item)
+    → AreWhole part (also a n bytes) → (owners : Owners)
     → IsOwned part owners → AddsTo (KeyedShape part) owners A a b
-puts-adds part tells A n bytes a b told call inside sound allowed owners owned =
+puts-adds part tells A n bytes a b told call inside sound allowed whole owners owned =
     let within : (k : ℕ) (block : Block) → IsBlock part (also a n bytes) k → b.may k block
     → MayAlso a.may n bytes k block = λ k block is may. call.adds told k block is.0 may in
     record {
@@ -54,14 +65,15 @@ puts-adds part tells A n bytes a b told call inside sound allowed owners owned =
           (λ image left. only-weaken (KeyedShape part) owners
           (MayHold (KeyedShape part) (MayAlso a.may n bytes))
           (MayAlsoHold (KeyedShape part) a.may A) allowed image
-          (keyed-image part (also a n bytes) owners (sound, owned) image left));
+          (keyed-image part (also a n bytes) owners (sound, whole, owned) image left));
       rest = λ place item holds. allowed place item
           (find-more (IsBlock part (also a n bytes)) b.may (MayAlso a.may n bytes) item within
           (keyed_way part place)
           (within-less (IsBlock part (also a n bytes)) b.may (MayAlso a.may n bytes) within
           (keyed_way part place) (keyed-within part (also a n bytes) sound place)) holds);
       sound = (
-        keyed-less part (also a n bytes) b call.count_same call.size_same within sound,
+        sound-put part tells n bytes a b told call sound,
+        whole-less part (also a n bytes) b within sound whole,
         owned,
       );
     }
@@ -80,26 +92,28 @@ each-also part a n bytes Q low (entry ∷ entries) left of = (
 )
 
 module _ (part : Keyed) (a : Seen) (n : ℕ) (bytes : Block) where
-  -- the current entries
-  abbrev pub now-entries : List Entry
-  now-entries = entries_of (block_at a.cur part.head)
+  -- the heads that may be left are those that might have been
+  head-may : n ≢ part.head → (top : Block) → MayAlso a.may n bytes part.head top
+      → a.may part.head top
+  head-may other top = ⊎_elim (λ old. old) (λ new. absurd (other (sym new.0)))
+
+  -- so they stay whole
+  pub interval-whole : n ≢ part.head → AreWhole part a → AreWhole part (also a n bytes)
+  interval-whole other whole = λ top may. whole top (head-may other top may)
 
   pub interval-sound : IsKeyedAtRest part a → n ≢ part.head
-      → OfBlock part n None now-entries (λ range. HoldsRange part range bytes)
+      → OfRead part a.cur n (λ range. HoldsRange part range bytes)
       → IsKeyedSound part (also a n bytes)
-  interval-sound rests other of =
-      let before : (top : Block) → MayAlso a.may n bytes part.head top → a.may part.head top =
-      λ top. ⊎_elim (λ old. old) (λ new. absurd (other (sym new.0))) in
-      record {
-        area = rests.sound.area;
-        size = rests.sound.size;
-        heads = λ top may. rests.sound.heads top (before top may);
-        intervals = λ top may. each-also part a n bytes (HoldsRange part) None (entries_of top)
-            (rests.sound.intervals top (before top may))
-            (subst (λ (head : Block). OfBlock part n None (entries_of head)
-            (λ range. HoldsRange part range bytes)) (sym (rests.one_head top (before top may)))
-            of);
-      }
+  interval-sound rests other of = record {
+    area = rests.sound.area;
+    size = rests.sound.size;
+    heads = λ top may. rests.sound.heads top (head-may other top may);
+    intervals = λ top may. each-also part a n bytes (HoldsRange part) (low_of top)
+        (entries_of top) (rests.sound.intervals top (head-may other top may))
+        (subst (λ (head : Block). OfBlock part n (low_of head) (entries_of head)
+        (λ range. HoldsRange part range bytes))
+        (sym (rests.one_head top (head-may other top may))) of);
+  }
 
   -- what may be found in an interval beside what might have been
   found-also : (place : List ℕ) (item : Option Item) (found : Option (Range × Entry))
@@ -125,34 +139,30 @@ module _ (part : Keyed) (a : Seen) (n : ℕ) (bytes : Block) where
       → (place : List ℕ) (item : Option Item)
       → MayHold (KeyedShape part) (MayAlso a.may n bytes) place item
       → MayHold (KeyedShape part) a.may place item
-      ⊎ ((at : Range × Entry) × (entry_for None now-entries place ≡ Some at)
+      ⊎ ((at : Range × Entry) × (entry_read part a.cur place ≡ Some at)
       × (entry_block part at.1 ≡ n) × (item ≡ item_at (records_of part bytes) place))
   interval-hold rests other place item is =
-      let may : a.may part.head is.0 =
-      ⊎_elim (λ old. old) (λ new. absurd (other (sym new.0))) is.1 in
+      let may : a.may part.head is.0 = head-may other is.0 is.1 in
       ⊎_elim
       (λ old. inl (is.0, may, old))
       (λ new. inr (
         new.0,
-        sym
-            (ap (λ (head : Block). entry_for None (entries_of head) place)
-            (rests.one_head is.0 may))
-            ∙ new.1,
+        sym (ap (λ (head : Block). entry_in head place) (rests.one_head is.0 may)) ∙ new.1,
         new.2,
         new.3,
       ))
-      (found-also place item (entry_for None (entries_of is.0) place) is.2)
+      (found-also place item (entry_in is.0 place) is.2)
 
   -- where the entries lead to the block, the bytes have the current record
   abbrev pub KeepsRecords : Type 0
-  KeepsRecords = (place : List ℕ) (at : Range × Entry) → entry_for None now-entries place ≡ Some at
+  KeepsRecords = (place : List ℕ) (at : Range × Entry) → entry_read part a.cur place ≡ Some at
       → entry_block part at.1 ≡ n
       → item_at (records_of part bytes) place ≡ item_of (KeyedShape part) a.cur place
 
   -- or they do at all places but one, which has this
   abbrev pub KeepsOthers : List ℕ → Option Item → Type 0
   KeepsOthers at new = (place : List ℕ) (found : Range × Entry)
-      → entry_for None now-entries place ≡ Some found → entry_block part found.1 ≡ n
+      → entry_read part a.cur place ≡ Some found → entry_block part found.1 ≡ n
       → (item_at (records_of part bytes) place ≡ item_of (KeyedShape part) a.cur place)
       ⊎ ((place ≡ at) × (item_at (records_of part bytes) place ≡ new))
 
@@ -179,6 +189,14 @@ of-found part n low (entry ∷ entries) P place at of is here =
         subst (λ (f : Range × Entry). entry_block part f.1 ≡ n → P f.0) found of.0 here
     reached false same more = more same
 
+-- the same of one that is found in a head
+pub of-found-in : (part : Keyed) (n : ℕ) (top : Block) (P : Range → Type 0) (place : List ℕ)
+    (at : Range × Entry) → OfBlock part n (low_of top) (entries_of top) P
+    → entry_in top place ≡ Some at → entry_block part at.1 ≡ n → P at.0
+of-found-in part n top P place at of is =
+    of-found part n (low_of top) (entries_of top) P place at of
+    (found-above (low_of top) (entries_of top) place at is).leads
+
 -- ---- what a put into an interval adds
 
 module _ (part : Keyed) (tells : Bool) (told : IsTrue tells) (a b : Seen) (n : ℕ) (bytes : Block)
@@ -192,11 +210,10 @@ module _ (part : Keyed) (tells : Bool) (told : IsTrue tells) (a b : Seen) (n : �
 
     -- an interval is written with the records that it has
     pub rewrite-adds : IsKeyedAtRest part a → Left a a.cur → Puts tells n bytes a b → n ≢ part.head
-        → InArea part n
-        → OfBlock part n None (now-entries part a n bytes) (λ range. HoldsRange part range bytes)
-        → KeepsRecords part a n bytes → (owners : Owners) → IsOwned part owners
-        → AddsTo (KeyedShape part) owners Nothing a b
-    rewrite-adds rests left call other inside of keeps =
+        → InArea part n → OfRead part a.cur n (λ range. HoldsRange part range bytes)
+        → KeepsRecords part a n bytes → AreWhole part a → (owners : Owners)
+        → IsOwned part owners → AddsTo (KeyedShape part) owners Nothing a b
+    rewrite-adds rests left call other inside of keeps whole =
         puts-adds part tells Nothing n bytes a b told call inside
         (interval-sound part a n bytes rests other of)
         (λ place item holds. ⊎_elim
@@ -204,14 +221,15 @@ module _ (part : Keyed) (tells : Bool) (told : IsTrue tells) (a b : Seen) (n : �
         (λ new. inl (subst (MayHold (KeyedShape part) a.may place) (sym (new.3
         ∙ keeps place new.0 new.1 new.2)) (current-held rests.sound left place)))
         (interval-hold part a n bytes rests other place item holds))
+        (interval-whole part a n bytes other whole)
 
     -- it is written with one record changed
     pub set-adds : (at : List ℕ) (new : Option Item) → IsKeyedAtRest part a → Left a a.cur
         → Puts tells n bytes a b → n ≢ part.head → InArea part n
-        → OfBlock part n None (now-entries part a n bytes) (λ range. HoldsRange part range bytes)
-        → KeepsOthers part a n bytes at new → (owners : Owners) → IsOwned part owners
-        → AddsTo (KeyedShape part) owners (Just at new) a b
-    set-adds at new rests left call other inside of keeps =
+        → OfRead part a.cur n (λ range. HoldsRange part range bytes)
+        → KeepsOthers part a n bytes at new → AreWhole part a → (owners : Owners)
+        → IsOwned part owners → AddsTo (KeyedShape part) owners (Just at new) a b
+    set-adds at new rests left call other inside of keeps whole =
         puts-adds part tells (Just at new) n bytes a b told call inside
         (interval-sound part a n bytes rests other of)
         (λ place item holds. ⊎_elim
@@ -222,19 +240,20 @@ module _ (part : Keyed) (tells : Bool) (told : IsTrue tells) (a b : Seen) (n : �
         (λ here. inr (here.0, led.3 ∙ here.1))
         (keeps place led.0 led.1 led.2))
         (interval-hold part a n bytes rests other place item holds))
+        (interval-whole part a n bytes other whole)
 
     -- no entry leads to the block
     abbrev pub IsFreeBlock : Type 0
-    IsFreeBlock = OfBlock part n None (now-entries part a n bytes) (λ range. ⊥)
+    IsFreeBlock = OfRead part a.cur n (λ range. ⊥)
 
     -- a free interval is written
     pub free-adds : IsKeyedAtRest part a → Left a a.cur → Puts tells n bytes a b → n ≢ part.head
-        → InArea part n → IsFreeBlock → (owners : Owners) → IsOwned part owners
-        → AddsTo (KeyedShape part) owners Nothing a b
+        → InArea part n → IsFreeBlock → AreWhole part a → (owners : Owners)
+        → IsOwned part owners → AddsTo (KeyedShape part) owners Nothing a b
     free-adds rests left call other inside free =
-        rewrite-adds rests left call other inside (of-none None (now-entries part a n bytes) free)
-        (λ place at is here. absurd
-        (of-found part n None (now-entries part a n bytes) (λ range. ⊥) place at free is here))
+        let top : Block = block_at a.cur part.head in
+        rewrite-adds rests left call other inside (of-none (low_of top) (entries_of top) free)
+        (λ place at is here. absurd (of-found-in part n top (λ range. ⊥) place at free is here))
       where
         of-none : (low : Option (List ℕ)) (entries : List Entry)
             → OfBlock part n low entries (λ range. ⊥)
@@ -280,7 +299,7 @@ module _ (part : Keyed) (tells : Bool) (told : IsTrue tells) (a b : Seen) (n : �
         (call.content told)
 
     pub led-is : (place : List ℕ) (at : Range × Entry)
-        → entry_for None (now-entries part a n bytes) place ≡ Some at
+        → entry_read part a.cur place ≡ Some at
         → item_of (KeyedShape part) a.cur place ≡ item_at
         (records_of part (block_at a.cur (entry_block part at.1))) place
     led-is place at is =
@@ -291,7 +310,7 @@ module _ (part : Keyed) (tells : Bool) (told : IsTrue tells) (a b : Seen) (n : �
         → KeepsRecords part a n bytes → SameRecords (KeyedShape part) a.cur b.cur
     rewrite-same call other below long keeps place =
         ap (λ (top : Block). found_on b.cur (way_under part place top)) (head-still call other)
-        ∙ still-found place (entry_for None (now-entries part a n bytes) place) call
+        ∙ still-found place (entry_read part a.cur place) call
         (λ at is here. ⊎_elim
         (λ same. ap (λ (block : Block). item_at (records_of part block) place) same)
         (λ new. ap (λ (block : Block). item_at (records_of part block) place) new

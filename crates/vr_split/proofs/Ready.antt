@@ -1,7 +1,7 @@
 -- What a split that is begun says of its two intervals, and of the blocks that its stages write.
 use Rattle.std.proofs.Common.{◌≡◌, ◌≢◌, ⊎_elim, ◌<◌, ◌≤◌, ◌+◌, ◌-◌, ◌/◌, ℕ, zero, suc, Bool, true}
 use Rattle.std.proofs.Common.{false}
-use Rattle.std.proofs.Common.{List, [], ◌∷◌, Option, Some, None, refl, sym, ap, subst, ◌∙◌, arith}
+use Rattle.std.proofs.Common.{List, [], ◌∷◌, Option, Some, refl, sym, ap, subst, ◌∙◌, arith}
 use Rattle.std.proofs.Common.{true≢false, eqb, cond, is_some, length}
 use Rattle.std.specs.Prelude.{min, unwrap_or}
 use Rattle.std.specs.List.{list_any}
@@ -15,7 +15,8 @@ use Rattle.vr_seqset.specs.Reading.{record_in}
 use Rattle.vr_space.specs.Way.{found_on}
 use Rattle.vr_space.specs.Room.{Lengths, Range, HaveRoom, is_above}
 use Rattle.vr_space.specs.Keyed.{Keyed, IsHead, HoldsRange, IsKeyedAtRest, KeepsRoom, entries_of}
-use Rattle.vr_space.specs.Keyed.{entry_block, entry_for, lengths_of, records_of, way_in}
+use Rattle.vr_space.specs.Keyed.{entry_block, entry_for, entry_in, lengths_of, low_of, records_of}
+use Rattle.vr_space.specs.Keyed.{way_in}
 use Rattle.vr_space.specs.Part.{KeyedShape, item_of}
 use Rattle.vr_space.specs.Search.{IsEntryFor, range_found}
 use Rattle.vr_space.specs.declared.search.FoundEntry.{FoundEntry}
@@ -23,7 +24,7 @@ use Rattle.vr_space.specs.Split.{SplitNow, free_from}
 use Rattle.vr_space.specs.UnderWay.{IsBegun, interval_block}
 use Rattle.vr_space.proofs.CallerLemmas.{found-in, AscendFrom}
 use Rattle.vr_split.specs.Switching.{IsIntervalBlock, IsFree}
-use Rattle.vr_split.proofs.Leading.{led, slot, OtherThan, AreApart, used, each-found}
+use Rattle.vr_split.proofs.Leading.{led, slot, OtherThan, AreApart, used, each-found, in-leads}
 use Rattle.vr_split.proofs.Leading.{of-without, head-apart, without-found, without-unused}
 use Rattle.vr_split.specs.Halves.{CanHalve}
 
@@ -73,36 +74,37 @@ module _ (part : Keyed) (split : SplitNow) (a : Seen) (rests : IsKeyedAtRest par
   once-now = head-apart part top_now head-now
 
   -- the interval of the cut
-  pub in-area : (at : Range × Entry) → entry_for None (entries_of top_now) split.cut ≡ Some at
+  pub in-area : (at : Range × Entry) → entry_in top_now split.cut ≡ Some at
       → slot at.1 < part.area
   in-area at is = found-in part top_now split.cut at head-now is
 
-  pub may-found : (at : Range × Entry) → entry_for None (entries_of top_now) split.cut ≡ Some at
+  pub may-found : (at : Range × Entry) → entry_in top_now split.cut ≡ Some at
       → a.may (entry_block part at.1) (block_at a.cur (entry_block part at.1))
   may-found at is = left.each (entry_block part at.1)
       (omega (arith, rests.sound.area, in-area at is))
 
   -- holds its range
   pub holds-found : (at : Range × Entry)
-      → entry_for None (entries_of top_now) split.cut ≡ Some at
+      → entry_in top_now split.cut ≡ Some at
       → HoldsRange part at.0 (block_at a.cur (entry_block part at.1))
-  holds-found at is = each-found part a (HoldsRange part) None (entries_of top_now) split.cut at
-      (rests.sound.intervals top_now may-top) is
+  holds-found at is = each-found part a (HoldsRange part) (low_of top_now) (entries_of top_now)
+      split.cut at (rests.sound.intervals top_now may-top) (in-leads top_now split.cut at is)
       (block_at a.cur (entry_block part at.1)) (may-found at is)
 
   -- and has room for what is kept there
   pub room-found : (kept : Lengths) → KeepsRoom part kept a → (at : Range × Entry)
-      → entry_for None (entries_of top_now) split.cut ≡ Some at
+      → entry_in top_now split.cut ≡ Some at
       → HaveRoom part.size
       (lengths_of part kept at.0 (block_at a.cur (entry_block part at.1)))
   room-found kept room at is = each-found part a
-      (λ range block. HaveRoom part.size (lengths_of part kept range block)) None
-      (entries_of top_now) split.cut at (room.each top_now may-top) is
+      (λ range block. HaveRoom part.size (lengths_of part kept range block)) (low_of top_now)
+      (entries_of top_now) split.cut at (room.each top_now may-top)
+      (in-leads top_now split.cut at is)
       (block_at a.cur (entry_block part at.1)) (may-found at is)
 
   -- a place that leads there has the record that stands there
   pub item-found : (place : List ℕ) (at : Range × Entry)
-      → entry_for None (entries_of top_now) place ≡ Some at
+      → entry_in top_now place ≡ Some at
       → item_of (KeyedShape part) a.cur place ≡ item_at
       (records_of part (block_at a.cur (entry_block part at.1))) place
   item-found place at is =
@@ -134,8 +136,9 @@ module _ (part : Keyed) (split : SplitNow) (a : Seen) (rests : IsKeyedAtRest par
     none-into = without-unused split.into (entries_of top_now) head-now.single free-is.1
 
     pub two-blocks : interval_block part split.into ≢ interval_block part split.old
-    two-blocks same = without-found split.into None (entries_of top_now) split.cut begun.at
-        none-into begun.found (omega (arith, same, begun.old))
+    two-blocks same = without-found split.into (low_of top_now) (entries_of top_now) split.cut
+        begun.at none-into (in-leads top_now split.cut begun.at begun.found)
+        (omega (arith, same, begun.old))
 
     pub old-block : IsIntervalBlock part (interval_block part split.old)
     old-block = record { low = omega arith; high = omega (arith, old-in) }
@@ -144,7 +147,8 @@ module _ (part : Keyed) (split : SplitNow) (a : Seen) (rests : IsKeyedAtRest par
     into-block = record { low = omega arith; high = omega (arith, into-in) }
 
     pub into-free : IsFree part a.cur (interval_block part split.into)
-    into-free = of-without part split.into (λ range. ⊥) None (entries_of top_now) none-into
+    into-free = of-without part split.into (λ range. ⊥) (low_of top_now) (entries_of top_now)
+        none-into
 
     pub old-holds : HoldsRange part begun.at.0 (block_at a.cur (interval_block part split.old))
     old-holds = subst (λ (n : ℕ). HoldsRange part begun.at.0 (block_at a.cur n)) is-old
@@ -154,7 +158,6 @@ module _ (part : Keyed) (split : SplitNow) (a : Seen) (rests : IsKeyedAtRest par
     pub can-halve : CanHalve part.area (length top_now) split.old split.into split.cut
         (record_in top_now)
     can-halve = record {
-      first = head-now.first;
       key = begun.length ∙ sym head-now.key;
       below = subst (λ (size : ℕ). split.into < intervals_used part.area size
           (length (record_in top_now).low)) (sym head-now.size)
@@ -166,7 +169,8 @@ module _ (part : Keyed) (split : SplitNow) (a : Seen) (rests : IsKeyedAtRest par
         leads = begun.found;
         is_old = begun.old;
         less = subst (λ (high : List ℕ). place_cmp split.cut high ≡ Less)
-            (high-is None (entries_of top_now) split.cut begun.at begun.found) begun.below;
+            (high-is (low_of top_now) (entries_of top_now) split.cut begun.at
+            (in-leads top_now split.cut begun.at begun.found)) begun.below;
       };
     }
 
@@ -184,7 +188,7 @@ range-rises low (entry ∷ entries) place at ascend is = ⊎_elim
 
 -- the range that a search answers is the one that is found
 pub found-is : (top : Block) (place : List ℕ) (at : Range × Entry) (found : FoundEntry)
-    → entry_for None (entries_of top) place ≡ Some at → IsEntryFor top place found
+    → entry_in top place ≡ Some at → IsEntryFor top place found
     → range_found found ≡ at.0
 found-is top place at found leads is =
     ap (λ (o : Option (Range × Entry)). (unwrap_or o at).0) (sym is.reaches ∙ leads)

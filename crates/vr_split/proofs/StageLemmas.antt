@@ -1,21 +1,20 @@
 -- Stages of a split, one put after another.
 use Rattle.std.proofs.Common.{◌≡◌, ◌≢◌, ◌<◌, ℕ, Bool, IsTrue, []}
-use Rattle.std.proofs.Common.{Some, None, sym, ap, subst, ◌∙◌, arith}
+use Rattle.std.proofs.Common.{Some, sym, ap, subst, ◌∙◌, arith}
 use Rattle.vr_types.specs.Content.{item_at}
 use Rattle.vr_types.specs.Image.{Block, Image, block_at}
 use Rattle.vr_types.specs.Seen.{Seen, Left, Only}
 use Rattle.vr_types.specs.Blocks.{Puts}
 use Rattle.vr_types.proofs.CallerLemmas.{touches-then}
 use Rattle.vr_space.specs.Room.{Lengths, HaveRoom}
-use Rattle.vr_space.specs.Keyed.{Keyed, HoldsRange, lengths_of, entries_of, records_of}
-use Rattle.vr_space.specs.Keyed.{entry_for}
+use Rattle.vr_space.specs.Keyed.{Keyed, HoldsRange, entries_of, entry_in, lengths_of, low_of}
+use Rattle.vr_space.specs.Keyed.{records_of}
 use Rattle.vr_space.specs.Part.{KeyedShape, Nothing, SameRecords, HasRoom, InPart}
-use Rattle.vr_space.proofs.CallerLemmas.{nothing-then, records-then, due-then}
+use Rattle.vr_space.proofs.CallerLemmas.{nothing-then, records-then, due-then, ends-then}
 use Rattle.vr_split.specs.Switching.{OfBlock, IsIntervalBlock, IsResting, CanReplace, KeepsPart}
 use Rattle.vr_split.specs.Switching.{IsStageDone}
-use Rattle.vr_split.proofs.Owned.{all_of, all-owned}
-use Rattle.vr_split.proofs.Puts.{rewrite-adds, rewrite-same}
-use Rattle.vr_split.proofs.After.{rest-after, room-after, rooms-after, due-put}
+use Rattle.vr_split.proofs.Puts.{interval-sound, rewrite-adds, rewrite-same, sound-put}
+use Rattle.vr_split.proofs.After.{ends-after, rest-after, room-after, rooms-after, due-put}
 
 module _ (part : Keyed) (tells : Bool) (told : IsTrue tells) (a b : Seen) (n : ℕ) (bytes : Block)
     (kept : Lengths) where
@@ -30,6 +29,7 @@ module _ (part : Keyed) (tells : Bool) (told : IsTrue tells) (a b : Seen) (n : �
         (omega (arith, block.low), block.high) can.holds can.records;
     same = rewrite-same part tells told a b n bytes call (other-than block) below left.length_is
         can.records;
+    ends = ends-after part tells told a b n bytes resting.rests.sound call (other-than block);
     room = room-after part tells told a b n bytes kept resting.rests call (other-than block)
         resting.room can.room;
     rooms = rooms-after part tells told a b n bytes kept resting.rests call (other-than block)
@@ -42,8 +42,8 @@ module _ (part : Keyed) (tells : Bool) (told : IsTrue tells) (a b : Seen) (n : �
       → Only b n (λ block. block ≡ bytes) → IsStageDone part a b
   done-replace resting block below left can call only = record {
     rests = rest-after part tells told a b n bytes resting.rests call (other-than block)
-        ((keeps-replace resting block below left can call).adds (all_of part)
-        (all-owned part)).sound.0;
+        (sound-put part tells n bytes a b told call
+        (interval-sound part a n bytes resting.rests (other-than block) can.holds));
     due = λ listed place due within. due-put part tells told a b n bytes listed place resting.rests
         left call (other-than block)
         (λ at leads here there once. ap (λ (x : Block). item_at (records_of part x) place)
@@ -56,9 +56,12 @@ module _ (part : Keyed) (kept : Lengths) where
   pub keeps-then : (a b c : Seen) → KeepsPart part kept a b → KeepsPart part kept b c
       → KeepsPart part kept a c
   keeps-then a b c first second = record {
-    adds = λ owners owned. nothing-then (KeyedShape part) owners Nothing a b c
-        (first.adds owners owned) (second.adds owners owned);
+    adds = λ whole owners owned.
+        let one = first.adds whole owners owned in
+        nothing-then (KeyedShape part) owners Nothing a b c one
+        (second.adds one.sound.1 owners owned);
     same = records-then (KeyedShape part) a.cur b.cur c.cur first.same second.same;
+    ends = ends-then part a b c first.ends second.ends;
     room = second.room;
     rooms = λ owners owned. touches-then (InPart (KeyedShape part) owners)
         (HasRoom (KeyedShape part) kept) a b c (first.rooms owners owned)
@@ -80,11 +83,11 @@ module _ (part : Keyed) (kept : Lengths) where
       → CanReplace part kept a n bytes → CanReplace part kept b n bytes
   replace-still a b n bytes head same can = record {
     holds = subst
-        (λ (top : Block). OfBlock part n None (entries_of top)
+        (λ (top : Block). OfBlock part n (low_of top) (entries_of top)
         (λ range. HoldsRange part range bytes)) (sym head) can.holds;
-    room = subst (λ (top : Block). OfBlock part n None (entries_of top)
+    room = subst (λ (top : Block). OfBlock part n (low_of top) (entries_of top)
         (λ range. HaveRoom part.size (lengths_of part kept range bytes))) (sym head) can.room;
     records = λ place at leads here. can.records place at
-        (subst (λ (top : Block). entry_for None (entries_of top) place ≡ Some at) head leads) here
+        (subst (λ (top : Block). entry_in top place ≡ Some at) head leads) here
         ∙ sym (same place);
   }

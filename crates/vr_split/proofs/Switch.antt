@@ -12,13 +12,15 @@ use Rattle.vr_types.proofs.CallerLemmas.{cur-elsewhere, cur-put, puts-touches}
 use Rattle.vr_seqset.specs.Entry.{Entry}
 use Rattle.vr_space.specs.Way.{found_on, MayFind, MayOnceForced}
 use Rattle.vr_space.specs.Room.{Lengths, Range, HaveRoom}
-use Rattle.vr_space.specs.Keyed.{Keyed, IsHead, HoldsRange, EachMayLeave, IsKeyedSound}
-use Rattle.vr_space.specs.Keyed.{IsKeyedAtRest, KeepsRoom, lengths_of, entries_of, entry_block}
-use Rattle.vr_space.specs.Keyed.{IsOwned, records_of, entry_for, way_in, way_under}
+use Rattle.vr_space.specs.Keyed.{AreWhole, HasEnds, Keyed, IsHead, HoldsRange, EachMayLeave}
+use Rattle.vr_space.specs.Keyed.{IsKeyedAtRest, IsKeyedSound, IsOwned, IsWhole, KeepsEnds}
+use Rattle.vr_space.specs.Keyed.{KeepsRoom, entries_of, entry_block, entry_in, lengths_of}
+use Rattle.vr_space.specs.Keyed.{low_of, records_of, way_in, way_under}
 use Rattle.vr_space.specs.Owners.{Owners}
 use Rattle.vr_space.specs.Part.{KeyedShape, AddsTo, Nothing, MayHold, SameRecords}
 use Rattle.vr_space.specs.Part.{DueMore, HasRoom, InPart, item_of}
-use Rattle.vr_space.proofs.CallerLemmas.{each-less, head-in, entry-in, room-image}
+use Rattle.vr_space.proofs.CallerLemmas.{area-room-image, each-less, entry-in-above, head-in}
+use Rattle.vr_space.proofs.CallerLemmas.{same-ends, whole-ends}
 use Rattle.vr_split.specs.Switching.{OfBlock, SwitchesAt, CanSwitch}
 use Rattle.vr_split.proofs.Puts.{also, each-also, puts-adds, current-held}
 
@@ -36,7 +38,7 @@ module _ (part : Keyed) (tells : Bool) (told : IsTrue tells) (a b : Seen) (top :
   still-in Q low entries left =
       each-also part a part.head top Q low entries left (of-head (λ range. Q range top) low entries)
 
-  switch-sound : (kept : Lengths) → IsKeyedSound part a → CanSwitch part kept top a
+  pub switch-sound : (kept : Lengths) → IsKeyedSound part a → CanSwitch part kept top a
       → IsKeyedSound part (also a part.head top)
   switch-sound kept sound can = record {
     area = sound.area;
@@ -44,11 +46,12 @@ module _ (part : Keyed) (tells : Bool) (told : IsTrue tells) (a b : Seen) (top :
     heads = λ head. ⊎_elim (λ old. sound.heads head old)
         (λ new. subst (IsHead part) (sym new.1) can.head);
     intervals = λ head. ⊎_elim
-        (λ old. still-in (HoldsRange part) None (entries_of head) (sound.intervals head old))
+        (λ old. still-in (HoldsRange part) (low_of head) (entries_of head)
+        (sound.intervals head old))
         (λ new. subst
-        (λ (h : Block). EachMayLeave part (also a part.head top) None (entries_of h)
+        (λ (h : Block). EachMayLeave part (also a part.head top) (low_of h) (entries_of h)
         (HoldsRange part)) (sym new.1)
-        (still-in (HoldsRange part) None (entries_of top) can.holds));
+        (still-in (HoldsRange part) (low_of top) (entries_of top) can.holds));
   }
 
   -- what is found in an interval
@@ -79,22 +82,43 @@ module _ (part : Keyed) (tells : Bool) (told : IsTrue tells) (a b : Seen) (top :
       (current-held part tells told a b part.head top sound left place))
       switches
 
+  -- the new head is whole where the current one is
+  switch-whole : (kept : Lengths) → IsKeyedSound part a → Left a a.cur → CanSwitch part kept top a
+      → AreWhole part a → AreWhole part (also a part.head top)
+  switch-whole kept sound left can whole = λ head. ⊎_elim (λ old. whole head old)
+      (λ new. subst (IsWhole part) (sym new.1)
+      (whole-ends part (block_at a.cur part.head) top can.ends
+      (whole (block_at a.cur part.head) (left.each part.head (omega (arith, sound.area))))))
+
+  -- it has the ends of the current one
+  pub switch-ends : (kept : Lengths) → IsKeyedSound part a → Left a a.cur
+      → Puts tells part.head top a b → CanSwitch part kept top a → KeepsEnds part a b
+  switch-ends kept sound left call can = λ head may. ⊎_elim
+      (λ old. (head, old, same-ends head))
+      (λ new. (
+        block_at a.cur part.head,
+        left.each part.head (omega (arith, sound.area)),
+        subst (HasEnds (block_at a.cur part.head)) (sym new.1) can.ends,
+      ))
+      (call.adds told part.head head (omega (arith, sound.area)) may)
+
   pub switch-adds : (kept : Lengths) → IsKeyedSound part a → Left a a.cur
-      → Puts tells part.head top a b → CanSwitch part kept top a
+      → Puts tells part.head top a b → CanSwitch part kept top a → AreWhole part a
       → (owners : Owners) → IsOwned part owners → AddsTo (KeyedShape part) owners Nothing a b
-  switch-adds kept sound left call can =
+  switch-adds kept sound left call can whole =
       puts-adds part tells Nothing part.head top a b told call (omega arith, omega arith)
       (switch-sound kept sound can)
       (λ place item holds.
       let find : MayFind a.may item
-      (way_in part place (entry_for None (entries_of holds.0) place)) =
-      still-found place item (entry_for None (entries_of holds.0) place) holds.2 in
+      (way_in part place (entry_in holds.0 place)) =
+      still-found place item (entry_in holds.0 place) holds.2 in
       ⊎_elim
       (λ old. inl (holds.0, old, find))
       (λ new. inl (leads place item sound left (can.places place)
       (subst (λ (head : Block). MayFind a.may item (way_under part place head)) new.1
       find)))
       holds.1)
+      (switch-whole kept sound left can whole)
 
   -- intervals are read as before
   read-still : (place : List ℕ) (found : Option (Range × Entry)) → Puts tells part.head top a b
@@ -107,7 +131,7 @@ module _ (part : Keyed) (tells : Bool) (told : IsTrue tells) (a b : Seen) (top :
 
   -- the new head leads to the record
   shows : (place : List ℕ) → Left a a.cur
-      → ((at : Range × Entry) → entry_for None (entries_of top) place ≡ Some at
+      → ((at : Range × Entry) → entry_in top place ≡ Some at
       → entry_block part at.1 < a.count) → SwitchesAt part top a place
       → found_on a.cur (way_under part place top) ≡ item_of (KeyedShape part) a.cur place
   shows place left below = ⊎_elim
@@ -125,13 +149,13 @@ module _ (part : Keyed) (tells : Bool) (told : IsTrue tells) (a b : Seen) (top :
       × Entry)). IfSome o (λ f. slice_index f.1.intervals 0 < part.area)) is within
 
   entry-below : IsKeyedSound part a → IsHead part top → (place : List ℕ) (at : Range × Entry)
-      → entry_for None (entries_of top) place ≡ Some at → entry_block part at.1 < a.count
+      → entry_in top place ≡ Some at → entry_block part at.1 < a.count
   entry-below sound head place at is =
       omega (
         arith,
         sound.area,
-        some-in (entry_for None (entries_of top) place) at is
-            (entry-in part.area None (entries_of top) place (head-in part top head)),
+        some-in (entry_in top place) at is
+            (entry-in-above part.area (low_of top) (entries_of top) place (head-in part top head)),
       )
 
   -- each place has its record, whether the put failed or not
@@ -142,7 +166,7 @@ module _ (part : Keyed) (tells : Bool) (told : IsTrue tells) (a b : Seen) (top :
       (λ same. ap (λ (image : Image). item_of (KeyedShape part) image place) same)
       (λ set. ap (λ (head : Block). found_on b.cur (way_under part place head))
       (cur-put a part.head top (omega (arith, sound.area)) left.length_is b.cur set)
-      ∙ read-still place (entry_for None (entries_of top) place) call
+      ∙ read-still place (entry_in top place) call
       ∙ shows place left (entry-below sound can.head place) (can.places place))
       (call.content told)
 
@@ -157,13 +181,14 @@ module _ (part : Keyed) (tells : Bool) (told : IsTrue tells) (a b : Seen) (top :
         let is : IsHead part head =
         (switch-sound kept sound can).heads head
         (call.adds told part.head head (omega (arith, sound.area)) may) in
-        let left : EachMayLeave part (also a part.head top) None (entries_of head) Q = ⊎_elim
-        (λ old. still-in Q None (entries_of head) (room.each head old))
+        let left : EachMayLeave part (also a part.head top) (low_of head) (entries_of head) Q =
+        ⊎_elim
+        (λ old. still-in Q (low_of head) (entries_of head) (room.each head old))
         (λ new. subst
-        (λ (h : Block). EachMayLeave part (also a part.head top) None (entries_of h) Q)
-        (sym new.1) (still-in Q None (entries_of top) can.room))
+        (λ (h : Block). EachMayLeave part (also a part.head top) (low_of h) (entries_of h) Q)
+        (sym new.1) (still-in Q (low_of top) (entries_of top) can.room))
         (call.adds told part.head head (omega (arith, sound.area)) may) in
-        each-less part (also a part.head top) b Q None (entries_of head)
+        each-less part (also a part.head top) b Q (low_of head) (entries_of head)
         (λ k block within now. call.adds told k block within.0 now) sound.area
         (head-in part head is) left;
   }
@@ -176,10 +201,10 @@ module _ (part : Keyed) (tells : Bool) (told : IsTrue tells) (a b : Seen) (top :
     each = λ head may.
         let Q : Range → Block → Type 0 =
         λ range block. HaveRoom part.size (lengths_of part kept range block) in
-        ⊎_elim (λ old. still-in Q None (entries_of head) (room.each head old))
+        ⊎_elim (λ old. still-in Q (low_of head) (entries_of head) (room.each head old))
         (λ new. subst
-        (λ (h : Block). EachMayLeave part (also a part.head top) None (entries_of h) Q)
-        (sym new.1) (still-in Q None (entries_of top) can.room)) may;
+        (λ (h : Block). EachMayLeave part (also a part.head top) (low_of h) (entries_of h) Q)
+        (sym new.1) (still-in Q (low_of top) (entries_of top) can.room)) may;
   }
 
   -- and so has the image of each moment
@@ -190,8 +215,8 @@ module _ (part : Keyed) (tells : Bool) (told : IsTrue tells) (a b : Seen) (top :
   switch-rooms kept sound call can room owners owned =
       puts-touches tells (InPart (KeyedShape part) owners) (HasRoom (KeyedShape part) kept)
       part.head top a b told (owned part.head (omega arith, omega arith)) call
-      (room-image (KeyedShape part) owners kept (also a part.head top)
-      (switch-sound kept sound can, owned) (room-also kept can room))
+      (area-room-image part owners kept (also a part.head top) (switch-sound kept sound can) owned
+      (room-also kept can room))
 
   -- once the new head is stable the part is at rest
   pub switch-rest : IsKeyedSound part b → Only b part.head (λ head. head ≡ top)
@@ -225,7 +250,7 @@ module _ (part : Keyed) (tells : Bool) (told : IsTrue tells) (a b : Seen) (top :
       → Only b part.head (λ head. head ≡ top) → DueMore (KeyedShape part) [] a b
   switch-due kept sound left call can only listed place due within item is =
       let find : MayFind (MayOnceForced listed a) item (way_under part place top) =
-      once-still listed place item (entry_for None (entries_of top) place) call
+      once-still listed place item (entry_in top place) call
       (entry-below sound can.head place)
       (subst (λ (head : Block). MayFind (MayOnceForced listed b) item (way_under part place head))
       (only is.0 is.1.0) is.2) in

@@ -14,8 +14,8 @@ use Rattle.vr_seqset.specs.Numbers.{intervals_used}
 use Rattle.vr_seqset.specs.SequenceSet.{SequenceSet, IsSequenceSet}
 use Rattle.vr_seqset.specs.Reading.{record_in}
 use Rattle.vr_space.specs.Room.{Range}
-use Rattle.vr_space.specs.Keyed.{Keyed, IsHead, HoldsRange, entries_of, records_of, records_in}
-use Rattle.vr_space.specs.Keyed.{entry_for}
+use Rattle.vr_space.specs.Keyed.{Keyed, IsHead, HoldsRange, entry_above, entry_in, low_in}
+use Rattle.vr_space.specs.Keyed.{records_of, records_in}
 use Rattle.vr_space.specs.UnderWay.{above_cut}
 use Rattle.vr_space.specs.Search.{AreUpTo}
 
@@ -57,9 +57,9 @@ abbrev pub halved_record : ℕ → ℕ → List ℕ → SequenceSet → Sequence
 halved_record old into cut s = record s { entries = halves old into cut s.entries }
 
 -- The cut is in the range of the old interval's entry, below its end.
-pub record IsCutOf (old : ℕ) (cut : List ℕ) (entries : List Entry) : Type 0 where
+pub record IsCutOf (old : ℕ) (cut : List ℕ) (s : SequenceSet) : Type 0 where
   pub at : Range × Entry
-  pub leads : entry_for None entries cut ≡ Some at
+  pub leads : entry_above (low_in s) s.entries cut ≡ Some at
   pub is_old : slice_index at.1.intervals 0 ≡ old
   pub less : place_cmp cut at.1.high ≡ Less
 
@@ -71,24 +71,23 @@ pub record AreSingleWithout (into : ℕ) (entries : List Entry) : Type 0 where
 
 -- The record, in a block of the size, may have both entries.
 pub record CanHalve (intervals size old into : ℕ) (cut : List ℕ) (s : SequenceSet) : Type 0 where
-  pub first : s.first ≡ true
   pub key : length cut ≡ length s.low
   pub below : into < intervals_used intervals size (length s.low)
   pub others : AreSingleWithout into s.entries
-  pub place : IsCutOf old cut s.entries
+  pub place : IsCutOf old cut s
 
 -- ---- what a stage makes of the head that is there and of the block of the old interval
 
 -- where the old interval holds the range of the cut, the records of it above the cut
 abbrev pub MakesUpper : Keyed → Block → List ℕ → Block → Block → Type 0
 MakesUpper part top cut block bytes = (at : Range × Entry) → IsHead part top
-    → entry_for None (entries_of top) cut ≡ Some at → place_cmp cut at.0.high ≡ Less
+    → entry_in top cut ≡ Some at → place_cmp cut at.0.high ≡ Less
     → HoldsRange part at.0 block → HasRange part (above_cut at.0 cut) block bytes
 
 -- the records of the range
 abbrev pub MakesLower : Keyed → Block → List ℕ → Block → Block → Type 0
 MakesLower part top cut block bytes = (at : Range × Entry) → IsHead part top
-    → entry_for None (entries_of top) cut ≡ Some at
+    → entry_in top cut ≡ Some at
     → HoldsRange part at.0 block → HasRange part at.0 block bytes
 
 -- the head with both entries

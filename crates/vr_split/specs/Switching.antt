@@ -1,5 +1,5 @@
 -- What a stage of a split owes of the blocks that it puts. The rules are this project's own.
-use Rattle.std.specs.Prelude.{◌≡◌, ◌⊎◌, ◌<◌, ◌≤◌, ◌+◌, ℕ, List, [], ◌∷◌, Option, Some, None}
+use Rattle.std.specs.Prelude.{◌≡◌, ◌⊎◌, ◌<◌, ◌≤◌, ◌+◌, ℕ, List, [], ◌∷◌, Option, Some}
 use Rattle.vr_types.specs.Content.{item_at}
 use Rattle.vr_types.specs.Image.{Block, Image, block_at}
 use Rattle.vr_types.specs.Regions.{Touches}
@@ -7,8 +7,9 @@ use Rattle.vr_types.specs.Seen.{Seen, Only}
 use Rattle.vr_seqset.specs.Entry.{Entry}
 use Rattle.vr_space.specs.Room.{Lengths, Range, HaveRoom}
 use Rattle.vr_space.specs.Keyed.{Keyed, IsHead, HoldsRange, EachMayLeave, IsKeyedAtRest, KeepsRoom}
-use Rattle.vr_space.specs.Keyed.{lengths_of, entries_of, entry_block, entry_for, records_of}
-use Rattle.vr_space.specs.Keyed.{IsOwned, range_of, way_under}
+use Rattle.vr_space.specs.Keyed.{AreWhole, HasEnds, IsOwned, KeepsEnds, entries_of, entry_block}
+use Rattle.vr_space.specs.Keyed.{entry_in}
+use Rattle.vr_space.specs.Keyed.{lengths_of, low_of, range_of, records_of, way_under}
 use Rattle.vr_space.specs.Owners.{Owners}
 use Rattle.vr_space.specs.Part.{KeyedShape, AddsTo, Nothing, SameRecords, DueMore, HasRoom, InPart}
 use Rattle.vr_space.specs.Part.{item_of}
@@ -25,38 +26,43 @@ OfBlock part n low (entry ∷ entries) P =
     (entry_block part entry ≡ n → P (range_of low entry))
     × OfBlock part n (Some entry.high) entries P
 
--- the entries that are read
-abbrev pub read_entries : Keyed → Image → List Entry
-read_entries part image = entries_of (block_at image part.head)
+-- each entry that is read whose interval is block n has a range with P
+abbrev pub OfRead : Keyed → Image → ℕ → (Range → Type 0) → Type 0
+OfRead part image n P = OfBlock part n (low_of (block_at image part.head))
+    (entries_of (block_at image part.head)) P
+
+-- the entry that is read for a place
+abbrev pub entry_read : Keyed → Image → List ℕ → Option (Range × Entry)
+entry_read part image place = entry_in (block_at image part.head) place
 
 -- no entry leads to the block
 abbrev pub IsFree : Keyed → Image → ℕ → Type 0
-IsFree part image n = OfBlock part n None (read_entries part image) (λ range. ⊥)
+IsFree part image n = OfRead part image n (λ range. ⊥)
 
 -- The bytes may replace the block: they are an interval of its range, with room for what is kept,
 -- and have the record of each place that leads there.
 pub record CanReplace (part : Keyed) (kept : Lengths) (image : Image) (n : ℕ) (bytes : Block) : Type
     0 where
-  pub holds : OfBlock part n None (read_entries part image) (λ range. HoldsRange part range bytes)
-  pub room : OfBlock part n None (read_entries part image)
-      (λ range. HaveRoom part.size (lengths_of part kept range bytes))
+  pub holds : OfRead part image n (λ range. HoldsRange part range bytes)
+  pub room : OfRead part image n (λ range. HaveRoom part.size (lengths_of part kept range bytes))
   pub records : (place : List ℕ) (at : Range × Entry)
-      → entry_for None (read_entries part image) place ≡ Some at → entry_block part at.1 ≡ n
+      → entry_read part image place ≡ Some at → entry_block part at.1 ≡ n
       → item_at (records_of part bytes) place ≡ item_of (KeyedShape part) image place
 
 -- A place is reached as before, or in a block that a crash leaves with its record.
 abbrev pub SwitchesAt : Keyed → Block → Seen → List ℕ → Type 0
 SwitchesAt part top now place =
     (way_under part place top ≡ way_under part place (block_at now.cur part.head))
-    ⊎ ((at : Range × Entry) × (entry_for None (entries_of top) place ≡ Some at)
+    ⊎ ((at : Range × Entry) × (entry_in top place ≡ Some at)
     × Only now (entry_block part at.1)
     (λ block. item_at (records_of part block) place ≡ item_of (KeyedShape part) now.cur place))
 
--- The head may replace the current one.
+-- The head may replace the current one, whose ends it has.
 pub record CanSwitch (part : Keyed) (kept : Lengths) (top : Block) (now : Seen) : Type 0 where
   pub head : IsHead part top
-  pub holds : EachMayLeave part now None (entries_of top) (HoldsRange part)
-  pub room : EachMayLeave part now None (entries_of top)
+  pub ends : HasEnds (block_at now.cur part.head) top
+  pub holds : EachMayLeave part now (low_of top) (entries_of top) (HoldsRange part)
+  pub room : EachMayLeave part now (low_of top) (entries_of top)
       (λ range block. HaveRoom part.size (lengths_of part kept range block))
   pub places : (place : List ℕ) → SwitchesAt part top now place
 
@@ -65,13 +71,15 @@ pub record IsResting (part : Keyed) (kept : Lengths) (now : Seen) : Type 0 where
   pub rests : IsKeyedAtRest part now
   pub room : KeepsRoom part kept now
 
--- A stage made `new` of `old`, whether it failed or not: it adds nothing to what places may hold,
--- each has the record that it had, and there is room for what is kept, in the image of each moment
--- and from then on: whichever blocks are the part's, beside those of its area.
+-- A stage made `new` of `old`, whether it failed or not: where the part has one area, it adds
+-- nothing to what places may hold; each has the record that it had, the heads have the ends that
+-- they had, and there is room for what is kept, in the image of each moment and from then on:
+-- whichever blocks are the part's, beside those of the area.
 pub record KeepsPart (part : Keyed) (kept : Lengths) (old new : Seen) : Type 0 where
-  pub adds : (owners : Owners) → IsOwned part owners
+  pub adds : AreWhole part old → (owners : Owners) → IsOwned part owners
       → AddsTo (KeyedShape part) owners Nothing old new
   pub same : SameRecords (KeyedShape part) old.cur new.cur
+  pub ends : KeepsEnds part old new
   pub room : KeepsRoom part kept new
   pub rooms : (owners : Owners) → IsOwned part owners
       → Touches (InPart (KeyedShape part) owners) (HasRoom (KeyedShape part) kept) old new
@@ -84,6 +92,6 @@ pub record IsStageDone (part : Keyed) (old new : Seen) : Type 0 where
 -- Whatever a crash leaves of the block has the record of each place that leads there.
 abbrev pub IsSettledAt : Keyed → ℕ → Seen → Type 0
 IsSettledAt part n now = (place : List ℕ) (at : Range × Entry)
-    → entry_for None (read_entries part now.cur) place ≡ Some at → entry_block part at.1 ≡ n
+    → entry_read part now.cur place ≡ Some at → entry_block part at.1 ≡ n
     → Only now n (λ block. item_at (records_of part block) place ≡ item_of (KeyedShape part)
     now.cur place)

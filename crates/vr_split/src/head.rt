@@ -15,6 +15,7 @@ ghost use Rattle.vr_split.specs.Halves.{
 };
 
 use vr_seqset::{SeqEntries, SeqEntry, SeqHead, SeqView, SeqWriter, interval_limit};
+use vr_space::find_entry;
 
 /// Whether each entry has one interval, and none this one.
 fn are_single_without(entries: SeqEntries<'_>, into: u16) -> bool
@@ -34,9 +35,9 @@ fn are_single_without(entries: SeqEntries<'_>, into: u16) -> bool
 /// Whether the cut is in the range of the old interval's entry, below its end.
 fn is_cut_of(view: &SeqView<'_>, old: u16, cut: &[u8]) -> bool
     requires { All (IsWhole (length view.now.low)) view.now.entries }
-    ensures { IsTrue result ↔ IsCutOf old cut.now view.now.entries }
+    ensures { IsTrue result ↔ IsCutOf old cut.now view.now }
 {
-    let Some((_, entry)) = view.find(cut) else {
+    let Some((_, entry)) = find_entry(view, cut) else {
         return false;
     };
     entry.interval(0) == old && cut.cmp(&entry.high()).is_lt()
@@ -47,8 +48,7 @@ fn can_halve(cis: u16, size: usize, view: &SeqView<'_>, old: u16, into: u16, cut
     requires { KeepsRules cis size view.now }
     ensures { IsTrue result ↔ CanHalve cis size old into cut.now view.now }
 {
-    view.first()
-        && cut.len() == view.low().len()
+    cut.len() == view.low().len()
         && usize::from(into) < interval_limit(cis, size, cut.len())
         && are_single_without(view.entries(), into)
         && is_cut_of(view, old, cut)

@@ -6,7 +6,7 @@ ghost use Rattle.vr_types.specs.Faults.{HasCause};
 ghost use Rattle.vr_types.specs.declared.fault.DeviceFault.TheVariants.{Read};
 ghost use Rattle.vr_types.specs.declared.unit.StageKind.TheVariants as stages;
 ghost use Rattle.vr_space.specs.Room.{Lengths};
-ghost use Rattle.vr_space.specs.Keyed.{IsKeyedAtRest, KeepsRoom};
+ghost use Rattle.vr_space.specs.Keyed.{IsKeyedAtRest, KeepsEnds, KeepsRoom};
 ghost use Rattle.vr_space.specs.Part.{KeyedShape, IsOn};
 ghost use Rattle.vr_space.specs.UnderWay.{KeyedUnderWay};
 ghost use Rattle.vr_split.specs.Switching.{KeepsPart, IsStageDone};
@@ -202,6 +202,9 @@ impl CiSplit {
         ensures keeps { IsTrue B.tells → (kept : Lengths)
             → KeepsRoom self.old.part kept (B.seen blocks.old)
             → KeepsPart self.old.part kept (B.seen blocks.old) (B.seen blocks.new) }
+        // So whole heads stay whole.
+        ensures ends { IsTrue B.tells
+            → KeepsEnds self.old.part (B.seen blocks.old) (B.seen blocks.new) }
         ensures done { IsTrue B.tells → OnOk result
             (IsStageDone self.old.part (B.seen blocks.old) (B.seen blocks.new)) }
         ensures way { IsTrue B.tells → OnOk result

@@ -6,6 +6,6 @@ pub returns : goal.returns
 returns c =
     let size : length c.write_record.new.out ≡ c.args.layout.now.size =
     omega (arith, c.requires.size) in
-    let both = one_top c.args.layout.now c.write_record.new.out c.requires.part size
+    let top = one_top c.args.layout.now c.write_record.new.out c.requires.part size
     c.write_record.ensures in
-    record { head = both.0; entries = both.1 }
+    record { head = top.0; whole = top.1; entries = top.2 }

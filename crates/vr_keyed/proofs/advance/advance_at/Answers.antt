@@ -4,11 +4,10 @@ use Rattle.vr_types.specs.declared.unit.StageKind.{StageKind}
 use Rattle.vr_types.proofs.CallerLemmas.{keeps-then}
 use Rattle.vr_space.specs.Keyed.{Keyed, IsKeyedAtRest, KeepsRoom}
 use Rattle.vr_space.specs.Part.{KeyedShape, part_no}
-use Rattle.vr_space.proofs.CallerLemmas.{rest-keeps, room-keeps}
 use Rattle.vr_split.specs.Splits.{stage_now}
 use Rattle.vr_split.specs.Switching.{KeepsPart, IsStageDone}
-use Rattle.vr_split.proofs.CallerLemmas.{all_of, all-owned}
 use Rattle.vr_keyed.proofs.Advancing.{going-stage, copy-stage, part-after, part-kept, done-after}
+use Rattle.vr_keyed.proofs.Reading.{still-rest, still-room}
 use Rattle.vr_keyed.proofs.StageKinds.{later-kind, copy-kind}
 use Rattle.vr_keyed.proofs.advance.advance_at.Goals as goal
 
@@ -43,9 +42,8 @@ pub go_on-requires-2-clause-rests : goal.go_on-requires-2-clause-rests
 go_on-requires-2-clause-rests g c told =
     let b = g.B.Blocks.seen c.begin_split.new.blocks in
     subst (λ (p : Keyed). IsKeyedAtRest p b) (sym c.begin_split.ensures.part)
-    (rest-keeps g.B.Blocks.tells told (KeyedShape c.args.layout.now) (all_of c.args.layout.now)
-    (g.B.Blocks.seen c.args.blocks.now) b c.begin_split.ensures.keeps
-    (c.requires.rests told, all-owned c.args.layout.now)).0
+    (still-rest c.args.layout.now g.B.Blocks.tells told (g.B.Blocks.seen c.args.blocks.now) b
+    c.begin_split.ensures.keeps (c.requires.rests told))
 
 pub returns-clause-stage : goal.returns-clause-stage
 returns-clause-stage g c told =
@@ -73,8 +71,8 @@ returns-clause-keeps g c told =
     (subst (λ (p : Keyed). KeepsPart p kept b after) c.begin_split.ensures.part
     (c.go_on-2.ensures.keeps told kept
     (subst (λ (p : Keyed). KeepsRoom p kept b) (sym c.begin_split.ensures.part)
-    (room-keeps g.B.Blocks.tells told (KeyedShape part) (all_of part) kept a b
-    c.begin_split.ensures.keeps (rests.sound, all-owned part) (c.requires.room told)))))
+    (still-room part g.B.Blocks.tells told a b c.begin_split.ensures.keeps rests.sound kept
+    (c.requires.room told)))))
 
 pub returns-clause-done : goal.returns-clause-done
 returns-clause-done g c told =

@@ -1,15 +1,21 @@
-use Rattle.std.proofs.Common.{◌+◌, ◌≤◌, sym, ap, subst, ◌∙◌, arith}
+use Rattle.std.proofs.Common.{◌+◌, ◌≤◌, ℕ, List, sym, ap, subst, ◌∙◌, arith}
 use Rattle.vr_types.specs.Image.{Image, block_at}
 use Rattle.vr_types.proofs.CallerLemmas.{keeps-then}
 use Rattle.vr_space.specs.Keyed.{Keyed}
 use Rattle.vr_space.specs.Met.{IsMet}
 use Rattle.vr_space.specs.Part.{KeyedShape, part_no}
 use Rattle.vr_space.specs.Split.{free_interval}
+use Rattle.vr_keyed.specs.Look.{HasEntry}
 use Rattle.vr_keyed.specs.Planned.{LacksRoom}
 use Rattle.vr_keyed.specs.Slots.{met_in}
 use Rattle.vr_keyed.proofs.MetRoom.{first-met}
 use Rattle.vr_keyed.proofs.Advancing.{lacks-room, due-new}
 use Rattle.vr_keyed.proofs.advance.plan_at.Goals as goal
+
+pub meet-requires-clause-entry : goal.meet-requires-clause-entry
+meet-requires-clause-entry g c told =
+    subst (λ (q : List ℕ). HasEntry c.args.layout.now (g.B.Blocks.seen c.args.blocks.now).cur q)
+    (sym c.as_slice.ensures) (c.requires.entry told)
 
 pub plan_split-requires-clause-lacks : goal.plan_split-requires-clause-lacks
 plan_split-requires-clause-lacks g c told =

@@ -1,6 +1,6 @@
 use Rattle.std.proofs.Common.{◌≡◌, IsTrue}
 use Rattle.vr_types.specs.Blocks.{Keeps}
-use Rattle.vr_space.specs.Part.{KeyedShape, Stands}
+use Rattle.vr_keyed.specs.Look.{AreaStands}
 use Rattle.vr_keyed.specs.Slots.{IsSlotOf}
 use Rattle.vr_keyed.proofs.Nexting.{NoneBefore}
 use Rattle.vr_keyed.proofs.next.next_in.Given as goal
@@ -13,6 +13,6 @@ invariant-loop-number g l =
       faults : B.faults l.blocks ≡ B.faults l.fn.blocks;
       slot : IsSlotOf l.layout l.slot;
       room : l.into.room ≡ l.fn.into.room;
-      none : IsTrue B.tells → (stands : Stands (KeyedShape l.layout) (B.seen l.fn.blocks).cur)
+      none : IsTrue B.tells → (stands : AreaStands l.layout (B.seen l.fn.blocks).cur)
           → NoneBefore l.layout (B.seen l.fn.blocks).cur l.from stands l.number;
     }

@@ -1,8 +1,11 @@
-use Rattle.std.proofs.Common.{◌≡◌, ◌<◌, ◌≤◌, ℕ, [], rules, Some, List, length, ap, sym, subst, ◌∙◌}
+use Rattle.std.proofs.Common.{◌≡◌, ◌<◌, ℕ, [], Some, length, ap, sym, subst, ◌∙◌}
 use Rattle.std.proofs.Common.{arith}
 use Rattle.std.specs.List.{slice_get}
 use Rattle.std.proofs.lemmas.Option.{slice_get-get_or}
 use Rattle.vr_seqset.specs.Entry.{Entry}
+use Rattle.vr_seqset.specs.SequenceSet.{SequenceSet}
+use Rattle.vr_space.specs.Keyed.{low_in}
+use Rattle.vr_space.specs.Search.{low_before}
 use Rattle.vr_space.proofs.Searching.{got-whole, got-in, found_range}
 use Rattle.vr_space.proofs.search.found_at.Goals as goal
 
@@ -15,8 +18,8 @@ interval-requires c =
     (got-whole (length c.args.view.now.low) c.args.view.now.entries c.args.number
     c.entry-entry.result c.requires.1.lengths.whole is).some
 
-pub low_of-requires-clause-whole : goal.low_of-requires-clause-whole
-low_of-requires-clause-whole c = c.requires.1.lengths.whole
+pub low_at-requires-clause-whole : goal.low_at-requires-clause-whole
+low_at-requires-clause-whole c = c.requires.1.lengths.whole
 
 pub returns-clause-found : goal.returns-clause-found
 returns-clause-found c = λ top same.
@@ -26,11 +29,11 @@ returns-clause-found c = λ top same.
     ∙ ap (λ (e : Entry). Some e) (sym c.entry-entry.ensures) in
     record {
       entry = c.entry-entry.result;
-      number = ap (λ (es : List Entry). slice_get es c.args.number) same ∙ is;
+      number = ap (λ (s : SequenceSet). slice_get s.entries c.args.number) same ∙ is;
       range = found_range _ _ _ c.entry-entry.result
-          (c.low_of.ensures.low ∙ ap (λ (es : List Entry).
-          Rattle.vr_space.specs.Search.low_before Rattle.std.proofs.Common.None es c.args.number)
-          (sym same)) c.high.ensures;
+          (c.low_at.ensures.low
+          ∙ ap (λ (s : SequenceSet). low_before (low_in s) s.entries c.args.number) (sym same))
+          c.high.ensures;
       interval = c.interval.ensures;
     }
 
@@ -51,7 +54,7 @@ returns-clause-places c =
     slice_get-get_or c.args.view.now.entries c.args.number none (omega arith)
     ∙ ap (λ (e : Entry). Some e) (sym c.entry-entry.ensures) in
     record {
-      low = c.low_of.ensures.length;
+      low = c.low_at.ensures.length;
       high = ap length c.high.ensures
           ∙ (got-whole (length c.args.view.now.low) c.args.view.now.entries c.args.number
           c.entry-entry.result c.requires.1.lengths.whole is).high;

@@ -1,19 +1,18 @@
-use Rattle.std.proofs.Common.{◌≡◌, ◌<◌, ℕ, rules, tests, length, Some, None, List}
+use Rattle.std.proofs.Common.{◌≡◌, ◌<◌, ℕ, rules, tests, length, Some, None}
 use Rattle.std.proofs.Common.{ap, sym, subst, ◌∙◌}
-use Rattle.std.specs.List.{position}
+use Rattle.std.specs.List.{position, slice_get}
 use Rattle.vr_seqset.specs.Search.{reaches}
-use Rattle.vr_seqset.specs.Entry.{Entry}
+use Rattle.vr_seqset.specs.SequenceSet.{SequenceSet}
 use Rattle.vr_space.specs.Room.{Range}
-use Rattle.vr_space.specs.Keyed.{entry_for}
-use Rattle.vr_space.proofs.Searching.{got-whole, got-in, found-entry, found-none, found_range}
+use Rattle.vr_space.specs.Keyed.{entry_above, entry_in, low_in}
+use Rattle.vr_space.proofs.Searching.{got-whole, got-in, found_range}
 use Rattle.vr_space.proofs.search.found_in.Goals as goal
 
 pub returns-in_err-number-clause-found : goal.returns-in_err-number-clause-found
 returns-in_err-number-clause-found c = λ top same.
-    let none : entry_for None c.args.view.now.entries c.args.place.now ≡ None =
-    found-none c.args.place.now c.args.view.now.entries c.in_err-number.ensures.none in
-    let here : entry_for None (Rattle.vr_space.specs.Keyed.entries_of top) c.args.place.now
-    ≡ None = ap (λ (es : List Entry). entry_for None es c.args.place.now) same ∙ none in
+    let here : entry_in top c.args.place.now ≡ None =
+    ap (λ (s : SequenceSet). entry_above (low_in s) s.entries c.args.place.now) same
+    ∙ c.in_err-number.ensures.none in
     search rules
 
 pub interval-requires : goal.interval-requires
@@ -21,24 +20,22 @@ interval-requires c = (got-whole (length c.args.view.now.low) c.args.view.now.en
     c.in_ok-number.number c.in_ok-number.entry c.requires.1.lengths.whole
     c.in_ok-number.ensures.entry).some
 
-pub low_of-requires-clause-whole : goal.low_of-requires-clause-whole
-low_of-requires-clause-whole c = c.requires.1.lengths.whole
+pub low_at-requires-clause-whole : goal.low_at-requires-clause-whole
+low_at-requires-clause-whole c = c.requires.1.lengths.whole
 
 pub returns-clause-found : goal.returns-clause-found
 returns-clause-found c = λ top same.
     let entry = c.in_ok-number.entry in
-    let entries = c.args.view.now.entries in
     record {
       entry = entry;
-      reaches = ap (λ (es : List Entry). entry_for None es c.args.place.now) same
-          ∙ found-entry c.args.place.now entries c.in_ok-number.number entry
-          c.in_ok-number.ensures.first c.in_ok-number.ensures.entry
+      reaches = ap (λ (s : SequenceSet). entry_above (low_in s) s.entries c.args.place.now) same
+          ∙ c.in_ok-number.ensures.found
           ∙ ap (λ (range : Range). Some (range, entry))
-          (sym (found_range _ _ _ entry c.low_of.ensures.low c.high.ensures));
+          (sym (found_range _ _ _ entry c.low_at.ensures.low c.high.ensures));
       interval = c.interval.ensures;
-      number = ap (λ (es : List Entry). Rattle.std.specs.List.slice_get es c.in_ok-number.number)
-          same ∙ c.in_ok-number.ensures.entry;
-      first = ap (λ (es : List Entry). position (reaches c.args.place.now) es) same
+      number = ap (λ (s : SequenceSet). slice_get s.entries c.in_ok-number.number) same
+          ∙ c.in_ok-number.ensures.entry;
+      first = ap (λ (s : SequenceSet). position (reaches c.args.place.now) s.entries) same
           ∙ c.in_ok-number.ensures.first;
       last = search (rules, tests);
     }
@@ -51,7 +48,7 @@ returns-clause-interval c =
 
 pub returns-clause-places : goal.returns-clause-places
 returns-clause-places c = record {
-  low = c.low_of.ensures.length;
+  low = c.low_at.ensures.length;
   high = ap length c.high.ensures
       ∙ (got-whole (length c.args.view.now.low) c.args.view.now.entries c.in_ok-number.number
       c.in_ok-number.entry c.requires.1.lengths.whole c.in_ok-number.ensures.entry).high;

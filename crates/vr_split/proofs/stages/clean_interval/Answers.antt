@@ -2,12 +2,11 @@ use Rattle.std.proofs.Common.{◌≢◌, sym, ap, ◌∙◌, ⊎_elim, arith}
 use Rattle.vr_types.specs.Content.{item_at}
 use Rattle.vr_types.specs.Image.{Block}
 use Rattle.vr_types.specs.Seen.{Left}
-use Rattle.vr_space.specs.Keyed.{IsOwned, records_of}
+use Rattle.vr_space.specs.Keyed.{AreWhole, IsOwned, records_of}
 use Rattle.vr_space.specs.Owners.{Owners}
 use Rattle.vr_space.specs.Part.{KeyedShape, AddsTo, Nothing, SameRecords}
-use Rattle.vr_split.proofs.Owned.{all_of, all-owned}
-use Rattle.vr_split.proofs.Puts.{rewrite-adds, rewrite-same}
-use Rattle.vr_split.proofs.After.{rest-after, room-after, rooms-after, due-put}
+use Rattle.vr_split.proofs.Puts.{interval-sound, rewrite-adds, rewrite-same, sound-put}
+use Rattle.vr_split.proofs.After.{ends-after, rest-after, room-after, rooms-after, due-put}
 use Rattle.vr_split.proofs.stages.clean_interval.Goals as goal
 
 pub returns-clause-keeps : goal.returns-clause-keeps
@@ -20,7 +19,7 @@ returns-clause-keeps g c told part kept block resting settled can =
     let call = c.put.ensures.after in
     let left : Left a a.cur = g.met.B.Blocks.cur_may c.args.blocks.now told in
     let other : n ≢ part.head = λ same. omega (arith, block.low, same) in
-    let adds : (owners : Owners) → IsOwned part owners
+    let adds : AreWhole part a → (owners : Owners) → IsOwned part owners
     → AddsTo (KeyedShape part) owners Nothing a b =
     rewrite-adds part B.tells told a b n bytes resting.rests left call other
     (omega (arith, block.low), block.high) can.holds can.records in
@@ -30,6 +29,7 @@ returns-clause-keeps g c told part kept block resting settled can =
       record {
         adds = adds;
         same = same;
+        ends = ends-after part B.tells told a b n bytes resting.rests.sound call other;
         room = room-after part B.tells told a b n bytes kept resting.rests call other resting.room
             can.room;
         rooms = rooms-after part B.tells told a b n bytes kept resting.rests call other
@@ -37,7 +37,8 @@ returns-clause-keeps g c told part kept block resting settled can =
       },
       record {
         rests = rest-after part B.tells told a b n bytes resting.rests call other
-            (adds (all_of part) (all-owned part)).sound.0;
+            (sound-put part B.tells n bytes a b told call
+            (interval-sound part a n bytes resting.rests other can.holds));
         due = λ listed place due within. due-put part B.tells told a b n bytes listed place
             resting.rests left call other
             (λ at leads here left_there once. ⊎_elim

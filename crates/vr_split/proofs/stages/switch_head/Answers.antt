@@ -2,9 +2,9 @@ use Rattle.std.proofs.Common.{◌≡◌, ℕ, sym, subst, arith}
 use Rattle.vr_types.specs.Image.{block_at}
 use Rattle.vr_types.specs.Seen.{Left, Only}
 use Rattle.vr_types.specs.Blocks.{Puts}
-use Rattle.vr_split.proofs.Owned.{all_of, all-owned}
-use Rattle.vr_split.proofs.Switch.{switch-adds, switch-same, switch-room, switch-rooms}
-use Rattle.vr_split.proofs.Switch.{switch-rest, switch-due}
+use Rattle.vr_split.proofs.Puts.{sound-put}
+use Rattle.vr_split.proofs.Switch.{switch-adds, switch-ends, switch-same, switch-room, switch-rooms}
+use Rattle.vr_split.proofs.Switch.{switch-due, switch-rest, switch-sound}
 use Rattle.vr_split.proofs.stages.switch_head.Goals as goal
 
 pub returns-in_err-settle-clause-keeps : goal.returns-in_err-settle-clause-keeps
@@ -19,6 +19,8 @@ returns-in_err-settle-clause-keeps g c told part kept head resting can =
       adds = switch-adds part B.tells told a b c.args.top.now kept resting.rests.sound left call
           can;
       same = switch-same part B.tells told a b c.args.top.now kept resting.rests.sound left call
+          can;
+      ends = switch-ends part B.tells told a b c.args.top.now kept resting.rests.sound left call
           can;
       room = switch-room part B.tells told a b c.args.top.now kept resting.rests.sound call can
           resting.room;
@@ -39,6 +41,8 @@ returns-clause-keeps g c told part kept head resting can =
           can;
       same = switch-same part B.tells told a b c.args.top.now kept resting.rests.sound left call
           can;
+      ends = switch-ends part B.tells told a b c.args.top.now kept resting.rests.sound left call
+          can;
       room = switch-room part B.tells told a b c.args.top.now kept resting.rests.sound call can
           resting.room;
       rooms = switch-rooms part B.tells told a b c.args.top.now kept resting.rests.sound call can
@@ -58,8 +62,8 @@ returns-clause-done g c told part kept head resting can =
     (c.in_ok-settle.ensures.ok told) in
     record {
       rests = switch-rest part B.tells told a b c.args.top.now
-          (switch-adds part B.tells told a b c.args.top.now kept resting.rests.sound left call
-          can (all_of part) (all-owned part)).sound.0 only
+          (sound-put part B.tells part.head c.args.top.now a b told call
+          (switch-sound part B.tells told a b c.args.top.now kept resting.rests.sound can)) only
           (only (block_at b.cur part.head)
           ((g.met.B.Blocks.cur_may c.settle.new.blocks told).each part.head
           (omega (arith, resting.rests.sound.area, c.settle.ensures.after.count_same))));

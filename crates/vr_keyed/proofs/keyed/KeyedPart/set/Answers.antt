@@ -8,19 +8,32 @@ use Rattle.vr_types.specs.Blocks.{Keeps}
 use Rattle.vr_types.specs.Regions.{Touches}
 use Rattle.vr_types.specs.declared.fault.DeviceFault.TheVariants.{Read, Write}
 use Rattle.vr_space.specs.Room.{Lengths}
-use Rattle.vr_space.specs.Keyed.{Keyed as Layouts, InArea, KeepsRoom, IsKeyedAtRest, IsOwned}
+use Rattle.vr_space.specs.Keyed.{AreWhole, Keyed as Layouts, InArea, IsKeyedAtRest, IsOwned}
+use Rattle.vr_space.specs.Keyed.{KeepsEnds, KeepsRoom}
 use Rattle.vr_space.specs.Split.{SplitNow}
 use Rattle.vr_space.specs.Known.{Known}
 use Rattle.vr_space.specs.UnderWay.{KeyedUnderWay}
 use Rattle.vr_space.specs.Met.{Met, IsMet}
 use Rattle.vr_space.specs.Part.{KeyedShape, AddsTo, Just, SetsOne, DueMoreAt, HasRoom, InPart, Knows}
 use Rattle.vr_space.specs.Part.{given, part_no}
-use Rattle.vr_space.proofs.CallerLemmas.{rest-sound, way-keeps}
+use Rattle.vr_space.proofs.CallerLemmas.{keeps-whole, rest-sound, way-keeps}
+use Rattle.vr_keyed.specs.Look.{HasEntry}
 use Rattle.vr_keyed.specs.Owned.{Owned, known_of}
 use Rattle.vr_keyed.specs.Slots.{HasMetPlace, mets}
 use Rattle.vr_keyed.specs.Ready.{IsReady, put_of}
 use Rattle.vr_keyed.proofs.Owning.{all-below}
+use Rattle.vr_keyed.proofs.Whole.{entry-quiet}
 use Rattle.vr_keyed.proofs.keyed.KeyedPart.set.Goals as goal
+
+pub set-requires-clause-entry : goal.set-requires-clause-entry
+set-requires-clause-entry g c told =
+    let now = c.args.self.now in
+    let a = g.B.Blocks.seen c.args.blocks.now in
+    let same : c.self.inside.layout ≡ now.part = ap (λ (o : Owned). o.part) c.self.view_is in
+    subst (λ (p : Layouts). HasEntry p a.cur c.as_slice.result.now) (sym same)
+    (subst (λ (q : List ℕ). HasEntry now.part a.cur q) (sym c.as_slice.ensures)
+    (entry-quiet now.part c.args.place.now c.requires.place a (c.requires.rests told)
+    (g.met.B.Blocks.cur_may c.args.blocks.now told)))
 
 pub returns-in_err-put-clause-adds : goal.returns-in_err-put-clause-adds
 returns-in_err-put-clause-adds g c told owners still =
@@ -45,11 +58,11 @@ returns-in_err-put-clause-adds g c told owners still =
     subst (λ (p : Layouts). IsReady p kept known c.as_slice.result.now item a) (sym same)
     (subst (λ (q : List ℕ). IsReady now.part kept known q item a) (sym spot) here) in
     let may = c.set.ensures.may told kept known ready in
-    subst (λ (p : Layouts). IsOwned p owners
+    subst (λ (p : Layouts). AreWhole p a → IsOwned p owners
     → AddsTo (KeyedShape p) owners (Just place (option_map Standing item)) a b) same
-    (subst (λ (q : List ℕ). IsOwned c.self.inside.layout owners
+    (subst (λ (q : List ℕ). AreWhole c.self.inside.layout a → IsOwned c.self.inside.layout owners
     → AddsTo (KeyedShape c.self.inside.layout) owners (Just q (option_map Standing item)) a b) spot
-    (may.adds owners)) still.1
+    (λ whole. may.adds whole owners)) still.1 still.2
 
 pub returns-in_err-put-clause-room : goal.returns-in_err-put-clause-room
 returns-in_err-put-clause-room g c told =
@@ -101,7 +114,7 @@ returns-in_err-put-clause-rooms g c told owners still =
     let may = c.set.ensures.may told kept known ready in
     subst (λ (p : Layouts). IsOwned p owners
     → Touches (InPart (KeyedShape p) owners) (HasRoom (KeyedShape p) kept) a b) same
-    (may.rooms owners) still.1
+    (may.rooms owners) still.2
 
 pub returns-clause-adds : goal.returns-clause-adds
 returns-clause-adds g c told owners still =
@@ -126,11 +139,11 @@ returns-clause-adds g c told owners still =
     subst (λ (p : Layouts). IsReady p kept known c.as_slice.result.now item a) (sym same)
     (subst (λ (q : List ℕ). IsReady now.part kept known q item a) (sym spot) here) in
     let may = c.set.ensures.may told kept known ready in
-    subst (λ (p : Layouts). IsOwned p owners
+    subst (λ (p : Layouts). AreWhole p a → IsOwned p owners
     → AddsTo (KeyedShape p) owners (Just place (option_map Standing item)) a b) same
-    (subst (λ (q : List ℕ). IsOwned c.self.inside.layout owners
+    (subst (λ (q : List ℕ). AreWhole c.self.inside.layout a → IsOwned c.self.inside.layout owners
     → AddsTo (KeyedShape c.self.inside.layout) owners (Just q (option_map Standing item)) a b) spot
-    (may.adds owners)) still.1
+    (λ whole. may.adds whole owners)) still.1 still.2
 
 pub returns-clause-room : goal.returns-clause-room
 returns-clause-room g c told =
@@ -182,7 +195,7 @@ returns-clause-rooms g c told owners still =
     let may = c.set.ensures.may told kept known ready in
     subst (λ (p : Layouts). IsOwned p owners
     → Touches (InPart (KeyedShape p) owners) (HasRoom (KeyedShape p) kept) a b) same
-    (may.rooms owners) still.1
+    (may.rooms owners) still.2
 
 pub returns-clause-set : goal.returns-clause-set
 returns-clause-set g c told =
@@ -282,7 +295,12 @@ returns-clause-rests g c told owners still =
     subst (λ (p : Layouts). IsReady p kept known c.as_slice.result.now item a) (sym same)
     (subst (λ (q : List ℕ). IsReady now.part kept known q item a) (sym spot) here) in
     let done = c.in_ok-put.ensures.done told kept known ready in
-    (subst (λ (p : Layouts). IsKeyedAtRest p b) same done.rests, still.1)
+    let ends : KeepsEnds now.part a b = subst (λ (p : Layouts). KeepsEnds p a b) same
+    (c.set.ensures.may told kept known ready).ends in (
+      subst (λ (p : Layouts). IsKeyedAtRest p b) same done.rests,
+      keeps-whole now.part a b ends still.1,
+      still.2,
+    )
 
 pub returns-clause-knows : goal.returns-clause-knows
 returns-clause-knows g c told =
