@@ -274,9 +274,9 @@ impl<B: Blocks, P: Part> Volume<B, P> {
 
     /// One step of a BACKOUT that [`Volume::refused_early`] doesn't refuse, on a volume that has not
     /// stopped: the last before-image that its unit keeps is put back, or a stage of a split that
-    /// stands in its way is done (`Again`); or once it keeps none, up to four of the blocks that it
-    /// changed are forced (`Again`); or once all are, its end is logged as backed out and forced, and
-    /// the BACKOUT is entered (`Done`). A fault of a read refuses it (`ReadFault`), and one of a write
+    /// stands in its way is done (`Again`); or once it keeps none, the blocks that it changed are
+    /// forced (`Again`); or once they are, its end is logged as backed out and forced, and the
+    /// BACKOUT is entered (`Done`). A fault of a read refuses it (`ReadFault`), and one of a write
     /// stops the volume. It takes no memory: there is room for two events, and the deck was entered.
     pub fn back_out(&mut self, unit: Unit, line: u32, request: SharedRequest, after: u64) -> Act
         requires whole { IsWhole B.seen self.old }

@@ -1,7 +1,7 @@
-//! The end of a unit of recovery on a volume: the blocks that it changed are forced, a few at a time,
-//! and then its end is logged and entered.
+//! The end of a unit of recovery on a volume: the blocks that it changed are forced, and then its end
+//! is logged and entered.
 ghost use Rattle.std.specs.Prelude.{◌≡◌, ◌<◌, ◌≤◌, ◌-◌, ◌+◌, ◌^◌, [], IsTrue, OnOk};
-ghost use Rattle.std.specs.Prelude.{IfOk, None, OnErr, false, length, min, take, true};
+ghost use Rattle.std.specs.Prelude.{None, OnErr, false, true};
 ghost use Rattle.vr_types.specs.Blocks.{Keeps};
 ghost use Rattle.vr_types.specs.Faults.{HasWriteCause};
 ghost use Rattle.vr_types.specs.Locks.{same_unit};
@@ -30,20 +30,15 @@ use vr_space::Part;
 use vr_types::{Blocks, DeviceFault, SharedRequest, Unit};
 
 impl<B: Blocks, P: Part> Volume<B, P> {
-    /// Forces the last four of the blocks that a unit changed, or all where there are no more, and
-    /// answers how many are left, at most 2^32 - 1. `Write` is the device's, and then the volume is
-    /// as before but for the blocks, which hold what they held.
-    pub(crate) fn force_some(&mut self, unit: Unit) -> Result<u32, DeviceFault>
+    /// Forces the blocks that a unit changed, all at once. `Write` is the device's, and then the
+    /// volume is as before but for the blocks, which hold what they held.
+    pub(crate) fn force_changed(&mut self, unit: Unit) -> Result<(), DeviceFault>
         requires whole { IsWhole B.seen self.old }
         requires going { self.old.file.stopped ≡ None }
         ensures held { IsTrue B.tells → (opening : State) → IsHeld B.seen opening self.old
             → IsHeld B.seen opening self.new }
         ensures whole { IsWhole B.seen self.new }
-        ensures left { IfOk result (λ left. left
-            ≡ min (length (blocks_of unit self.new.store.changed)) 4294967295) }
-        ensures taken { OnOk result (blocks_of unit self.new.store.changed
-            ≡ take (length (blocks_of unit self.old.store.changed) - 4)
-            (blocks_of unit self.old.store.changed)) }
+        ensures taken { OnOk result (blocks_of unit self.new.store.changed ≡ []) }
         ensures others { (other : UnitOfRecovery) → same_unit other unit ≡ false
             → blocks_of other self.new.store.changed ≡ blocks_of other self.old.store.changed }
         // At every moment, whether it fails or not.
@@ -61,11 +56,11 @@ impl<B: Blocks, P: Part> Volume<B, P> {
         ensures cause { HasWriteCause (B.faults self.old.blocks) (B.faults self.new.blocks)
             result }
     {
-        self.store.force_some(&mut self.blocks, unit)
+        self.store.force_changed(&mut self.blocks, unit)
     }
 
-    /// A step of the end of a unit: some of the blocks that it changed are forced, and the request is
-    /// to be asked again. Where a write fails, the request is refused for that, and the fault stops
+    /// A step of the end of a unit: the blocks that it changed are forced, and the request is to be
+    /// asked again. Where a write fails, the request is refused for that, and the fault stops
     /// the volume.
     fn force_step(&mut self, unit: Unit, line: u32, request: SharedRequest, after: u64) -> Act
         requires whole { IsWhole B.seen self.old }
@@ -85,8 +80,8 @@ impl<B: Blocks, P: Part> Volume<B, P> {
         ensures number { self.new.number ≡ self.old.number }
         ensures log { self.new.store.log ≡ self.old.store.log }
     {
-        match self.force_some(unit) {
-            Ok(_) => Act::Again(request),
+        match self.force_changed(unit) {
+            Ok(()) => Act::Again(request),
             Err(_) => {
                 self.stop(unit, line, request, after);
                 Act::Done
@@ -158,8 +153,8 @@ impl<B: Blocks, P: Part> Volume<B, P> {
         self.file.end_unit(unit, line, request, after);
     }
 
-    /// A step of the end of a unit: some of the blocks that it changed are forced (`Again`); or once
-    /// all are, its end is logged and entered (`Done`). A fault of a write stops the volume. It takes
+    /// A step of the end of a unit: the blocks that it changed are forced (`Again`); or once they
+    /// are, its end is logged and entered (`Done`). A fault of a write stops the volume. It takes
     /// no memory.
     pub(crate) fn end_step(
         &mut self,
@@ -206,7 +201,7 @@ impl<B: Blocks, P: Part> Volume<B, P> {
     }
 
     /// One step of a COMMIT that [`Volume::refused_early`] doesn't refuse, on a volume that has not
-    /// stopped: up to four of the blocks that its unit changed are forced (`Again`); or once all are,
+    /// stopped: the blocks that its unit changed are forced (`Again`); or once they are,
     /// the end of the unit is logged as committed and forced, and the COMMIT is entered (`Done`). A
     /// fault of a write stops the volume. It takes no memory: there is room for two events, and the
     /// deck was entered.

@@ -1,7 +1,7 @@
-//! The end of a unit of recovery in a store: the blocks that it changed are forced, a few at a time,
-//! and then its end is logged.
-ghost use Rattle.std.specs.Prelude.{◌≡◌, ◌<◌, ◌-◌, ◌+◌, ◌^◌, ℕ, List, [], IsTrue, OnOk, OnErr};
-ghost use Rattle.std.specs.Prelude.{IfOk, All, false, filter, length, map, min, take};
+//! The end of a unit of recovery in a store: the blocks that it changed are forced, and then its end
+//! is logged.
+ghost use Rattle.std.specs.Prelude.{◌≡◌, ◌<◌, ◌+◌, ◌^◌, ℕ, List, [], IsTrue, OnOk, OnErr, All};
+ghost use Rattle.std.specs.Prelude.{false, filter, map};
 ghost use Rattle.vr_types.specs.Blocks.{Keeps};
 ghost use Rattle.vr_types.specs.Faults.{HasWriteCause};
 ghost use Rattle.vr_types.specs.Locks.{same_unit};
@@ -30,16 +30,15 @@ use vr_types::{Blocks, DeviceFault, Unit};
 use vr_volume::{end_unit, force_changed};
 
 impl<P: Part> Store<P> {
-    /// Forces the last four of the blocks that a unit changed, or all where there are no more, and
-    /// answers how many are left, at most 2^32 - 1. `Write` is the device's, and then the store is
-    /// as before.
-    pub fn force_some<B: Blocks>(&mut self, blocks: &mut B, unit: Unit) -> Result<u32, DeviceFault>
+    /// Forces the blocks that a unit changed, all at once. `Write` is the device's, and then the
+    /// store is as before.
+    pub fn force_changed<B: Blocks>(
+        &mut self,
+        blocks: &mut B,
+        unit: Unit,
+    ) -> Result<(), DeviceFault>
         requires set { IsSet self.old (B.seen blocks.old) }
-        ensures left { IfOk result (λ left. left
-            ≡ min (length (blocks_of unit self.new.changed)) 4294967295) }
-        ensures taken { OnOk result (blocks_of unit self.new.changed
-            ≡ take (length (blocks_of unit self.old.changed) - 4)
-            (blocks_of unit self.old.changed)) }
+        ensures taken { OnOk result (blocks_of unit self.new.changed ≡ []) }
         ensures others { (other : UnitOfRecovery) → same_unit other unit ≡ false
             → blocks_of other self.new.changed ≡ blocks_of other self.old.changed }
         ensures set { IsSet self.new (B.seen blocks.new) }
@@ -57,8 +56,7 @@ impl<P: Part> Store<P> {
         ensures keeps { Keeps B.tells (B.seen blocks.old) (B.seen blocks.new) }
         ensures cause { HasWriteCause (B.faults blocks.old) (B.faults blocks.new) result }
     {
-        let left = force_listed(blocks, &mut self.changed, unit)?;
-        Ok(left)
+        force_listed(blocks, &mut self.changed, unit)
     }
 
     /// Ends a unit of recovery whose changed blocks are all forced: its end is logged and forced,
@@ -109,14 +107,13 @@ impl<P: Part> Store<P> {
     }
 }
 
-/// Forces the last four of a unit's blocks, or all where there are no more, takes them out of its
-/// list, and answers how many are left, at most 2^32 - 1. `Write` is the device's, and the list
-/// stays.
+/// Forces a unit's blocks, all at once, and takes them out of its list. `Write` is the device's, and
+/// the list stays.
 fn force_listed<B: Blocks>(
     blocks: &mut B,
     changed: &mut Vec<UnitBlocks>,
     unit: Unit,
-) -> Result<u32, DeviceFault>
+) -> Result<(), DeviceFault>
     requires { All (λ (by : ChangedBy). All (λ n. n < (B.seen blocks.old).count) by.blocks)
         (map changed_by changed.old.items) }
     ensures due { IsTrue B.tells → (shape : Shape) (owners : Owners) (place : List ℕ)
@@ -125,11 +122,7 @@ fn force_listed<B: Blocks>(
         place
         → IsDueTo shape (blocks_of unit (map changed_by changed.new.items)) (B.seen blocks.new)
         place }
-    ensures left { IfOk result (λ left. left
-        ≡ min (length (blocks_of unit (map changed_by changed.new.items))) 4294967295) }
-    ensures taken { OnOk result (blocks_of unit (map changed_by changed.new.items)
-        ≡ take (length (blocks_of unit (map changed_by changed.old.items)) - 4)
-        (blocks_of unit (map changed_by changed.old.items))) }
+    ensures taken { OnOk result (blocks_of unit (map changed_by changed.new.items) ≡ []) }
     ensures others { (other : UnitOfRecovery) → same_unit other unit ≡ false
         → blocks_of other (map changed_by changed.new.items)
         ≡ blocks_of other (map changed_by changed.old.items) }
@@ -142,6 +135,6 @@ fn force_listed<B: Blocks>(
 {
     match place_of(changed, unit) {
         Some(at) => force_changed(blocks, &mut changed[at].blocks),
-        None => Ok(0),
+        None => Ok(()),
     }
 }

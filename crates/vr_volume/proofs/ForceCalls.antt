@@ -1,10 +1,5 @@
 -- What forcing blocks that were changed leaves of a volume at rest.
-use Rattle.std.proofs.Common.{⊎_elim, ℕ, Bool, IsTrue, List, []}
-use Rattle.std.proofs.Common.{refl, sym, ap, subst, ◌∙◌, take}
-use Rattle.std.proofs.Common.{drop}
-use Rattle.std.specs.List.{Contains}
-use Rattle.std.proofs.lemmas.List.{take-append-drop}
-use Rattle.std.proofs.lemmas.List.Elements.{Contains-append_cases}
+use Rattle.std.proofs.Common.{ℕ, Bool, IsTrue, List, [], refl, ap, ◌∙◌}
 use Rattle.vr_types.specs.Blocks.{Forced, Keeps}
 use Rattle.vr_types.specs.Image.{Image, block_at}
 use Rattle.vr_types.specs.Seen.{Left, Seen}
@@ -33,7 +28,7 @@ firm-for geometry owners log state unit now due read part place image shape foun
     due-none shape owners now reads.0 place (due part place image shape is mine laid) found may
     ∙ reads.1 place
 
--- ---- a call that forces some
+-- ---- a call that forces
 
 module _ (tells : Bool) (told : IsTrue tells) (a b : Seen) (call : Keeps tells a b) where
   -- whether it fails or not, what was due is,
@@ -47,19 +42,15 @@ module _ (tells : Bool) (told : IsTrue tells) (a b : Seen) (call : Keeps tells a
       ))
       (ap (λ (image : Image). item_of shape image place) (call.content told))
 
-  -- to those alone that it didn't force
-  pub due-left : (shape : Shape) (owners : Owners) (listed place : List ℕ) (count : ℕ)
-      → Forced (drop count listed) a.cur b.may → IsSound shape owners a
-      → IsDueTo shape listed a place → IsDueTo shape (take count listed) b place
-  due-left shape owners listed place count forced sound =
-      due-fewer shape owners a sound listed (take count listed) place b
+  -- to none, where it forced them all
+  pub due-forced : (shape : Shape) (owners : Owners) (listed place : List ℕ)
+      → Forced listed a.cur b.may → IsSound shape owners a
+      → IsDueTo shape listed a place → IsDueTo shape [] b place
+  due-forced shape owners listed place forced sound =
+      due-fewer shape owners a sound listed [] place b
       (λ n block is may. (
         call.adds_none told n block is.0 may.0,
-        λ there. ⊎_elim
-            (λ left. may.1 left ∙ ap (λ (image : Image). block_at image n) (call.content told))
-            (λ done. forced n block done may.0)
-            (Contains-append_cases (take count listed) (drop count listed) n
-            (subst (λ (all : List ℕ). Contains all n) (sym (take-append-drop count listed)) there)),
+        λ there. forced n block there may.0,
       ))
       (ap (λ (image : Image). item_of shape image place) (call.content told))
 

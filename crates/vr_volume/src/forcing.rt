@@ -1,6 +1,5 @@
-//! The blocks that units of recovery changed are forced, a few at a time, before a unit ends.
-ghost use Rattle.std.specs.Prelude.{◌≡◌, ◌<◌, ◌-◌, [], ℕ, List, IsTrue, OnOk, OnErr, All};
-ghost use Rattle.std.specs.Prelude.{IfOk, length, min, take};
+//! The blocks that units of recovery changed are forced before a unit ends.
+ghost use Rattle.std.specs.Prelude.{◌≡◌, ◌<◌, [], ℕ, List, IsTrue, OnOk, OnErr, All};
 ghost use Rattle.vr_types.specs.Blocks.{Keeps};
 ghost use Rattle.vr_types.specs.Faults.{HasWriteCause};
 ghost use Rattle.vr_types.specs.Moments.{Guards};
@@ -19,11 +18,10 @@ ghost use Rattle.vr_volume.specs.Safe.{IsSafeImage};
 use crate::changing::force_blocks;
 use vr_types::{Blocks, DeviceFault};
 
-/// Forces the last four of the blocks that were changed, or all where there are no more, takes them
-/// out of the list, and answers how many are left, at most 2^32 - 1. The volume stays at rest: what
-/// was due to the blocks of the list is due to those that are left. `Write` is the device's, and the
-/// list stays.
-pub fn force_changed<B: Blocks>(blocks: &mut B, changed: &mut Vec<u32>) -> Result<u32, DeviceFault>
+/// Forces the blocks that were changed, all at once, and takes them out of the list. The volume stays
+/// at rest, and what was due to the blocks of the list is due to none. `Write` is the device's, and
+/// the list stays.
+pub fn force_changed<B: Blocks>(blocks: &mut B, changed: &mut Vec<u32>) -> Result<(), DeviceFault>
     requires { All (λ n. n < (B.seen blocks.old).count) changed.old.items }
     ensures due { IsTrue B.tells → (shape : Shape) (owners : Owners) (place : List ℕ)
         → IsSound shape owners (B.seen blocks.old)
@@ -41,27 +39,13 @@ pub fn force_changed<B: Blocks>(blocks: &mut B, changed: &mut Vec<u32>) -> Resul
         → IsPartAtRest geometry owners images state shape known (B.seen blocks.new) }
     // Nothing is put, so that what is due to other blocks stays due to them.
     ensures keeps { Keeps B.tells (B.seen blocks.old) (B.seen blocks.new) }
-    ensures taken { OnOk result
-        (changed.new.items ≡ take (length changed.old.items - 4) changed.old.items) }
-    ensures left { IfOk result (λ left. left ≡ min (length changed.new.items) 4294967295) }
+    ensures taken { OnOk result (changed.new.items ≡ []) }
     ensures kept { OnErr result (changed.new.items ≡ changed.old.items) }
     ensures cause { HasWriteCause (B.faults blocks.old) (B.faults blocks.new) result }
 {
-    let left = changed.len().saturating_sub(4);
-    force_blocks(blocks, &changed[left..])?;
-    changed.truncate(left);
-    Ok(count_of(left))
-}
-
-/// A count, at most 2^32 - 1.
-fn count_of(count: usize) -> u32
-    ensures { result ≡ min count 4294967295 }
-{
-    if count < 4294967295 {
-        count as u32
-    } else {
-        4294967295
-    }
+    force_blocks(blocks, changed)?;
+    changed.clear();
+    Ok(())
 }
 
 /// Once no block is due, whatever a crash leaves of the places that a unit changed is what stands

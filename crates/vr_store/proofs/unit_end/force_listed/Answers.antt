@@ -1,8 +1,7 @@
-use Rattle.std.proofs.Common.{◌≡◌, ◌<◌, ◌-◌, ◌∙◌, ℕ, List, sym, ap, subst, length, min, take}
-use Rattle.std.proofs.Common.{refl, Result, Ok, Err}
+use Rattle.std.proofs.Common.{◌≡◌, ◌<◌, ◌∙◌, ℕ, List, [], sym, subst, refl, Result, Ok, Err}
 use Rattle.std.specs.Prelude.{All, OnErr, OnOk}
-use Rattle.std.proofs.lemmas.List.Elements.{All-take}
-use Rattle.std.proofs.lemmas.Result.{IfOk-weaker, on_err_weaker, on_ok_weaker}
+use Rattle.std.proofs.lemmas.List.Elements.{All-nil}
+use Rattle.std.proofs.lemmas.Result.{on_err_weaker, on_ok_weaker}
 use Rattle.vr_types.proofs.CallerLemmas.{keeps-none}
 use Rattle.vr_space.specs.Part.{IsDueTo}
 use Rattle.vr_store.specs.declared.changed.UnitBlocks.{UnitBlocks}
@@ -31,17 +30,6 @@ returns-in-Some-clause-due g c told shape owners place sound due =
     c.place_of.result c.deref.ensures.value c.place_of.ensures c.in-Some.at c.index_mut.result.now
     c.in-Some.is c.index_mut.ensures.value) due))
 
-pub returns-in-Some-clause-left : goal.returns-in-Some-clause-left
-returns-in-Some-clause-left g c =
-    let after : UnitBlocks =
-    record { unit = c.index_mut.result.now.unit; blocks = c.force_changed.new.changed } in
-    IfOk-weaker c.force_changed.result _ _
-    (λ left is. is ∙ ap (λ (listed : List ℕ). min (length listed) 4294967295)
-    (sym (unit-after c.args.unit c.args.changed.now.items c.deref.result.now
-    c.place_of.result c.deref.ensures.value c.place_of.ensures c.in-Some.at c.index_mut.result.now
-    c.in-Some.is c.index_mut.ensures.value after refl)))
-    c.force_changed.ensures.left
-
 pub returns-in-Some-clause-taken : goal.returns-in-Some-clause-taken
 returns-in-Some-clause-taken g c =
     let after : UnitBlocks =
@@ -49,11 +37,7 @@ returns-in-Some-clause-taken g c =
     on_ok_weaker c.force_changed.result
     (λ is. unit-after c.args.unit c.args.changed.now.items c.deref.result.now
     c.place_of.result c.deref.ensures.value c.place_of.ensures c.in-Some.at c.index_mut.result.now
-    c.in-Some.is c.index_mut.ensures.value after refl ∙ is
-    ∙ ap (λ (listed : List ℕ). take (length listed - 4) listed)
-    (sym (unit-listed c.args.unit c.args.changed.now.items c.deref.result.now
-    c.place_of.result c.deref.ensures.value c.place_of.ensures c.in-Some.at c.index_mut.result.now
-    c.in-Some.is c.index_mut.ensures.value)))
+    c.in-Some.is c.index_mut.ensures.value after refl ∙ is)
     c.force_changed.ensures.taken
 
 pub returns-in-Some-clause-others : goal.returns-in-Some-clause-others
@@ -79,11 +63,10 @@ returns-in-Some-clause-each g c =
     c.requires
   where
     still : (count : ℕ) (old new : List ℕ) {T E : Type 0} (result : Result T E)
-        → OnOk result (new ≡ take (length old - 4) old) → OnErr result (new ≡ old)
+        → OnOk result (new ≡ []) → OnErr result (new ≡ old)
         → All (λ n. n < count) old → All (λ n. n < count) new
     still count old new (Ok value) taken kept all =
-        subst (All (λ n. n < count)) (sym taken)
-        (All-take (λ n. n < count) (length old - 4) old all)
+        subst (All (λ n. n < count)) (sym taken) (All-nil (λ n. n < count))
     still count old new (Err fault) taken kept all =
         subst (All (λ n. n < count)) (sym kept) all
 
@@ -96,17 +79,9 @@ returns-in-Some-clause-same g c =
     (record { unit = c.index_mut.result.now.unit; blocks = c.force_changed.new.changed }) refl)
     c.force_changed.ensures.kept
 
-pub returns-in-None-clause-left : goal.returns-in-None-clause-left
-returns-in-None-clause-left g c =
-    sym (ap (λ (listed : List ℕ). min (length listed) 4294967295)
-    (none-listed c.args.unit c.args.changed.now.items c.deref.result.now
-    c.place_of.result c.deref.ensures.value c.place_of.ensures c.in-None.is))
-
 pub returns-in-None-clause-taken : goal.returns-in-None-clause-taken
-returns-in-None-clause-taken g c =
-    let none = none-listed c.args.unit c.args.changed.now.items c.deref.result.now
-    c.place_of.result c.deref.ensures.value c.place_of.ensures c.in-None.is in
-    none ∙ sym (ap (λ (listed : List ℕ). take (length listed - 4) listed) none)
+returns-in-None-clause-taken g c = none-listed c.args.unit c.args.changed.now.items
+    c.deref.result.now c.place_of.result c.deref.ensures.value c.place_of.ensures c.in-None.is
 
 pub returns-in-None-clause-keeps : goal.returns-in-None-clause-keeps
 returns-in-None-clause-keeps g c =

@@ -1,9 +1,8 @@
-use Rattle.std.proofs.Common.{List, drop, subst, sym, ℕ}
-use Rattle.std.proofs.lemmas.List.{take_rest}
+use Rattle.std.proofs.Common.{List, subst, sym, ℕ}
 use Rattle.vr_types.specs.Blocks.{Forced}
 use Rattle.vr_space.specs.Part.{IsDueTo}
 use Rattle.vr_volume.specs.Committed.{committed_by}
-use Rattle.vr_volume.proofs.ForceCalls.{due-kept, due-left, part-kept, volume-kept}
+use Rattle.vr_volume.proofs.ForceCalls.{due-forced, due-kept, part-kept, volume-kept}
 use Rattle.vr_volume.proofs.forcing.force_changed.Goals as goal
 
 pub returns-in_err-force_blocks-clause-due : goal.returns-in_err-force_blocks-clause-due
@@ -34,14 +33,11 @@ returns-clause-due g c told shape owners place sound due =
     let B = g.B.Blocks in
     let a = B.seen c.args.blocks.now in
     let b = B.seen c.force_blocks.new.blocks in
-    let left = c.saturating_sub-left.result in
-    subst (λ (listed : List ℕ). IsDueTo shape listed b place) (sym {A = List ℕ}
-    c.truncate.ensures.items)
-    (due-left B.tells told a b c.force_blocks.ensures.after shape owners c.args.changed.now.items
-    place left
-    (subst (λ (listed : List ℕ). Forced (drop left listed) a.cur b.may) c.deref.ensures.value
-    (subst (λ (listed : List ℕ). Forced listed a.cur b.may) (take_rest c.deref.result.now left)
-    (c.in_ok-force_blocks.ensures.forced told)))
+    subst (λ (listed : List ℕ). IsDueTo shape listed b place) (sym {A = List ℕ} c.clear.ensures.items)
+    (due-forced B.tells told a b c.force_blocks.ensures.after shape owners c.args.changed.now.items
+    place
+    (subst (λ (listed : List ℕ). Forced listed a.cur b.may) c.deref.ensures.value
+    (c.in_ok-force_blocks.ensures.forced told))
     sound due)
 
 pub returns-clause-rests : goal.returns-clause-rests

@@ -6,7 +6,7 @@ use Rattle.vr_store.specs.Store.{StoreNow}
 use Rattle.vr_event.specs.Volume.{IsHeld, VolumeNow}
 use Rattle.vr_event.proofs.Recovers.{recovers-safe}
 use Rattle.vr_event.proofs.Wholes.{held-moved}
-use Rattle.vr_event.proofs.volume.Volume.force_some.Goals as goal
+use Rattle.vr_event.proofs.volume.Volume.force_changed.Goals as goal
 
 pub returns-clause-held : goal.returns-clause-held
 returns-clause-held g c told opening held =
@@ -19,9 +19,9 @@ returns-clause-held g c told opening held =
     } in
     let then : IsHeld seen opening before =
     subst (IsHeld seen opening) (sym c.self.view_is) held in
-    held-moved seen opening before c.force_some.new.self c.force_some.new.blocks
-    (ap (λ (s : StoreNow). s.space) c.force_some.ensures.rest)
-    (λ going. c.force_some.ensures.stored told before.number (state_now opening before.file)
+    held-moved seen opening before c.force_changed.new.self c.force_changed.new.blocks
+    (ap (λ (s : StoreNow). s.space) c.force_changed.ensures.rest)
+    (λ going. c.force_changed.ensures.stored told before.number (state_now opening before.file)
     (then.stored going)) then
 
 pub returns-clause-moments : goal.returns-clause-moments
@@ -38,8 +38,8 @@ returns-clause-moments g c told opening held =
     subst (IsHeld seen opening) (sym c.self.view_is) held in
     let stored = then.stored (ap (λ (v : VolumeNow g.row.B.Denot). v.file.stopped) c.self.view_is
     ∙ c.requires.going) in
-    subst (λ (v : VolumeNow g.row.B.Denot). Guards (seen v.blocks) (seen c.force_some.new.blocks)
+    subst (λ (v : VolumeNow g.row.B.Denot). Guards (seen v.blocks) (seen c.force_changed.new.blocks)
     (RecoversTo v.store.log.geometry v.number (state_now opening v.file) [])) c.self.view_is
     (recovers-safe before.number before.store state (seen before.blocks)
-    (seen c.force_some.new.blocks) stored
-    (c.force_some.ensures.moments told before.number state stored))
+    (seen c.force_changed.new.blocks) stored
+    (c.force_changed.ensures.moments told before.number state stored))
