@@ -1,6 +1,7 @@
 -- The rules that the catalog of a volume keeps, beside those of its blocks: its records spell
--- entries, no part number comes twice, an alternate index or a path stands over what it may, and
--- the sizes are those that DEFINE of Access Method Services Commands allows.
+-- entries, no part number comes twice, an alternate index or a path stands over what it may, a
+-- cluster has a first area, and the sizes are those that DEFINE of Access Method Services Commands
+-- allows.
 use Rattle.std.specs.Prelude.{ℕ, ◌+◌, Bool, true, false, not, ◌&&◌, ◌||◌, List, ◌∷◌, All, IsTrue}
 use Rattle.std.specs.Prelude.{nat_eq}
 use Rattle.std.specs.Prelude.{Option, Some, None, is_some, is_none}
@@ -40,6 +41,12 @@ is_over_by Alternate entry base =
 is_over_by Path entry base =
     option_map_or (λ (other : CatEntry). not (is_path_kind other.entry_kind)) base false
 
+-- a cluster has a first area, from which its blocks are reached
+abbrev pub has_area_by : EntryKind → CatEntry → Bool
+has_area_by Cluster entry = is_some entry.first_area
+has_area_by Alternate entry = true
+has_area_by Path entry = true
+
 -- an area has two intervals at least for places of the length, where there is one
 abbrev pub has_intervals : Geometry → CatEntry → ℕ → Bool
 has_intervals geometry entry length =
@@ -72,6 +79,7 @@ has_sizes_by Path geometry entry base = true
 pub record IsEntryOf (geometry : Geometry) (entries : List CatEntry) (entry : CatEntry) : Type 0
   where
     pub over : IsTrue (is_over_by entry.entry_kind entry (related_in entries entry))
+    pub area : IsTrue (has_area_by entry.entry_kind entry)
     pub sizes : IsTrue (has_sizes_by entry.entry_kind geometry entry (related_in entries entry))
 
 -- The content is that of a catalog. Part 0 is the catalog itself.

@@ -165,6 +165,7 @@ pub rules-any : (geometry : Geometry) (one other : List CatEntry) (entry : CatEn
 rules-any geometry one other entry kind rules = record {
   over = over-any entry.entry_kind kind entry (related_in one entry) (related_in other entry)
       rules.over;
+  area = rules.area;
   sizes = sizes-any entry.entry_kind kind geometry entry (related_in one entry)
       (related_in other entry) rules.sizes;
 }

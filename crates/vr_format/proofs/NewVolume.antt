@@ -100,6 +100,7 @@ module _ (geometry : Geometry) (allowed : IsAllowed geometry) where
   first-rules : IsEntryOf geometry (first_entry ∷ []) first_entry
   first-rules = record {
     over = refl;
+    area = refl;
     sizes = has-sizes (nat_lt (plain_limit geometry) 80)
         (nat_lt (intervals_in geometry 8) 2)
         (le-ltb (plain_limit geometry) 80

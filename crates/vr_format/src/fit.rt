@@ -51,6 +51,7 @@ fn keeps_rules(geometry: &Geometry, before: &Catalog, cluster: &CatEntry) -> boo
         return false;
     };
     cluster.related.is_none()
+        && cluster.first_area.is_some()
         && !ends_past(cluster.key_length, cluster.key_offset, cluster.maximum)
         && !is_bad_cluster(geometry, &definition, cluster.average)
         && has_intervals(geometry, cluster)

@@ -33,8 +33,8 @@ fn is_catalog(
 
 /// The catalog whose records these are, in the order of their places: its entries. None exactly
 /// where they are those of no catalog: one is misspelled, a part number comes twice or is 0, an
-/// entry stands over what it may not, or has sizes that it may not have. `OutOfMemory`: there is no
-/// memory for the entries.
+/// entry stands over what it may not, a cluster has no first area, or an entry has sizes that it may
+/// not have. `OutOfMemory`: there is no memory for the entries.
 #[tactic(auto, using(crate::proofs::Spelling::decisions))]
 pub fn catalog_of_records(
     alloc: Global,

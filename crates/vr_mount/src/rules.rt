@@ -11,6 +11,7 @@ ghost use Rattle.vr_attach.specs.CatalogRules.{
   related_in as base_in,
   is_cluster as cluster,
   is_over_by,
+  has_area_by,
   has_intervals as intervals,
   has_intervals_by as intervals_by,
   has_sizes_over as sizes_over,
@@ -78,6 +79,16 @@ fn is_over(entry: &CatEntry, base: Option<&CatEntry>) -> bool
         (EntryKind::Alternate, Some(other)) => is_base(other),
         (EntryKind::Path, Some(other)) => !is_path_kind(other.entry_kind),
         (EntryKind::Alternate, None) | (EntryKind::Path, None) => false,
+    }
+}
+
+/// Whether an entry has a first area, where it is a cluster.
+fn has_area(entry: &CatEntry) -> bool
+    ensures { result ≡ has_area_by entry.now.entry_kind entry.now }
+{
+    match entry.entry_kind {
+        EntryKind::Cluster => entry.first_area.is_some(),
+        EntryKind::Alternate | EntryKind::Path => true,
     }
 }
 
@@ -156,7 +167,7 @@ fn is_entry_of(geometry: &Geometry, catalog: &Catalog, entry: &CatEntry) -> bool
     ensures { IsTrue result ↔ IsEntryOf geometry.now catalog.now entry.now }
 {
     let base = related_in(catalog, entry);
-    is_over(entry, base) && has_sizes(geometry, entry, base)
+    is_over(entry, base) && has_area(entry) && has_sizes(geometry, entry, base)
 }
 
 /// Whether each entry of a catalog keeps the rules.
