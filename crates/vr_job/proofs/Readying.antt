@@ -33,7 +33,7 @@ use Rattle.vr_event.specs.Opening.{owned_in}
 use Rattle.vr_store.specs.Store.{ChangedBy, IsFitImage, IsPartSet, IsSet, PartNow, shape_among}
 use Rattle.vr_recover.specs.Opening.{IsHandedOut, IsOpenedBy as IsOpenedWith, shapes_laid}
 use Rattle.vr_recover.specs.Undone.{IsReady as IsReadyPart, alike}
-use Rattle.vr_recover.proofs.CallerLemmas.{laid-cases, shape-number}
+use Rattle.vr_recover.proofs.CallerLemmas.{laid-cases, ordered-distinct, shape-number}
 use Rattle.vr_recover.specs.Opening.{IsRefused}
 use Rattle.vr_recover.specs.OpenNo.{IsToldNo}
 use Rattle.vr_recover.specs.declared.open_no.OpenNo.{OpenNo}
@@ -290,8 +290,9 @@ module _ (geometry : Geometry) (entries : List CatEntry) (owned : List AnyPart) 
 
   apart-set : IsDistinct nat_eq (map (λ (part : PartNow). part.number.0) parts)
   apart-set = subst (IsDistinct nat_eq)
-      (sym (numbers-opened owned ∙ ap numbers-of handed.shapes))
-      (distinct-shapes geometry entries handed.distinct)
+      (sym (numbers-opened owned ∙ ap numbers-of handed.shapes.are))
+      (distinct-shapes geometry handed.shapes.ordered (ordered-distinct entries
+      handed.shapes.ordered handed.shapes.by_number handed.distinct))
 
   pub handed-set : IsSet (opened_store log parts space) now
   handed-set = record {
@@ -316,21 +317,17 @@ module _ (geometry : Geometry) (entries : List CatEntry) (owned : List AnyPart) 
       by (None-there none has) None is = none
       by (None-there none has) (Some shape) is =
           let there = handed.laid.there part shape is in
-          absurd (has there.0 shape
-          (ap (λ (shapes : List Shape). slice_get shapes there.0) handed.shapes ∙ there.1)
-          (handed.laid.all part shape is))
+          absurd (has there.0 shape there.1 (handed.laid.all part shape is))
       by (One-there at shape there number some) o is = some
           ∙ sym (subst (λ (n : ℕ). shape_in geometry entries n ≡ Some shape) number
           (at-place (λ (s : Shape). shape_in geometry entries (part_no s).0 ≡ Some s)
-          (shapes_laid geometry entries) at shape handed.laid.each
-          (ap (λ (shapes : List Shape). slice_get shapes at) (sym handed.shapes) ∙ there))) ∙ is
+          (map shape_any owned) at shape handed.laid.each there)) ∙ is
 
   laid-each : All (λ (one : AnyPart).
       shape_in geometry entries (part_no (shape_any one)).0 ≡ Some (shape_any one)) owned
   laid-each = each-owned
       (λ (shape : Shape). shape_in geometry entries (part_no shape).0 ≡ Some shape) owned
-      (subst (All (λ (shape : Shape). shape_in geometry entries (part_no shape).0 ≡ Some shape))
-      (sym handed.shapes) handed.laid.each)
+      handed.laid.each
 
   handed-owned : AllByRecursion
       (λ (area : OwnedArea). has_part (parts_laid entries) area.part ≡ true) (owned_in space)

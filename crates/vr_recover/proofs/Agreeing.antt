@@ -3,16 +3,14 @@
 use Rattle.std.proofs.Common.{◌≡◌, ⊎_elim, ℕ, ◌+◌, ◌<◌, ◌≤◌}
 use Rattle.std.proofs.Common.{List, ◌∷◌, Some, length, refl, sym, ap, subst, ◌∙◌}
 use Rattle.std.proofs.Common.{get_or}
-use Rattle.std.specs.Prelude.{All, IfSome, nat_eq, slice_get}
-use Rattle.std.specs.List.{IsDistinct}
+use Rattle.std.specs.Prelude.{All, IfSome}
 use Rattle.std.specs.Option.{option_and_then}
-use Rattle.std.proofs.lemmas.Option.{slice_get-get_or}
 use Rattle.vr_types.specs.Content.{Content, record_of}
 use Rattle.vr_types.specs.Geometry.{IsAllowed, area_count, head_block}
 use Rattle.vr_types.specs.Image.{Image, block_at}
 use Rattle.vr_types.specs.Seen.{Seen}
 use Rattle.vr_types.specs.declared.geometry.Geometry.{Geometry}
-use Rattle.vr_catalog.specs.Catalog.{entries_in, parts_in}
+use Rattle.vr_catalog.specs.Catalog.{entries_in}
 use Rattle.vr_catalog.specs.Definition.{catalog_definition}
 use Rattle.vr_catalog.specs.declared.entry.CatEntry.{CatEntry}
 use Rattle.vr_attach.specs.CatalogRules.{IsCatalog}
@@ -34,9 +32,8 @@ use Rattle.vr_volume.specs.PutBack.{AreAlone, images_of, lengths_kept}
 use Rattle.vr_volume.specs.Volume.{CanPutBack, IsInside, Recovers, catalog_back, shapes_by}
 use Rattle.vr_recover.specs.Found.{AreEntriesOf, AtAreas, AtCatalog, AtImages, AtPart, HasRoomOf}
 use Rattle.vr_recover.specs.Found.{IsAreaNo, IsMountShown, MayGoBack, Misspelled, catalog_by}
-use Rattle.vr_recover.specs.Opening.{IsNoVolume, IsTaken, IsVolume, shapes_laid}
+use Rattle.vr_recover.specs.Opening.{AreLaid, IsNoVolume, IsTaken, IsVolume}
 use Rattle.vr_recover.specs.Undone.{FitsPart, IsCovered}
-use Rattle.vr_recover.proofs.Shapes.{entry-laid, laid-number, laid-there, shape-laid}
 use Rattle.vr_recover.proofs.Shown.{any-none}
 
 some-shape : (x y : Shape) → Some x ≡ Some y → x ≡ y
@@ -125,19 +122,14 @@ module _ (geometry : Geometry) (number : ℕ) (image : Image) (recovered : ℕ �
 
     -- ---- its before-images may be put back
 
-    module _ (distinct : IsDistinct nat_eq (0 ∷ parts_in entries)) (shapes : List Shape)
-        (laid : shapes ≡ shapes_laid geometry entries) where
+    module _ (shapes : List Shape) (laid : AreLaid geometry entries shapes) where
       covers : (image : BeforeImage)
           → CanPutBack (shapes_by geometry is.log is.contents) image → IsCovered shapes image
       covers one can =
           let here : shape_in geometry entries one.part ≡ Some can.shape =
           sym (shapes-same one.part) ∙ can.laid in
-          let there = laid-there geometry entries distinct one.part can.shape here in (
-            there.0,
-            can.shape,
-            ap (λ (s : List Shape). slice_get s there.0) laid ∙ there.1,
-            sym (laid-number geometry entries distinct one.part can.shape here),
-          )
+          let there = laid.there one.part can.shape here in
+          (there.0, can.shape, there.1, sym (laid.all one.part can.shape here))
 
       fits : (shape : Shape) → shape_in geometry entries (part_no shape).0 ≡ Some shape
           → (image : BeforeImage) → CanPutBack (shapes_by geometry is.log is.contents) image
@@ -152,11 +144,6 @@ module _ (geometry : Geometry) (number : ℕ) (image : Image) (recovered : ℕ �
                 (IsRecordOf s one.place)) same can.old;
           }
 
-      laid-at : (k : ℕ) (d : Shape) → k < length shapes
-          → shape_in geometry entries (part_no (get_or shapes k d)).0 ≡ Some (get_or shapes k d)
-      laid-at k d below = shape-laid geometry entries distinct k (get_or shapes k d)
-          (ap (λ (s : List Shape). slice_get s k) (sym laid) ∙ slice_get-get_or shapes k d below)
-
       images-are : All (CanPutBack (shapes_by geometry is.log is.contents))
           (images_of content.records)
       images-are = subst (All (CanPutBack (shapes_by geometry is.log is.contents))) images-same
@@ -168,7 +155,7 @@ module _ (geometry : Geometry) (number : ℕ) (image : Image) (recovered : ℕ �
         covered = λ k d below. covers (get_or (images_of content.records) k d)
             (images-are k d below);
         fits = λ j e within k d below.
-            fits (get_or shapes j e) (laid-at j e within) (get_or (images_of content.records) k d)
+            fits (get_or shapes j e) (laid.each j e within) (get_or (images_of content.records) k d)
             (images-are k d below);
       }
 
@@ -178,7 +165,7 @@ module _ (geometry : Geometry) (number : ℕ) (image : Image) (recovered : ℕ �
           let shape = get_or shapes j e in
           subst (λ (images : List BeforeImage). HasRoom shape
           (lengths_kept images (part_no shape).0) image) images-same
-          (is.room (part_no shape).0 shape (is-laid (part_no shape).0 shape (laid-at j e within)))
+          (is.room (part_no shape).0 shape (is-laid (part_no shape).0 shape (laid.each j e within)))
 
   -- each before-image of the catalog's own part may be put back
   own-fits : All (FitsPart (catalog_shape geometry)) images
@@ -220,11 +207,8 @@ module _ (geometry : Geometry) (number : ℕ) (image : Image) (recovered : ℕ �
       let are = subst (λ (i : Image). AreEntriesOf geometry images i entries) same
       shown.are.entries_are in
       let one = shown.shown in
-      let laid : shape_in geometry entries one.entry.part.0 ≡ Some one.shape =
-      entry-laid geometry entries shown.are.distinct one.at one.entry one.shape one.there one.laid in
       any-none geometry entries is.stands.owners image
-      (λ part shape here. is.stands.within part shape (is-laid entries are part shape here)) one.at
-      one.entry.part.0 one.shape laid
-      (part-stands entries are one.entry.part.0 one.shape laid) block rule
+      (λ part shape here. is.stands.within part shape (is-laid entries are part shape here))
+      one.part one.shape one.laid (part-stands entries are one.part one.shape one.laid) block rule
       (subst (λ (i : Image). IsAnyShown geometry one.shape
-      (IsTaken geometry entries one.at i one.entry.part.0) i block rule) same one.shown)
+      (IsTaken geometry entries i one.part) i block rule) same one.shown)

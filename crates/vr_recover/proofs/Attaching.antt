@@ -190,14 +190,12 @@ pub entry-then : (geometry : Geometry) (entries : List CatEntry) (now old : Seen
     (block rule : ℕ) → now.cur ≡ old.cur → IsEntryShown geometry entries now block rule
     → IsEntryShown geometry entries old block rule
 entry-then geometry entries now old block rule same shown = record {
-  at = shown.at;
-  entry = shown.entry;
-  there = shown.there;
+  part = shown.part;
   shape = shown.shape;
   laid = shown.laid;
+  before = λ other one less laid. subst (Stands one) same (shown.before other one less laid);
   shown = subst (λ (image : Image). IsAnyShown geometry shown.shape
-      (IsTaken geometry entries shown.at image shown.entry.part.0) image block rule) same
-      shown.shown;
+      (IsTaken geometry entries image shown.part) image block rule) same shown.shown;
 }
 
 pub shown-then : (geometry : Geometry) (entries : List CatEntry) (now old : Seen) (answer : OpenNo)

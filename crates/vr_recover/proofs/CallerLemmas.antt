@@ -2,6 +2,8 @@
 
 -- which shapes a catalog lays, and the number of each
 pub use Rattle.vr_recover.proofs.Shapes.{laid-cases, shape-number}
+-- entries in the order of their part numbers are told apart as they are in any
+pub use Rattle.vr_recover.proofs.NumberOrder.{ordered-distinct}
 -- the order of addresses in what an image is recovered to
 pub use Rattle.vr_recover.proofs.Addressed.{entry-addressed, recovered-addressed}
 -- what is settled as a crash comes is an item of what is opened; and what a volume is opened with is

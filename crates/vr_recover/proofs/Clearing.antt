@@ -44,7 +44,7 @@ use Rattle.vr_mount.proofs.Telling.{mapped_all}
 use Rattle.vr_recover.specs.Found.{AreEntriesOf, AreKnown, IsFound, IsPartReady, IsPlanned}
 use Rattle.vr_recover.specs.Found.{IsUndoable, MayAdd}
 use Rattle.vr_recover.specs.Opening.{HasNoSplit}
-use Rattle.vr_recover.specs.Undone.{HaveOwnNumbers, IsCovered, IsLaidPastLog, IsReady, IsSettled}
+use Rattle.vr_recover.specs.Undone.{IsCovered, IsLaidPastLog, IsReady, IsSettled}
 use Rattle.vr_recover.proofs.Agreeing.{log-same, shapes-same}
 use Rattle.vr_recover.proofs.Keeping.{all-more}
 use Rattle.vr_recover.proofs.Numbering.{inside-of, on-of}
@@ -52,7 +52,7 @@ use Rattle.vr_recover.proofs.Settled.{attached-knows, forced-rests, part-opened,
 use Rattle.vr_recover.proofs.Recovery.{AreOffLog, found-own, found-recovers, moved-keeps}
 use Rattle.vr_recover.proofs.Recovery.{moved-recovers}
 use Rattle.vr_recover.proofs.Recovery.{recovered, stand-of}
-use Rattle.vr_recover.proofs.Shapes.{each-laid, shapes-differ}
+use Rattle.vr_recover.proofs.NumberOrder.{own-numbers, shapes-lay}
 use Rattle.vr_recover.proofs.Wholes.{recovers-items}
 
 -- ---- what a part knows
@@ -202,9 +202,8 @@ module _ (geometry : Geometry) (content : LogContent) (entries : List CatEntry)
 
   pub laid-all : All (λ (shape : Shape). shape_in geometry entries (part_no shape).0 ≡ Some shape)
       (map shape_any parts)
-  laid-all = subst
-      (All (λ (shape : Shape). shape_in geometry entries (part_no shape).0 ≡ Some shape))
-      (sym planned.shapes_are) (each-laid geometry entries planned.may.distinct)
+  laid-all = (shapes-lay geometry entries (map shape_any parts) planned.may.distinct
+      planned.shapes_are).each
 
   pub parts-on : (now : Seen) → IsOf geometry now
       → All (λ (shape : Shape). IsOn shape now) (map shape_any parts)
@@ -230,8 +229,8 @@ module _ (geometry : Geometry) (content : LogContent) (entries : List CatEntry)
       (subst (λ (k : List BeforeImage). IsUndoable (made geometry content) content.records parts
       k now) (sym same) (record {
         on = parts-on now of;
-        apart = subst HaveOwnNumbers (sym planned.shapes_are)
-            (shapes-differ geometry entries planned.may.distinct);
+        apart = own-numbers geometry entries (map shape_any parts) planned.may.distinct
+            planned.shapes_are;
         split = split;
         sound = refl;
         shape = of;

@@ -9,6 +9,7 @@ pub mod Opening
 pub mod Attaching
 pub mod Keeping
 pub mod Shapes
+pub mod NumberOrder
 pub mod Adding
 pub mod Taking
 pub mod Numbering

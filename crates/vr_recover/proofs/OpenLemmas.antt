@@ -45,7 +45,8 @@ use Rattle.vr_volume.specs.Volume.{Recovers}
 use Rattle.vr_volume.proofs.CallerLemmas.{catalog-whole, keep-less, recovers-same}
 use Rattle.vr_recover.specs.Found.{IsFound, IsPartReady, IsPlanned, areas_kept}
 use Rattle.vr_recover.specs.Opening.{AreOwnersBy, HasNoSplit, InArea, InCatalog, InImages, InLog}
-use Rattle.vr_recover.specs.Opening.{InPart, IsDamaged, IsHandedOut, OwnsAreas, shapes_laid}
+use Rattle.vr_recover.specs.Opening.{AreLaid, AreShapesOf, InPart, IsDamaged, IsHandedOut, OwnsAreas}
+use Rattle.vr_recover.specs.Opening.{shapes_laid}
 use Rattle.vr_recover.specs.Opening.{IsNoVolume, IsOpened, IsPartShown, IsRefused, OfCatalog, OfEntry}
 use Rattle.vr_recover.specs.Opening.{IsShownOf, IsShownPast, IsVolume, PastLog, Twice}
 use Rattle.vr_recover.specs.Undone.{IsLaidPastLog, IsReady, IsUndone}
@@ -60,9 +61,9 @@ use Rattle.vr_recover.proofs.Agreeing.{volume-here}
 use Rattle.vr_recover.proofs.Attaching.{entry-then}
 use Rattle.vr_recover.proofs.Clearing.{parts-on, parts-past}
 use Rattle.vr_recover.proofs.Keeping.{all-more}
+use Rattle.vr_recover.proofs.NumberOrder.{shapes-lay}
 use Rattle.vr_recover.proofs.Owning.{owners-reached}
 use Rattle.vr_recover.proofs.Recovery.{found-entries, found-recovers, recovered}
-use Rattle.vr_recover.proofs.Shapes.{are-laid}
 use Rattle.vr_recover.proofs.Wholes.{recovers-whole, whole, whole-records}
 
 -- ---- calls that put nothing
@@ -443,6 +444,12 @@ module _ (geometry : Geometry) (content : LogContent) (entries : List CatEntry)
     (same : map shape_any parts ≡ map shape_any before)
     (areas : areas_kept parts ≡ areas_kept before) (owners : List (Option PartNo))
     (own : AreOwnersBy geometry before owners) where
+  shapes-of : AreShapesOf geometry entries (map shape_any parts)
+  shapes-of = subst (AreShapesOf geometry entries) (sym same) planned.shapes_are
+
+  laid-of : AreLaid geometry entries (map shape_any parts)
+  laid-of = shapes-lay geometry entries (map shape_any parts) planned.may.distinct shapes-of
+
   pub handed-out : (log : LogNow) (now : Seen) → IsOf geometry now → log.geometry ≡ geometry
       → log.broken ≡ false → IsForced log → log.records ≡ [] → log.generation < 2 ^ 63 + 1
       → All HasNoSplit parts → IsHandedOut geometry entries parts log owners now
@@ -456,8 +463,8 @@ module _ (geometry : Geometry) (content : LogContent) (entries : List CatEntry)
     generation = low;
     distinct = planned.may.distinct;
     clusters = planned.clusters;
-    shapes = same ∙ planned.shapes_are;
-    laid = are-laid geometry entries planned.may.distinct;
+    shapes = shapes-of;
+    laid = laid-of;
     on = subst (All (λ (shape : Shape). IsOn shape now)) (sym same)
         (parts-on geometry content entries before planned allowed now of);
     past = subst (All (IsLaidPastLog geometry)) (sym same)
@@ -508,8 +515,7 @@ module _ (geometry : Geometry) (content : LogContent) (entries : List CatEntry)
               (λ (part : AnyPart). IsReady (shape_any part) (owner_of geometry owners)
               (known_any part) [] now)
               (λ part one. ready-free kept now part one) parts ready;
-          owners_are = owners-reached geometry entries parts owners planned.may.distinct
-              (same ∙ planned.shapes_are)
+          owners_are = owners-reached geometry entries parts owners laid-of
               (owned-still geometry before parts owners same areas own) now
               (all-more (IsPartReady (owner_of geometry owners) kept now)
               (λ (part : AnyPart). Knows (shape_any part) (known_any part) now)

@@ -1,13 +1,11 @@
 -- Who owns the areas of a volume by its parts, and by what its blocks have.
-use Rattle.std.proofs.Common.{◌≡◌, ℕ, ◌∷◌, List, Option, Some, None, sym, ap, subst, ◌∙◌, map, get_or}
-use Rattle.std.specs.Prelude.{All, Contains, nat_eq, slice_get}
-use Rattle.std.specs.List.{IsDistinct}
+use Rattle.std.proofs.Common.{◌≡◌, ℕ, List, Option, Some, None, sym, ap, subst, ◌∙◌, map, get_or}
+use Rattle.std.specs.Prelude.{All, Contains, slice_get}
 use Rattle.std.specs.Option.{option_map}
 use Rattle.std.proofs.lemmas.Option.{get_or_from_slice_get, slice_get-map, slice_get_within}
 use Rattle.vr_types.specs.Seen.{Seen}
 use Rattle.vr_types.specs.declared.geometry.Geometry.{Geometry}
 use Rattle.vr_types.specs.declared.unit.PartNo.{PartNo}
-use Rattle.vr_catalog.specs.Catalog.{parts_in}
 use Rattle.vr_catalog.specs.declared.entry.CatEntry.{CatEntry}
 use Rattle.vr_attach.specs.Laid.{HasArea, ReachesArea, shape_in}
 use Rattle.vr_mount.specs.Areas.{AreOwners, IsReachedIn}
@@ -16,10 +14,9 @@ use Rattle.vr_part.specs.declared.any.AnyPart.{AnyPart}
 use Rattle.vr_space.specs.Known.{Known}
 use Rattle.vr_space.specs.Part.{KeyedShape, Knows, NumberedShape, Shape, part_no}
 use Rattle.vr_recover.specs.Found.{AreKnown}
-use Rattle.vr_recover.specs.Opening.{AreOwnersBy, shapes_laid}
+use Rattle.vr_recover.specs.Opening.{AreLaid, AreOwnersBy}
 use Rattle.vr_recover.proofs.Adding.{part-at, same-part}
 use Rattle.vr_recover.proofs.Settled.{attached-knows}
-use Rattle.vr_recover.proofs.Shapes.{laid-number, laid-there, shape-laid}
 
 -- parts know their blocks
 abbrev pub AllKnow : List AnyPart → Seen → Type 0
@@ -48,8 +45,7 @@ has-reaches geometry (NumberedShape part) known now area knows has = subst
     (λ (areas : List ℕ). Contains areas area) knows.blocks.chain.areas has
 
 module _ (geometry : Geometry) (entries : List CatEntry) (parts : List AnyPart)
-    (owners : List (Option PartNo)) (distinct : IsDistinct nat_eq (0 ∷ parts_in entries))
-    (shapes : map shape_any parts ≡ shapes_laid geometry entries)
+    (owners : List (Option PartNo)) (laid : AreLaid geometry entries (map shape_any parts))
     (own : AreOwnersBy geometry parts owners) (now : Seen) (know : AllKnow parts now) where
   knows-at : (k : ℕ) (one : AnyPart) → slice_get parts k ≡ Some one
       → Knows (shape_any one) (known_any one) now
@@ -57,12 +53,21 @@ module _ (geometry : Geometry) (entries : List CatEntry) (parts : List AnyPart)
       (get_or_from_slice_get parts k one one there)
       (know k one (slice_get_within parts k one there))
 
+  laid-at : (k : ℕ) (one : AnyPart) → slice_get parts k ≡ Some one
+      → shape_in geometry entries (part_no (shape_any one)).0 ≡ Some (shape_any one)
+  laid-at k one there =
+      let here : slice_get (map shape_any parts) k ≡ Some (shape_any one) =
+      slice_get-map shape_any parts k ∙ ap (option_map shape_any) there in
+      subst (λ (shape : Shape). shape_in geometry entries (part_no shape).0 ≡ Some shape)
+      (get_or_from_slice_get (map shape_any parts) k (shape_any one) (shape_any one) here)
+      (laid.each k (shape_any one)
+      (slice_get_within (map shape_any parts) k (shape_any one) here))
+
   reached-own : (part : PartNo) (area : ℕ) → IsReachedIn geometry entries now.cur part.0 area
       → get_or owners area None ≡ Some part
   reached-own part area reached =
-      let there = laid-there geometry entries distinct part.0 reached.shape reached.laid in
-      let one = part-at parts there.0 reached.shape
-      (ap (λ (s : List Shape). slice_get s there.0) shapes ∙ there.1) in
+      let there = laid.there part.0 reached.shape reached.laid in
+      let one = part-at parts there.0 reached.shape there.1 in
       let has : HasArea geometry (shape_any one.0) (known_any one.0) area =
       reaches-has geometry (shape_any one.0) (known_any one.0) now area
       (knows-at there.0 one.0 one.1)
@@ -73,7 +78,7 @@ module _ (geometry : Geometry) (entries : List CatEntry) (parts : List AnyPart)
       (own.owned there.0 one.0 (slice_get_within parts there.0 one.0 one.1) area) has
       ∙ ap Some (same-part (part_no (shape_any one.0)) part
       (ap (λ (s : Shape). (part_no s).0) one.2
-      ∙ laid-number geometry entries distinct part.0 reached.shape reached.laid))
+      ∙ laid.all part.0 reached.shape reached.laid))
 
   own-reached : (part : PartNo) (area : ℕ)
       → get_or owners area None ≡ Some part
@@ -83,10 +88,7 @@ module _ (geometry : Geometry) (entries : List CatEntry) (parts : List AnyPart)
       record {
         shape = shape_any held.one;
         laid = subst (λ (n : PartNo). shape_in geometry entries n.0 ≡ Some (shape_any held.one))
-            held.number
-            (shape-laid geometry entries distinct held.at (shape_any held.one)
-            (ap (λ (s : List Shape). slice_get s held.at) (sym shapes)
-            ∙ slice_get-map shape_any parts held.at ∙ ap (option_map shape_any) held.there));
+            held.number (laid-at held.at held.one held.there);
         reaches = has-reaches geometry (shape_any held.one) (known_any held.one) now area
             (knows-at held.at held.one held.there) held.has;
       }

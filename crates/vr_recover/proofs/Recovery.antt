@@ -25,7 +25,8 @@ use Rattle.vr_recover.specs.Found.{HasRoomOf, IsFound, IsPlanned, catalog_by}
 use Rattle.vr_recover.specs.Recovered.{KeepsAll, standing_all}
 use Rattle.vr_recover.specs.Undone.{FitsPart, HasPart}
 use Rattle.vr_recover.proofs.Numbering.{inside-of}
-use Rattle.vr_recover.proofs.Shapes.{laid-number, laid-there, shape-laid}
+use Rattle.vr_recover.proofs.NumberOrder.{shapes-lay}
+use Rattle.vr_recover.proofs.Shapes.{laid-number}
 
 some-shape : (x y : Shape) → Some x ≡ Some y → x ≡ y
 some-shape x y same = cc
@@ -41,9 +42,7 @@ module _ (geometry : Geometry) (content : LogContent) (entries : List CatEntry)
   -- each part that is laid is one of these
   pub among : (part : ℕ) (shape : Shape) → shape_in geometry entries part ≡ Some shape
       → (at : ℕ) × (slice_get shapes at ≡ Some shape)
-  among part shape laid =
-      let there = laid-there geometry entries planned.may.distinct part shape laid in
-      (there.0, ap (λ (s : List Shape). slice_get s there.0) planned.shapes_are ∙ there.1)
+  among = (shapes-lay geometry entries shapes planned.may.distinct planned.shapes_are).there
 
   -- what all of them have, one has
   pub at-one : (P : Shape → Type 0) → All P shapes → (at : ℕ) (shape : Shape)
@@ -55,8 +54,8 @@ module _ (geometry : Geometry) (content : LogContent) (entries : List CatEntry)
   -- and each of these is laid
   pub listed : (at : ℕ) (shape : Shape) → slice_get shapes at ≡ Some shape
       → shape_in geometry entries (part_no shape).0 ≡ Some shape
-  listed at shape there = shape-laid geometry entries planned.may.distinct at shape
-      (ap (λ (s : List Shape). slice_get s at) (sym planned.shapes_are) ∙ there)
+  listed = at-one (λ (s : Shape). shape_in geometry entries (part_no s).0 ≡ Some s)
+      (shapes-lay geometry entries shapes planned.may.distinct planned.shapes_are).each
 
   module _ (number : ℕ) (owners : List (Option PartNo)) (image : Image)
       (found : IsFound geometry number content entries shapes owners image) where

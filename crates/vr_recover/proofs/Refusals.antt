@@ -7,7 +7,7 @@ use Rattle.std.specs.List.{IsDistinct, cons_option, filter_map}
 use Rattle.std.specs.Option.{option_and_then}
 use Rattle.std.proofs.lemmas.Bool.{eqb-true}
 use Rattle.std.proofs.lemmas.List.Elements.{All-cons, All-head, All-nil, All-tail}
-use Rattle.std.proofs.lemmas.Option.{slice_get-get_or}
+use Rattle.std.proofs.lemmas.Option.{get_or_from_slice_get, slice_get_within}
 use Rattle.vr_types.specs.Content.{Content, record_of}
 use Rattle.vr_types.specs.Geometry.{IsAllowed}
 use Rattle.vr_types.specs.Image.{Image, block_at}
@@ -34,13 +34,13 @@ use Rattle.vr_volume.specs.Volume.{Recovers}
 use Rattle.vr_recover.specs.Found.{AreEntriesOf, AtAreas, AtCatalog, AtImages, AtPart}
 use Rattle.vr_recover.specs.Found.{AllStand, AreItsPlaces, IsBackNo, IsLogNo, MayAdd}
 use Rattle.vr_recover.specs.Found.{IsMountShown, Misspelled, ShowsBoth, ShowsOnly}
-use Rattle.vr_recover.specs.Images.{CannotGoBack, catalog_by}
+use Rattle.vr_recover.specs.Images.{CannotGoBack, HasRoomOf, MayGoBack, catalog_by}
 use Rattle.vr_recover.specs.Opening.{InArea, InCatalog, InImages, InLog, InPart, IsDamaged, IsLogShown, PastLog}
 use Rattle.vr_recover.specs.Opening.{IsEntryShown, IsRefused, IsShownOf, IsShownPast, OfCatalog, OfEntry, Twice}
-use Rattle.vr_recover.specs.Opening.{shapes_laid}
+use Rattle.vr_recover.specs.Opening.{AreLaid, shapes_laid}
 use Rattle.vr_recover.specs.Unserved.{ByCatalog, ByLog, IsCatalogUnserved, IsLogUnserved}
 use Rattle.vr_recover.specs.Unserved.{IsUnserved, IsUnservedOf}
-use Rattle.vr_recover.specs.Undone.{FitsPart}
+use Rattle.vr_recover.specs.Undone.{FitsPart, IsCovered}
 use Rattle.vr_recover.specs.declared.open_no.OpenNo.{OpenNo}
 use Rattle.vr_recover.specs.declared.open_no.OpenNo.TheVariants as nos
 use Rattle.vr_recover.specs.declared.open_no.OpenNo.TheVariants.{Damaged, Version, Read, Write, Memory}
@@ -48,7 +48,7 @@ use Rattle.vr_recover.specs.declared.open_no.Unserved.{Unserved}
 use Rattle.vr_recover.proofs.Attaching.{shows-both}
 use Rattle.vr_recover.proofs.Agreeing.{goes-back, has-rooms, mount-none, no-volume}
 use Rattle.vr_recover.proofs.Numbering.{on-of}
-use Rattle.vr_recover.proofs.Shapes.{shape-laid}
+use Rattle.vr_recover.proofs.Shapes.{are-laid}
 use Rattle.vr_recover.proofs.Settled.{with-all}
 
 -- ---- a log that isn't served
@@ -65,6 +65,44 @@ log-shown geometry now content spelled = shows-both (λ block rule. ⊥) (IsLogS
       block_is = no.0;
       is = no.1;
     })
+
+-- ---- two lists of the parts that are laid
+
+-- what all have, that at an index has
+all-at : (P : Shape → Type 0) (shapes : List Shape) → All P shapes → (k : ℕ) (shape : Shape)
+    → slice_get shapes k ≡ Some shape → P shape
+all-at P shapes all k shape there = subst P (get_or_from_slice_get shapes k shape shape there)
+    (all k shape (slice_get_within shapes k shape there))
+
+module _ (geometry : Geometry) (entries : List CatEntry) (images : List BeforeImage) (image : Image)
+    (one other : List Shape) (here : AreLaid geometry entries one)
+    (there : AreLaid geometry entries other) where
+  -- what is true of the parts of one list is so of those of the other
+  all-alike : (P : Shape → Type 0) → All P other → All P one
+  all-alike P all k d below =
+      let shape = get_or one k d in
+      let of = there.there (part_no shape).0 shape (here.each k d below) in
+      all-at P other all of.0 shape of.1
+
+  covered-alike : (before : BeforeImage) → IsCovered other before → IsCovered one before
+  covered-alike before has =
+      let laid : shape_in geometry entries (part_no has.1).0 ≡ Some has.1 =
+      all-at (λ (shape : Shape). shape_in geometry entries (part_no shape).0 ≡ Some shape) other
+      there.each has.0 has.1 has.2 in
+      let of = here.there (part_no has.1).0 has.1 laid in
+      (of.0, has.1, of.1, has.3)
+
+  back-alike : MayGoBack images other → MayGoBack images one
+  back-alike back = record {
+    alone = back.alone;
+    covered = λ k d below. covered-alike (get_or images k d) (back.covered k d below);
+    fits = all-alike (λ (shape : Shape). All (FitsPart shape) images) back.fits;
+  }
+
+  -- so before-images can't be put back into both
+  cannot-alike : CannotGoBack images one image → CannotGoBack images other image
+  cannot-alike cannot = ⊎_elim (λ back. inl (λ may. back (back-alike may)))
+      (λ room. inr (λ all. room (all-alike (HasRoomOf images image) all))) cannot
 
 -- ---- a shape with its header
 
@@ -178,15 +216,15 @@ module _ (number : ℕ) (geometry : Geometry) (now : Seen) (allowed : IsAllowed 
     module _ (entries : List CatEntry) (are : AreEntriesOf geometry images now.cur entries)
         (distinct : IsDistinct nat_eq (0 ∷ parts_in entries))
         (stands : Stands (catalog_shape geometry) now.cur) (shapes : List Shape)
-        (laid : shapes ≡ shapes_laid geometry entries) where
+        (laid : AreLaid geometry entries shapes) where
       back-none : (block rule : ℕ)
           → IsBackNo images shapes now.cur block rule
           → (recovered : ℕ → Content) → Recovers geometry number now.cur recovered → ⊥
       back-none block rule shown recovered is = ⊎_elim
           (λ back. back (goes-back geometry number now.cur recovered is content long spelled
-          entries are distinct shapes laid))
+          entries are shapes laid))
           (λ room. room (has-rooms geometry number now.cur recovered is content long spelled
-          entries are distinct shapes laid))
+          entries are shapes laid))
           shown.2
 
       pub back-refused : (answer : OpenNo)
@@ -199,8 +237,10 @@ module _ (number : ℕ) (geometry : Geometry) (now : Seen) (allowed : IsAllowed 
             rule_is = shown.1;
             catalog = stands.0;
             stands = stands.1;
-            damaged = subst (λ (ss : List Shape). CannotGoBack images ss now.cur)
-                (laid ∙ ap (shapes_laid geometry) (are stands.0 stands.1).0) shown.2;
+            damaged = subst (λ (es : List CatEntry). CannotGoBack images
+                (shapes_laid geometry es) now.cur) (are stands.0 stands.1).0
+                (cannot-alike geometry entries images now.cur shapes (shapes_laid geometry entries)
+                laid (are-laid geometry entries distinct) shown.2);
           }))
       back-refused (Version found) shown = absurd shown
       back-refused (nos.Unserved block cause) shown = absurd shown
@@ -210,23 +250,20 @@ module _ (number : ℕ) (geometry : Geometry) (now : Seen) (allowed : IsAllowed 
 
 -- the first of the parts that are laid is the catalog's own
 pub shapes-stand : (geometry : Geometry) (entries : List CatEntry) (shapes : List Shape)
-    (image : Image) → shapes ≡ shapes_laid geometry entries → AllStand shapes image
+    (image : Image) → AreLaid geometry entries shapes → AllStand shapes image
     → Stands (catalog_shape geometry) image
 shapes-stand geometry entries shapes image laid all =
-    All-head (λ (shape : Shape). Stands shape image) (catalog_shape geometry)
-    (filter_map (shape_of geometry) entries)
-    (subst (λ (ss : List Shape). AllStand ss image) laid all)
+    let own = laid.there 0 (catalog_shape geometry) refl in
+    all-at (λ (shape : Shape). Stands shape image) shapes all own.0 (catalog_shape geometry) own.1
 
 -- ---- the parts are on blocks that there are
 
 pub shapes-on : (geometry : Geometry) (entries : List CatEntry) (shapes : List Shape) (now : Seen)
     → IsAllowed geometry → IsOf geometry now → MayAdd geometry entries
-    → shapes ≡ shapes_laid geometry entries → All (λ (shape : Shape). IsOn shape now) shapes
+    → AreLaid geometry entries shapes → All (λ (shape : Shape). IsOn shape now) shapes
 shapes-on geometry entries shapes now allowed of may laid k d below =
     let shape = get_or shapes k d in
-    on-of geometry entries allowed may now of (part_no shape).0 shape
-    (shape-laid geometry entries may.distinct k shape
-    (ap (λ (ss : List Shape). slice_get ss k) (sym laid) ∙ slice_get-get_or shapes k d below))
+    on-of geometry entries allowed may now of (part_no shape).0 shape (laid.each k d below)
 
 -- ---- what is kept
 

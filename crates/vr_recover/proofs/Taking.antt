@@ -2,9 +2,9 @@
 -- part by them.
 use Rattle.std.proofs.Common.{◌≡◌, ◌≢◌, ◌⊎◌, ⊎_elim, inl, inr, ℕ, zero, suc, ◌<◌, List, []}
 use Rattle.std.proofs.Common.{◌∷◌, Option, Some, None, refl, sym, ap, subst, ◌∙◌, arith}
-use Rattle.std.proofs.Common.{get_or, take}
-use Rattle.std.specs.Prelude.{Contains, nat_eq, slice_get}
-use Rattle.std.specs.List.{AllByRecursion, IsDistinct}
+use Rattle.std.proofs.Common.{get_or, map, take}
+use Rattle.std.specs.Prelude.{Contains, slice_get}
+use Rattle.std.specs.List.Sorted.{IsNonDecreasingBy}
 use Rattle.std.specs.Option.{option_map}
 use Rattle.std.proofs.lemmas.Bool.Decides.{eqb_tells}
 use Rattle.std.proofs.lemmas.Option.{get_or_from_slice_get, slice_get-map, slice_get_within}
@@ -13,21 +13,21 @@ use Rattle.vr_types.specs.Image.{Image}
 use Rattle.vr_types.specs.Seen.{Seen}
 use Rattle.vr_types.specs.declared.geometry.Geometry.{Geometry}
 use Rattle.vr_types.specs.declared.unit.PartNo.{PartNo}
-use Rattle.vr_catalog.specs.Catalog.{parts_in}
 use Rattle.vr_catalog.specs.declared.entry.CatEntry.{CatEntry}
 use Rattle.vr_attach.specs.Chain.{IsChainShown, IsReachedBefore}
 use Rattle.vr_attach.specs.Laid.{HasArea, ReachesArea, shape_in, shape_of}
-use Rattle.vr_mount.specs.Areas.{BeginsWith, IsLaidIn}
+use Rattle.vr_mount.specs.Areas.{AreFirstOwners, BeginsWith, IsLaidIn}
 use Rattle.vr_part.specs.Any.{known_any, shape_any}
 use Rattle.vr_part.specs.Attached.{IsAnyShown, IsAttachedWith}
 use Rattle.vr_part.specs.declared.any.AnyPart.{AnyPart}
 use Rattle.vr_chained.specs.Walked.{IsTakenIn}
 use Rattle.vr_space.specs.Known.{Known}
-use Rattle.vr_space.specs.Part.{KeyedShape, NumberedShape, Shape, part_no}
+use Rattle.vr_space.specs.Part.{KeyedShape, NumberedShape, Shape, Stands, part_no}
 use Rattle.vr_space.specs.Rosters.{Numbered, areas_from, chain_of}
-use Rattle.vr_recover.specs.Found.{AreAdded, AreKnown, MayAdd}
-use Rattle.vr_recover.specs.Opening.{AsFirst, AsReached, IsEntryShown, IsHeldBy, IsTaken}
-use Rattle.vr_recover.proofs.Adding.{head-is, part-at, same-part}
+use Rattle.vr_recover.specs.Found.{AllStand, AreAdded, AreKnown, MayAdd}
+use Rattle.vr_recover.specs.Opening.{AsFirst, AsReached, IsEntryShown, IsHeldBy, IsTaken, number_of}
+use Rattle.vr_recover.proofs.Adding.{head-is, part-at}
+use Rattle.vr_recover.proofs.NumberOrder.{before-laid, laid-before, some-laid, told-before}
 use Rattle.vr_recover.proofs.Shapes.{entry-laid, laid-there, shape-laid}
 
 some-is : {X : Type 0} {x y : X} → Some x ≡ Some y → x ≡ y
@@ -95,30 +95,6 @@ module _ (part : Numbered) (image : Image) (Taken Other : ℕ → Type 0)
     };
   }
 
--- ---- entries before one
-
-all-before : (P : ℕ → Type 0) (entries : List CatEntry) (n : ℕ)
-    → AllByRecursion P (parts_in entries) → AllByRecursion P (parts_in (take n entries))
-all-before P [] zero all = tt
-all-before P [] (suc n) all = tt
-all-before P (entry ∷ entries) zero all = tt
-all-before P (entry ∷ entries) (suc n) all = (all.0, all-before P entries n all.1)
-
-distinct-before : (entries : List CatEntry) (n : ℕ) → IsDistinct nat_eq (parts_in entries)
-    → IsDistinct nat_eq (parts_in (take n entries))
-unfolding IsDistinct
-distinct-before [] zero all = tt
-distinct-before [] (suc n) all = tt
-distinct-before (entry ∷ entries) zero all = tt
-distinct-before (entry ∷ entries) (suc n) all =
-    (all-before _ entries n all.0, distinct-before entries n all.1)
-
--- those before one are told apart as all are
-pub told-before : (entries : List CatEntry) (n : ℕ) → IsDistinct nat_eq (0 ∷ parts_in entries)
-    → IsDistinct nat_eq (0 ∷ parts_in (take n entries))
-unfolding IsDistinct
-told-before entries n all = (all-before _ entries n all.0, distinct-before entries n all.1)
-
 -- ---- what the walk has marked
 
 -- what an attached part has, it reaches
@@ -158,53 +134,67 @@ module _ (geometry : Geometry) (parts : List AnyPart) (image : Image) (known : A
     has-of k one area there reaches = reaches-has geometry (shape_any one) (known_any one) image
         area (known-at k one there) reaches
 
+-- The walk by part numbers comes to an entry.
 module _ (geometry : Geometry) (entries : List CatEntry) (at : ℕ) (parts : List AnyPart)
     (owners : List (Option PartNo)) (may : MayAdd geometry entries)
+    (ascend : IsNonDecreasingBy number_of entries)
     (added : AreAdded geometry entries at parts owners) (image : Image)
-    (known : AreKnown parts image) where
-  taken-marked : (part area : ℕ) → IsTaken geometry entries at image part area
-      → IsTakenIn owners area
-  taken-marked part area (AsFirst other differs laid) none =
-      some-none (sym (added.laid (record { 0 = other }) area laid) ∙ none)
-  taken-marked part area (AsReached reached) none =
-      let told = told-before entries at may.distinct in
-      let there = laid-there geometry (take at entries) told reached.other reached.shape
-      reached.laid in
-      let one = part-at parts there.0 reached.shape
-      (ap (λ (s : List Shape). slice_get s there.0) added.shapes ∙ there.1) in
-      let has : HasArea geometry (shape_any one.0) (known_any one.0) area =
-      has-of geometry parts image known there.0 one.0 area one.1
-      (subst (λ (s : Shape). ReachesArea geometry s image area) (sym one.2) reached.reaches) in
-      some-none (sym (subst (λ (p : AnyPart). HasArea geometry (shape_any p) (known_any p) area
-      → get_or owners area None ≡ Some (part_no (shape_any p)))
-      (get_or_from_slice_get parts there.0 one.0 one.0 one.1)
-      (added.owned there.0 one.0 (slice_get_within parts there.0 one.0 one.1) area) has) ∙ none)
+    (known : AreKnown parts image) (entry : CatEntry) (there : slice_get entries at ≡ Some entry)
+  where
+    -- a part of a lesser number is attached
+    attached : (other : ℕ) (shape : Shape) → other < entry.part.0
+        → shape_in geometry entries other ≡ Some shape
+        → (k : ℕ) × (slice_get (map shape_any parts) k ≡ Some shape)
+    attached other shape less laid =
+        let of = laid-there geometry (take at entries) (told-before entries at may.distinct) other
+        shape
+        (before-laid entries may.distinct ascend geometry at entry there other shape less laid) in
+        (of.0, ap (λ (s : List Shape). slice_get s of.0) added.shapes ∙ of.1)
 
-  module _ (entry : CatEntry)
-      (off : (k : ℕ) (one : AnyPart) → slice_get parts k ≡ Some one
-      → part_no (shape_any one) ≢ entry.part) where
+    taken-marked : (area : ℕ) → IsTaken geometry entries image entry.part.0 area
+        → IsTakenIn owners area
+    taken-marked area (AsFirst other differs laid) none =
+        some-none (sym (added.laid (record { 0 = other }) area laid) ∙ none)
+    taken-marked area (AsReached reached less) none =
+        let of = attached reached.other reached.shape less reached.laid in
+        let one = part-at parts of.0 reached.shape of.1 in
+        let has : HasArea geometry (shape_any one.0) (known_any one.0) area =
+        has-of geometry parts image known of.0 one.0 area one.1
+        (subst (λ (s : Shape). ReachesArea geometry s image area) (sym one.2) reached.reaches) in
+        some-none (sym (subst (λ (p : AnyPart). HasArea geometry (shape_any p) (known_any p) area
+        → get_or owners area None ≡ Some (part_no (shape_any p)))
+        (get_or_from_slice_get parts of.0 one.0 one.0 one.1)
+        (added.owned of.0 one.0 (slice_get_within parts of.0 one.0 one.1) area) has) ∙ none)
+
+    -- an area of an attached part is another part's
+    held-taken : (owner : PartNo) (area : ℕ) → IsHeldBy geometry parts owner area
+        → IsTaken geometry entries image entry.part.0 area
+    held-taken owner area of =
+        let number : ℕ = (part_no (shape_any of.one)).0 in
+        let laid : shape_in geometry (take at entries) number ≡ Some (shape_any of.one) =
+        shape-laid geometry (take at entries) (told-before entries at may.distinct) of.at
+        (shape_any of.one)
+        (ap (λ (s : List Shape). slice_get s of.at) (sym added.shapes)
+        ∙ slice_get-map shape_any parts of.at ∙ ap (option_map shape_any) of.there) in
+        let less : number < entry.part.0 =
+        laid-before entries may.distinct ascend geometry at entry there number (shape_any of.one)
+        laid in
+        AsReached (record {
+          other = number;
+          differs = λ same. omega (arith, less, same);
+          shape = shape_any of.one;
+          laid = some-laid geometry entries at number (shape_any of.one) laid;
+          reaches = reached-of geometry parts image known of.at of.one area of.there of.has;
+        }) less
+
     -- what is marked is another part's, or its own first area
     marked-taken : (area : ℕ) → IsTakenIn owners area
-        → IsTaken geometry entries at image entry.part.0 area
+        → IsTaken geometry entries image entry.part.0 area
         ⊎ IsLaidIn geometry entries entry.part.0 area
     marked-taken area marked = by (get_or owners area None) refl
       where
-        held : (owner : PartNo) → IsHeldBy geometry parts owner area
-            → IsTaken geometry entries at image entry.part.0 area
-        held owner of = AsReached (record {
-          other = (part_no (shape_any of.one)).0;
-          differs = λ same. off of.at of.one of.there
-              (same-part (part_no (shape_any of.one)) entry.part same);
-          shape = shape_any of.one;
-          laid = shape-laid geometry (take at entries) (told-before entries at may.distinct) of.at
-              (shape_any of.one)
-              (ap (λ (s : List Shape). slice_get s of.at) (sym added.shapes)
-              ∙ slice_get-map shape_any parts of.at ∙ ap (option_map shape_any) of.there);
-          reaches = reached-of geometry parts image known of.at of.one area of.there of.has;
-        })
-
         first : (owner : PartNo) → IsLaidIn geometry entries owner.0 area
-            → IsTaken geometry entries at image entry.part.0 area
+            → IsTaken geometry entries image entry.part.0 area
             ⊎ IsLaidIn geometry entries entry.part.0 area
         first owner laid = elim (eqb_tells owner.0 entry.part.0) [
           | inl same ↦ inr (subst (λ (n : ℕ). IsLaidIn geometry entries n area) same.1 laid)
@@ -212,11 +202,11 @@ module _ (geometry : Geometry) (entries : List CatEntry) (at : ℕ) (parts : Lis
         ]
 
         by : (o : Option PartNo) → get_or owners area None ≡ o
-            → IsTaken geometry entries at image entry.part.0 area
+            → IsTaken geometry entries image entry.part.0 area
             ⊎ IsLaidIn geometry entries entry.part.0 area
         by None is = absurd (marked is)
-        by (Some owner) is = ⊎_elim (λ laid. first owner laid) (λ of. inl (held owner of))
-            (added.only owner area is)
+        by (Some owner) is = ⊎_elim (λ laid. first owner laid)
+            (λ of. inl (held-taken owner area of)) (added.only owner area is)
 
     -- its own first area begins its chain
     first-begins : (shape : Shape) → shape_in geometry entries entry.part.0 ≡ Some shape
@@ -237,31 +227,94 @@ module _ (geometry : Geometry) (entries : List CatEntry) (at : ℕ) (parts : Lis
         → 0 < area_count geometry
         → ((part : Numbered) → shape ≡ NumberedShape part → part.geometry ≡ geometry)
         → (block rule : ℕ) → IsAnyShown geometry shape (IsTakenIn owners) image block rule
-        → IsAnyShown geometry shape (IsTaken geometry entries at image entry.part.0) image block
-        rule
+        → IsAnyShown geometry shape (IsTaken geometry entries image entry.part.0) image block rule
     shown-by (KeyedShape part) laid some same block rule shown = shown
     shown-by (NumberedShape part) laid some same block rule shown = chain-to part image
-        (IsTakenIn owners) (IsTaken geometry entries at image entry.part.0)
+        (IsTakenIn owners) (IsTaken geometry entries image entry.part.0)
         (λ area marked. ⊎_elim (λ taken. inl taken)
         (λ own. inr (first-begins (NumberedShape part) laid some part refl (same part refl) area
         own))
         (marked-taken area marked))
-        (λ area taken. taken-marked entry.part.0 area taken) block rule shown
+        (λ area taken. taken-marked area taken) block rule shown
 
     -- so its part is shown
-    pub entry-shown : (now : Seen) → now.cur ≡ image → slice_get entries at ≡ Some entry
+    pub entry-shown : (now : Seen) → now.cur ≡ image → AllStand (map shape_any parts) image
         → (shape : Shape) → shape_of geometry entry ≡ Some shape → 0 < area_count geometry
         → ((part : Numbered) → shape ≡ NumberedShape part → part.geometry ≡ geometry)
         → (block rule : ℕ) → IsAnyShown geometry shape (IsTakenIn owners) image block rule
         → IsEntryShown geometry entries now block rule
-    entry-shown now cur there shape laid some same block rule shown = record {
-      at = at;
-      entry = entry;
-      there = there;
-      shape = shape;
-      laid = laid;
-      shown = subst (λ (i : Image). IsAnyShown geometry shape
-          (IsTaken geometry entries at i entry.part.0) i block rule) (sym cur)
-          (shown-by shape (entry-laid geometry entries may.distinct at entry shape there laid) some
-          same block rule shown);
-    }
+    entry-shown now cur stand shape laid some same block rule shown =
+        let mine = entry-laid geometry entries may.distinct at entry shape there laid in
+        record {
+          part = entry.part.0;
+          shape = shape;
+          laid = mine;
+          before = λ other one less of.
+              let here = attached other one less of in
+              subst (Stands one) (sym cur)
+              (subst (λ (s : Shape). Stands s image)
+              (get_or_from_slice_get (map shape_any parts) here.0 one one here.1)
+              (stand here.0 one (slice_get_within (map shape_any parts) here.0 one here.1)));
+          shown = subst (λ (i : Image). IsAnyShown geometry shape
+              (IsTaken geometry entries i entry.part.0) i block rule) (sym cur)
+              (shown-by shape mine some same block rule shown);
+        }
+
+-- ---- the same entries in another order
+
+-- what is another part's by some entries is so by others that lay the same parts
+module _ (geometry : Geometry) (here there : List CatEntry)
+    (alike : (part : ℕ) → shape_in geometry here part ≡ shape_in geometry there part) where
+  laid-alike : (part area : ℕ) → IsLaidIn geometry here part area
+      → IsLaidIn geometry there part area
+  laid-alike part area is = record {
+    shape = is.shape;
+    laid = sym (alike part) ∙ is.laid;
+    begins = is.begins;
+  }
+
+  taken-alike : (image : Image) (part area : ℕ) → IsTaken geometry here image part area
+      → IsTaken geometry there image part area
+  taken-alike image part area (AsFirst other differs laid) =
+      AsFirst other differs (laid-alike other area laid)
+  taken-alike image part area (AsReached reached less) = AsReached (record {
+    other = reached.other;
+    differs = reached.differs;
+    shape = reached.shape;
+    laid = sym (alike reached.other) ∙ reached.laid;
+    reaches = reached.reaches;
+  }) less
+
+module _ (geometry : Geometry) (here there : List CatEntry)
+    (alike : (part : ℕ) → shape_in geometry here part ≡ shape_in geometry there part) where
+  any-alike : (image : Image) (part : ℕ) (shape : Shape) (block rule : ℕ)
+      → IsAnyShown geometry shape (IsTaken geometry here image part) image block rule
+      → IsAnyShown geometry shape (IsTaken geometry there image part) image block rule
+  any-alike image part (KeyedShape keyed) block rule shown = shown
+  any-alike image part (NumberedShape numbered) block rule shown = chain-to numbered image
+      (IsTaken geometry here image part) (IsTaken geometry there image part)
+      (λ area taken. inl (taken-alike geometry here there alike image part area taken))
+      (λ area taken. taken-alike geometry there here (λ n. sym (alike n)) image part area taken)
+      block rule shown
+
+  pub shown-alike : (now : Seen) (block rule : ℕ) → IsEntryShown geometry here now block rule
+      → IsEntryShown geometry there now block rule
+  shown-alike now block rule is = record {
+    part = is.part;
+    shape = is.shape;
+    laid = sym (alike is.part) ∙ is.laid;
+    before = λ other one less laid. is.before other one less (alike other ∙ laid);
+    shown = any-alike now.cur is.part is.shape block rule is.shown;
+  }
+
+  pub first-alike : (owners : List (Option PartNo)) → AreFirstOwners geometry here owners
+      → AreFirstOwners geometry there owners
+  first-alike owners own = record {
+    count = own.count;
+    owned = λ part area laid. own.owned part area (back part.0 area laid);
+    only = λ part area is. laid-alike geometry here there alike part.0 area (own.only part area is);
+    alone = λ part area laid. own.alone part area (back part.0 area laid);
+  }
+    where
+      back : (part area : ℕ) → IsLaidIn geometry there part area → IsLaidIn geometry here part area
+      back = laid-alike geometry there here (λ n. sym (alike n))

@@ -2,6 +2,7 @@
 -- project's own.
 use Rattle.std.specs.Prelude.{◌≡◌, ◌<◌, ◌≤◌, ◌^◌, ℕ, List, [], All, None, Option, Some, length}
 use Rattle.std.specs.Prelude.{◌⊎◌, ◌∷◌, nat_eq, map, slice_index_or, take, false, IfSome}
+use Rattle.std.specs.Borrow.{Bor}
 use Rattle.std.specs.List.{IsDistinct, filter_map}
 use Rattle.vr_types.specs.Content.{Content}
 use Rattle.vr_types.specs.Geometry.{area_count, head_block}
@@ -41,7 +42,7 @@ use Rattle.vr_volume.specs.PutBack.{AreAlone, images_of, lengths_kept, oldest, p
 pub use Rattle.vr_recover.specs.Images.{CannotGoBack, HasRoomOf, IsNamed, MayGoBack, catalog_by}
 pub use Rattle.vr_recover.specs.Images.{name_in, named}
 use Rattle.vr_recover.specs.Opening.{AreOwnersBy, HasNoSplit, IsCatalogShown, IsEntryShown}
-use Rattle.vr_recover.specs.Opening.{IsHeldBy, OwnsAreas, shapes_laid}
+use Rattle.vr_recover.specs.Opening.{AreShapesOf, IsHeldBy, OwnsAreas, shapes_laid}
 use Rattle.vr_recover.specs.Undone.{FitsPart, HasPart, HaveOwnNumbers, IsReady}
 use Rattle.vr_recover.specs.declared.open_no.OpenNo.{OpenNo}
 use Rattle.vr_recover.specs.declared.open_no.OpenNo.TheVariants as nos
@@ -105,6 +106,10 @@ HasLength entry = IfSome (cluster_definition entry.entry_kind entry)
 
 -- ---- the walk over the entries
 
+-- entries that stay in their catalog
+abbrev pub held_entries : List (Bor CatEntry) → List CatEntry
+held_entries entries = map (λ (entry : Bor CatEntry). entry.now) entries
+
 -- a part has its first area
 abbrev pub HasFirst : Geometry → AnyPart → Type 0
 HasFirst geometry part = (area : ℕ) → BeginsWith (head_block geometry area) (shape_any part)
@@ -117,7 +122,7 @@ pub record IsFirstAlone (geometry : Geometry) (parts : List AnyPart) : Type 0 wh
   pub attached : IsAttachedTo (keyed_part geometry 0 0 catalog_definition) own
 
 -- What the walk begins with, whatever the blocks have: entries whose parts are distinct, on areas of
--- the volume, with records that have room.
+-- the volume, with records that have room. It goes by their part numbers.
 pub record MayAdd (geometry : Geometry) (entries : List CatEntry) : Type 0 where
   pub distinct : IsDistinct nat_eq (0 ∷ parts_in entries)
   pub on : AreOn geometry entries
@@ -201,7 +206,7 @@ IsEntryNo geometry entries block cause = (block ≡ head_block geometry 0)
 -- The parts that a catalog lays, its own first, and that they may be laid so.
 pub record IsMounted (geometry : Geometry) (entries : List CatEntry) (parts : List AnyPart)
     (owners : List (Option PartNo)) : Type 0 where
-  pub shapes : map shape_any parts ≡ shapes_laid geometry entries
+  pub shapes : AreShapesOf geometry entries (map shape_any parts)
   pub split : All HasNoSplit parts
   pub owned : AreOwnersBy geometry parts owners
   pub may : MayAdd geometry entries
@@ -259,7 +264,7 @@ IsBackNo images shapes image block rule = (block ≡ 1) × (rule ≡ 19)
 -- before-images of the log may be put back into them.
 pub record IsPlanned (geometry : Geometry) (content : LogContent) (entries : List CatEntry)
     (shapes : List Shape) : Type 0 where
-  pub shapes_are : shapes ≡ shapes_laid geometry entries
+  pub shapes_are : AreShapesOf geometry entries shapes
   pub may : MayAdd geometry entries
   pub apart : AreApart (shape_in geometry entries)
   pub clusters : All IsServedCluster entries

@@ -1,15 +1,16 @@
 -- What is found on the blocks of a volume as it is opened, and why one is not opened. The rules are
 -- this project's own.
 use Rattle.std.specs.Prelude.{◌≡◌, ◌≢◌, ◌⊎◌, ◌<◌, ◌+◌, ◌^◌, ℕ, false, List, [], ◌∷◌, All, None, Some}
-use Rattle.std.specs.Prelude.{Option, length, map, nat_eq, slice_get, slice_index_or, take}
+use Rattle.std.specs.Prelude.{Option, length, map, nat_eq, slice_get, slice_index_or}
 use Rattle.std.specs.List.{IsDistinct, filter_map}
+use Rattle.std.specs.List.Sorted.{IsNonDecreasingBy, IsPermutation}
 use Rattle.vr_types.specs.Content.{Ascends, Content}
 use Rattle.vr_types.specs.Geometry.{IsAllowed, area_count, head_block}
 use Rattle.vr_types.specs.Image.{Image, block_at}
 use Rattle.vr_types.specs.Seen.{Left, Seen}
 use Rattle.vr_types.specs.declared.geometry.Geometry.{Geometry}
 use Rattle.vr_types.specs.declared.unit.PartNo.{PartNo}
-use Rattle.vr_space.specs.Part.{IsOn, OwnsChain, Shape, StandsFor, part_no}
+use Rattle.vr_space.specs.Part.{IsOn, OwnsChain, Shape, Stands, StandsFor, part_no}
 use Rattle.vr_catalog.specs.Catalog.{entries_in, parts_in}
 use Rattle.vr_catalog.specs.Definition.{catalog_definition}
 use Rattle.vr_catalog.specs.declared.entry.CatEntry.{CatEntry}
@@ -84,26 +85,25 @@ pub record IsLogShown (geometry : Geometry) (now : Seen) (block rule : ℕ) : Ty
   pub rule_is : rule ≡ 2
   pub damaged : IsDamagedAt geometry now.cur block
 
--- As the part of the entry at this index is read, the area is that of another part: the first one of
--- any, or one that the part of an entry before it reaches.
-pub data IsTaken (geometry : Geometry) (entries : List CatEntry) (at : ℕ) (image : Image)
-    (part area : ℕ) : Type 0 where
+-- As the part of this number is read, the area is that of another part: the first one of any, or one
+-- that a part of a lesser number reaches.
+pub data IsTaken (geometry : Geometry) (entries : List CatEntry) (image : Image) (part area : ℕ)
+    : Type 0 where
   AsFirst : (other : ℕ) → other ≢ part → IsLaidIn geometry entries other area
-      → IsTaken geometry entries at image part area
-  AsReached : IsReachedElsewhere geometry (shape_in geometry (take at entries)) image part area
-      → IsTaken geometry entries at image part area
+      → IsTaken geometry entries image part area
+  AsReached : (reached : IsReachedElsewhere geometry (shape_in geometry entries) image part area)
+      → reached.other < part → IsTaken geometry entries image part area
 
--- The part of one of these entries is damaged: its block is the first that breaks a rule, and this is
--- the least that it breaks.
+-- The part of an entry is damaged, and none of a lesser number is: its block is the first that breaks
+-- a rule, and this is the least that it breaks.
 pub record IsEntryShown (geometry : Geometry) (entries : List CatEntry) (now : Seen)
     (block rule : ℕ) : Type 0 where
-  pub at : ℕ
-  pub entry : CatEntry
-  pub there : slice_get entries at ≡ Some entry
+  pub part : ℕ
   pub shape : Shape
-  pub laid : shape_of geometry entry ≡ Some shape
-  pub shown : IsAnyShown geometry shape (IsTaken geometry entries at now.cur entry.part.0)
-      now.cur block rule
+  pub laid : shape_in geometry entries part ≡ Some shape
+  pub before : (other : ℕ) (one : Shape) → other < part → shape_in geometry entries other ≡ Some one
+      → Stands one now.cur
+  pub shown : IsAnyShown geometry shape (IsTaken geometry entries now.cur part) now.cur block rule
 
 -- rules 3 to 14: the first block of a part that breaks a rule, and the least that it breaks: of the
 -- catalog's own part, or of one that is laid by a content for which the catalog's blocks stand, once
@@ -143,7 +143,7 @@ pub record IsTwiceShown (geometry : Geometry) (images : List BeforeImage) (now :
   pub rule_is : rule ≡ 4
   pub damaged : IsNoneOf geometry images now (λ content. AreApart (shape_by geometry content))
 
--- the shapes of the parts that a catalog lays, its own first
+-- the shapes of the parts that these entries lay, in their order, the catalog's own first
 abbrev pub shapes_laid : Geometry → List CatEntry → List Shape
 shapes_laid geometry entries = catalog_shape geometry ∷ filter_map (shape_of geometry) entries
 
@@ -249,9 +249,25 @@ pub record AreLaid (geometry : Geometry) (entries : List CatEntry) (shapes : Lis
     pub there : (part : ℕ) (shape : Shape) → shape_in geometry entries part ≡ Some shape
         → (at : ℕ) × (slice_get shapes at ≡ Some shape)
 
+abbrev pub number_of : CatEntry → ℕ
+number_of entry = entry.part.0
+
+-- The entries in the order of their part numbers.
+pub record AreByNumber (entries ordered : List CatEntry) : Type 0 where
+  pub same : IsPermutation entries ordered
+  pub ascend : IsNonDecreasingBy number_of ordered
+
+-- The shapes are those of the parts that the entries lay, in the order of their numbers: the catalog's
+-- own is the first.
+pub record AreShapesOf (geometry : Geometry) (entries : List CatEntry) (shapes : List Shape) : Type 0
+  where
+    pub ordered : List CatEntry
+    pub by_number : AreByNumber entries ordered
+    pub are : shapes ≡ shapes_laid geometry ordered
+
 -- What is handed out, whatever the blocks have: the catalog has clusters alone, the parts are
--- those that it lays, its own first, each on blocks of the volume past the log, in areas that are
--- its own, and the log has no record.
+-- those that it lays, in the order of their numbers, each on blocks of the volume past the log, in
+-- areas that are its own, and the log has no record.
 pub record IsHandedOut (geometry : Geometry) (entries : List CatEntry) (parts : List AnyPart)
     (log : LogNow) (owners : List (Option PartNo)) (now : Seen) : Type 0 where
   pub allowed : IsAllowed geometry
@@ -263,8 +279,8 @@ pub record IsHandedOut (geometry : Geometry) (entries : List CatEntry) (parts : 
   pub generation : log.generation < 2 ^ 63 + 1
   pub distinct : IsDistinct nat_eq (0 ∷ parts_in entries)
   pub clusters : All IsServedCluster entries
-  pub shapes : map shape_any parts ≡ shapes_laid geometry entries
-  pub laid : AreLaid geometry entries (shapes_laid geometry entries)
+  pub shapes : AreShapesOf geometry entries (map shape_any parts)
+  pub laid : AreLaid geometry entries (map shape_any parts)
   pub on : All (λ (shape : Shape). IsOn shape now) (map shape_any parts)
   pub past : All (IsLaidPastLog geometry) (map shape_any parts)
   pub split : All HasNoSplit parts

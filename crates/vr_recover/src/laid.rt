@@ -1,12 +1,15 @@
 //! The parts of a volume that is opened, and who owns its areas.
-ghost use Rattle.std.specs.Prelude.{◌≡◌, ◌<◌, ◌+◌, ◌++◌, ◌∷◌, [], IsTrue, IfErr, OnOk, length, map};
+ghost use Rattle.std.specs.Prelude.{◌≡◌, ◌<◌, ◌+◌, ◌++◌, ◌∷◌, [], IsTrue, IfErr, IfOk, OnOk};
+ghost use Rattle.std.specs.Prelude.{length, map};
+ghost use Rattle.std.specs.List.Sorted.{IsNonDecreasingBy};
 ghost use Rattle.vr_types.specs.Blocks.{Keeps};
 ghost use Rattle.vr_types.specs.Geometry.{IsAllowed};
 ghost use Rattle.vr_log.specs.LogNow.{IsOf};
 ghost use Rattle.vr_part.specs.Any.{shape_any};
 ghost use Rattle.vr_recover.specs.Found.{AllStand, AreAdded, AreKnown, LaysAs, MayAdd, ShowsOnly};
+ghost use Rattle.vr_recover.specs.Found.{held_entries};
 ghost use Rattle.vr_recover.specs.OpenNo.{HasOpenCause};
-ghost use Rattle.vr_recover.specs.Opening.{IsEntryShown};
+ghost use Rattle.vr_recover.specs.Opening.{AreByNumber, IsEntryShown, number_of};
 
 use crate::open_no::OpenNo;
 use std::alloc::Global;
@@ -22,6 +25,21 @@ pub(crate) fn add(parts: &mut Vec<AnyPart>, part: AnyPart) -> Result<(), OutOfMe
     Ok(())
 }
 
+/// The entries in the order of their part numbers.
+pub(crate) fn by_number<'a>(
+    alloc: Global,
+    entries: &'a [CatEntry],
+) -> Result<Vec<&'a CatEntry>, OutOfMemory>
+    ensures { IfOk result (λ ordered. AreByNumber entries.now (held_entries ordered.items)) }
+{
+    let mut ordered = Vec::new(alloc);
+    for entry in entries {
+        ordered.push(entry)?;
+    }
+    ordered.sort_by_key(|entry| entry.part.0)?;
+    Ok(ordered)
+}
+
 /// Where an entry lays its part, if it does: its first area, and its definition.
 fn laid_by(entry: &CatEntry) -> Option<(u32, Definition)>
     ensures { LaysAs entry.now result }
@@ -32,34 +50,38 @@ fn laid_by(entry: &CatEntry) -> Option<(u32, Definition)>
 }
 
 /// Attaches the part of the entry at this index, if it lays one, and adds it; the areas of its chain
-/// are marked as its own. Those of the entries before it were added.
+/// are marked as its own. Those of the entries before it were added, whose numbers are less.
 fn add_entry<B: Blocks>(
     alloc: Global,
     blocks: &mut B,
     geometry: &Geometry,
-    entries: &[CatEntry],
+    entries: &[&CatEntry],
     at: usize,
     parts: &mut Vec<AnyPart>,
     space: &mut Space,
 ) -> Result<(), OpenNo>
     requires allowed { IsAllowed geometry.now }
     requires shape { IsOf geometry.now (B.seen blocks.old) }
-    requires may { MayAdd geometry.now entries.now }
+    requires may { MayAdd geometry.now (held_entries entries.now) }
+    requires ascend { IsNonDecreasingBy number_of (held_entries entries.now) }
     requires at { at < length entries.now }
-    requires added { AreAdded geometry.now entries.now at parts.old.items space.old }
+    requires added { AreAdded geometry.now (held_entries entries.now) at parts.old.items
+        space.old }
     ensures added { OnOk result
-        (AreAdded geometry.now entries.now (at + 1) parts.new.items space.new) }
+        (AreAdded geometry.now (held_entries entries.now) (at + 1) parts.new.items space.new) }
     ensures known { IsTrue B.tells → AreKnown parts.old.items (B.seen blocks.old).cur
         → OnOk result (AreKnown parts.new.items (B.seen blocks.old).cur) }
     ensures stand { IsTrue B.tells
         → AllStand (map shape_any parts.old.items) (B.seen blocks.old).cur
         → OnOk result (AllStand (map shape_any parts.new.items) (B.seen blocks.old).cur) }
     ensures damaged { IsTrue B.tells → AreKnown parts.old.items (B.seen blocks.old).cur
-        → IfErr result (ShowsOnly (IsEntryShown geometry.now entries.now (B.seen blocks.old))) }
+        → AllStand (map shape_any parts.old.items) (B.seen blocks.old).cur
+        → IfErr result (ShowsOnly
+        (IsEntryShown geometry.now (held_entries entries.now) (B.seen blocks.old))) }
     ensures keeps { Keeps B.tells (B.seen blocks.old) (B.seen blocks.new) }
     ensures cause { HasOpenCause (B.faults blocks.old) (B.faults blocks.new) result }
 {
-    let entry = &entries[at];
+    let entry = entries[at];
     let Some((area, definition)) = laid_by(entry) else {
         return Ok(());
     };
@@ -76,31 +98,33 @@ fn add_entry<B: Blocks>(
     Ok(())
 }
 
-/// Attaches the part of each entry that lays one, and adds it to the catalog's own; `space` has the
-/// first area of each marked as its own, and then the areas of its chain.
+/// Attaches the part of each entry that lays one, in the order of their numbers, and adds it to the
+/// catalog's own; `space` has the first area of each marked as its own, and then the areas of its chain.
 pub(crate) fn add_entries<B: Blocks>(
     alloc: Global,
     blocks: &mut B,
     geometry: &Geometry,
-    entries: &[CatEntry],
+    entries: &[&CatEntry],
     parts: &mut Vec<AnyPart>,
     space: &mut Space,
 ) -> Result<(), OpenNo>
     requires allowed { IsAllowed geometry.now }
     requires shape { IsOf geometry.now (B.seen blocks.old) }
-    requires may { MayAdd geometry.now entries.now }
-    requires added { AreAdded geometry.now entries.now 0 parts.old.items space.old }
+    requires may { MayAdd geometry.now (held_entries entries.now) }
+    requires ascend { IsNonDecreasingBy number_of (held_entries entries.now) }
+    requires added { AreAdded geometry.now (held_entries entries.now) 0 parts.old.items
+        space.old }
     requires known { IsTrue B.tells → AreKnown parts.old.items (B.seen blocks.old).cur }
     requires stand { IsTrue B.tells
         → AllStand (map shape_any parts.old.items) (B.seen blocks.old).cur }
-    ensures added { OnOk result (AreAdded geometry.now entries.now (length entries.now)
-        parts.new.items space.new) }
+    ensures added { OnOk result (AreAdded geometry.now (held_entries entries.now)
+        (length entries.now) parts.new.items space.new) }
     ensures known { IsTrue B.tells
         → OnOk result (AreKnown parts.new.items (B.seen blocks.old).cur) }
     ensures stand { IsTrue B.tells
         → OnOk result (AllStand (map shape_any parts.new.items) (B.seen blocks.old).cur) }
     ensures damaged { IsTrue B.tells → IfErr result
-        (ShowsOnly (IsEntryShown geometry.now entries.now (B.seen blocks.old))) }
+        (ShowsOnly (IsEntryShown geometry.now (held_entries entries.now) (B.seen blocks.old))) }
     ensures keeps { Keeps B.tells (B.seen blocks.old) (B.seen blocks.new) }
     ensures cause { HasOpenCause (B.faults blocks.old) (B.faults blocks.new) result }
 {

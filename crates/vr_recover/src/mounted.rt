@@ -34,14 +34,13 @@ ghost use Rattle.vr_recover.specs.Found.{
   ShowsOnly,
 };
 ghost use Rattle.vr_recover.specs.OpenNo.{HasOpenCause, IsOwnNo, IsSilentNo};
-ghost use Rattle.vr_recover.specs.Opening.{AreOwnersBy, HasNoSplit, IsEntryShown};
-ghost use Rattle.vr_recover.specs.Opening.{shapes_laid};
+ghost use Rattle.vr_recover.specs.Opening.{AreOwnersBy, AreShapesOf, HasNoSplit, IsEntryShown};
 ghost use Rattle.vr_recover.specs.Unserved.{IsCatalogUnserved, IsPlain, IsServedCluster};
 
 use crate::begun::Begun;
 use crate::catalog_back::put_images;
 use crate::fitting::may_put_back;
-use crate::laid::{add, add_entries};
+use crate::laid::{add, add_entries, by_number};
 use crate::open_no::{OpenNo, Unserved, cannot_go_back};
 use crate::served::{are_plain, are_served};
 use std::alloc::Global;
@@ -275,8 +274,8 @@ fn check_areas(geometry: &Geometry, catalog: &Catalog) -> Result<(), OpenNo>
     Ok(())
 }
 
-/// Attaches each part that a catalog lays beside its own, which is there, and answers who owns the
-/// areas of the volume.
+/// Attaches each part that a catalog lays beside its own, which is there, in the order of their
+/// numbers, and answers who owns the areas of the volume.
 fn lay<B: Blocks>(
     alloc: Global,
     blocks: &mut B,
@@ -292,7 +291,7 @@ fn lay<B: Blocks>(
     requires stands { IsTrue B.tells
         → Stands (catalog_shape geometry.now) (B.seen blocks.old).cur }
     ensures shapes { OnOk result
-        (map shape_any parts.new.items ≡ shapes_laid geometry.now catalog.now) }
+        (AreShapesOf geometry.now catalog.now (map shape_any parts.new.items)) }
     ensures split { OnOk result (All HasNoSplit parts.new.items) }
     ensures owned { IfOk result (AreOwnersBy geometry.now parts.new.items) }
     ensures known { IsTrue B.tells
@@ -305,11 +304,12 @@ fn lay<B: Blocks>(
     ensures cause { HasOpenCause (B.faults blocks.old) (B.faults blocks.new) result }
 {
     let mut space = owners_of(alloc, geometry, catalog)?;
+    let ordered = by_number(alloc, catalog.as_slice())?;
     add_entries(
         alloc,
         blocks,
         geometry,
-        catalog.as_slice(),
+        ordered.as_slice(),
         parts,
         &mut space,
     )?;

@@ -29,8 +29,8 @@ use vr_log::UndoLog;
 use vr_part::AnyPart;
 use vr_types::{Blocks, Geometry, Space};
 
-/// A volume that was opened: its shape, its catalog, its parts in the order of the catalog's entries
-/// that lay one, the catalog's own part first, its log, which has no record, and who owns each area.
+/// A volume that was opened: its shape, its catalog, the parts that it lays in the order of their
+/// numbers, the catalog's own first, its log, which has no record, and who owns each area.
 #[derive(Drop)]
 pub struct Opened {
     pub geometry: Geometry,

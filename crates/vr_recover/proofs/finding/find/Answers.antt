@@ -11,6 +11,7 @@ use Rattle.vr_volume.specs.PutBack.{images_of}
 use Rattle.vr_recover.specs.Found.{AllStand, AreKnown, HasRoomOf, IsBackNo, IsFound}
 use Rattle.vr_recover.specs.Found.{IsPlanned, MayGoBack, ShowsOnly}
 use Rattle.vr_recover.proofs.Attaching.{of-still}
+use Rattle.vr_recover.proofs.NumberOrder.{shapes-lay}
 use Rattle.vr_recover.proofs.Owning.{known-know, owners-reached}
 use Rattle.vr_recover.proofs.Refusals.{back-refused, log-long, mount-refused}
 use Rattle.vr_recover.proofs.Refusals.{shapes-on, shapes-stand}
@@ -39,7 +40,9 @@ images_to_undo-requires-clause-on g c =
     (shapes-on geometry c.in_ok-mounted.mounted.catalog.value (map shape_any parts) now
     c.requires.allowed
     (of-still g.B.Blocks.tells geometry (g.B.Blocks.seen c.args.blocks.now) now
-    c.mount.ensures.keeps c.requires.shape) mounted.may mounted.shapes)
+    c.mount.ensures.keeps c.requires.shape) mounted.may
+    (shapes-lay geometry c.in_ok-mounted.mounted.catalog.value (map shape_any parts)
+    mounted.may.distinct mounted.shapes))
 
 pub images_to_undo-requires-clause-stand : goal.images_to_undo-requires-clause-stand
 images_to_undo-requires-clause-stand g c told =
@@ -66,12 +69,13 @@ returns-in_err-undo-clause-refused g c told number header spelled =
     let long = log-long geometry a c.requires.allowed c.requires.shape
     (g.met.B.Blocks.cur_may c.args.blocks.now told)
     (λ n block below may. g.met.B.Blocks.sized c.args.blocks.now n block told below may) in
+    let laid = shapes-lay geometry entries shapes mounted.may.distinct mounted.shapes in
     let p = err_from_is_err_and c.from_residual-in_err-undo.result
     c.from_residual-in_err-undo.ensures.1 in
     rw (p.1, p.2) (back-refused number geometry a c.requires.allowed c.requires.shape header
     content long spelled entries (c.in_ok-mounted.ensures.entries told) mounted.may.distinct
-    (shapes-stand geometry entries shapes a.cur mounted.shapes
-    (c.in_ok-mounted.ensures.stand told)) shapes mounted.shapes c.in_err-undo.field-0.0
+    (shapes-stand geometry entries shapes a.cur laid (c.in_ok-mounted.ensures.stand told)) shapes
+    laid c.in_err-undo.field-0.0
     (subst (λ (image : Image). ShowsOnly (IsBackNo (images_of content.records) shapes image)
     c.in_err-undo.field-0.0) (c.mount.ensures.keeps.content told)
     (subst (λ (ps : List AnyPart). ShowsOnly (IsBackNo (images_of content.records)
@@ -127,7 +131,8 @@ returns-clause-found g c told number header spelled =
           (subst (λ (ps : List AnyPart). All (HasRoomOf images
           (g.B.Blocks.seen c.mount.new.blocks).cur) (map shape_any ps)) c.deref_mut.ensures.value
           (c.in_ok-undo.ensures.room told));
-      owned = owners-reached geometry entries parts owners mounted.may.distinct mounted.shapes
+      owned = owners-reached geometry entries parts owners
+          (shapes-lay geometry entries (map shape_any parts) mounted.may.distinct mounted.shapes)
           mounted.owned a (known-know parts a (c.in_ok-mounted.ensures.known told));
     })
 

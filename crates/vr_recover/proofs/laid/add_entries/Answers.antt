@@ -2,7 +2,7 @@ use Rattle.std.proofs.Common.{◌∙◌, map, refl, subst, sym}
 use Rattle.std.proofs.lemmas.Result.{err_from_is_err_and}
 use Rattle.vr_types.proofs.CallerLemmas.{keeps-none, keeps-then}
 use Rattle.vr_part.specs.Any.{shape_any}
-use Rattle.vr_recover.specs.Found.{AllStand, AreKnown}
+use Rattle.vr_recover.specs.Found.{AllStand, AreKnown, held_entries}
 use Rattle.vr_recover.proofs.Attaching.{of-still, shown-then}
 use Rattle.vr_recover.proofs.laid.add_entries.Goals as goal
 
@@ -22,11 +22,12 @@ returns-in_err-add_entry-clause-damaged g c told =
     let inv = c.loop-at.invariant in
     let same = inv.keeps.content told in
     let p = err_from_is_err_and c.from_residual.result c.from_residual.ensures.1 in
-    rw (p.1, p.2) (shown-then c.args.geometry.now c.args.entries.now
+    rw (p.1, p.2) (shown-then c.args.geometry.now (held_entries c.args.entries.now)
     (g.B.Blocks.seen c.loop-at.blocks) (g.B.Blocks.seen c.args.blocks.now)
     c.in_err-add_entry.field-0.0 same
     (c.in_err-add_entry.ensures.damaged told
-    (subst (AreKnown c.loop-at.parts.items) (sym same) (inv.known told))))
+    (subst (AreKnown c.loop-at.parts.items) (sym same) (inv.known told))
+    (subst (AllStand (map shape_any c.loop-at.parts.items)) (sym same) (inv.stand told))))
 
 pub returns-in_err-add_entry-clause-keeps : goal.returns-in_err-add_entry-clause-keeps
 returns-in_err-add_entry-clause-keeps g c =
