@@ -8,7 +8,7 @@ use Rattle.std.proofs.lemmas.List.Elements.{All-cons, All-nil}
 use Rattle.vr_types.specs.Faults.{Faults}
 use Rattle.vr_types.specs.Seen.{Seen}
 use Rattle.vr_catalog.specs.declared.entry.CatEntry.{CatEntry}
-use Rattle.vr_history.specs.Merged.{in_order, last_stamp, numbered_from, part_of_deck}
+use Rattle.vr_history.specs.Merged.{in_order, numbered_from, part_of_deck}
 use Rattle.vr_history.specs.declared.entry.Entry.{Entry}
 use Rattle.vr_job_text.specs.Job.{deck_steps}
 use Rattle.vr_job_text.specs.declared.job.JobStep.{JobStep}
@@ -16,6 +16,7 @@ use Rattle.vr_job_text.specs.declared.text.Step.{Step}
 use Rattle.vr_event.specs.Volume.{VolumeNow}
 use Rattle.vr_recover.specs.declared.open_no.OpenNo.{OpenNo}
 use Rattle.vr_recover.specs.declared.open_no.OpenNo.TheVariants as opens
+use Rattle.vr_worker.specs.Decks.{IsUsedUp}
 use Rattle.vr_worker.specs.Steps.{AreGapless, AreOfSteps, AreSinceSteps, ComeInSteps, HasAsked}
 use Rattle.vr_worker.specs.Steps.{IsSinceSteps}
 use Rattle.vr_worker.proofs.CallerLemmas.{gapless-none}
@@ -675,7 +676,7 @@ module _ {D : Type 0} (tells : Bool) (seen : D → Seen) (faults : D → Faults)
               there.0,
               found.0,
               found.1,
-              subst (λ (es : List Entry). 2 ^ 62 ≤ last_stamp 0 es) (sym found.2) shown.stamp,
+              subst IsUsedUp (sym found.2) shown.used,
             );
         ends = ends;
       }

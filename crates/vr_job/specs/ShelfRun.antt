@@ -1,16 +1,16 @@
 -- The run of a job on the volumes of the devices of a shelf, from their opening to the end. The rules
 -- are this project's own.
-use Rattle.std.specs.Prelude.{◌≡◌, ◌<◌, ◌≤◌, ◌+◌, ◌^◌, ℕ, Bool, List, [], ◌∷◌, Result, Ok, Err}
+use Rattle.std.specs.Prelude.{◌≡◌, ◌<◌, ◌+◌, ℕ, Bool, List, [], ◌∷◌, Result, Ok, Err}
 use Rattle.std.specs.Prelude.{IsOk, IsTrue, OnOk, Some, length, map, slice_get}
 use Rattle.vr_types.specs.Faults.{Faults}
 use Rattle.vr_types.specs.Seen.{Seen}
 use Rattle.vr_catalog.specs.declared.entry.CatEntry.{CatEntry}
-use Rattle.vr_history.specs.Merged.{last_stamp}
 use Rattle.vr_history.specs.declared.entry.Entry.{Entry}
 use Rattle.vr_job_text.specs.Job.{deck_steps}
 use Rattle.vr_job_text.specs.declared.job.JobStep.{JobStep}
 use Rattle.vr_job_text.specs.declared.text.Step.{Step}
 use Rattle.vr_trace.specs.declared.report.StepReport.{StepReport}
+use Rattle.vr_worker.specs.Decks.{IsUsedUp}
 use Rattle.vr_worker.specs.Steps.{AreGapless, ComeInSteps, HasAsked}
 use Rattle.vr_job_ends.specs.declared.job_end.End.{End}
 use Rattle.vr_job_ends.specs.declared.job_end.End.TheVariants.{Line, Ran, Unsynced}
@@ -110,5 +110,5 @@ pub record IsShelfRun {D : Type 0} (tells : Bool) (seen : D → Seen) (faults : 
     pub all_reported : OnOk by (length reports ≡ utility_count steps)
     pub stamps : end ≡ Line StampsUsedUp
         → (number : ℕ) × (volume : VolumeOf D) × IsAt number volume volumes
-        × (2 ^ 62 ≤ last_stamp 0 volume.entries)
+        × IsUsedUp volume.entries
     pub ends : IsShelfEnd tells seen faults volumes by end

@@ -67,11 +67,8 @@ fn make_ready<B: Blocks, P: Part>(
     ensures stays { StaysServing B.tells B.seen B.faults volume.old volume.new }
 {
     make_room(volume, deck)?;
-    if volume.last() >= STAMP_LIMIT || after >= STAMP_LIMIT {
+    if volume.last() >= STAMP_LIMIT || after >= STAMP_LIMIT || !volume.has_numbers(deck) {
         return Err(RunNo::Stamps);
-    }
-    if !volume.has_numbers(deck) {
-        return Err(RunNo::Memory);
     }
     Ok(())
 }

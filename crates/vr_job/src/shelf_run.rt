@@ -337,10 +337,10 @@ fn run_in<R: Threads + Wait + Sync, D: BlockDevice + Send, G: Gate + Sync>(
 /// Opens the volumes of the devices of a shelf, numbered from 0 on, runs the steps of a job on them, one
 /// after another, and closes them: each device is synced, unless its volume has stopped. The job
 /// comes through; or it ends as the first volume that isn't opened says (`open`), and nothing is asked;
-/// or its stamps are used up (`StampsUsedUp`: the last of a volume is 2^62 or more), or memory ran out
-/// (`NoMemory`), which may come at any time; or all was answered and a device failed to sync
-/// (`Unsynced`, with the least number). `Err` hands the devices back as they were: there is no memory
-/// for the list of volumes.
+/// or its stamps are used up (`StampsUsedUp`: the last of a volume is 2^62 or more, or a deck came to its
+/// last unit of recovery there), or memory ran out (`NoMemory`), which may come at any time; or all was
+/// answered and a device failed to sync (`Unsynced`, with the least number). `Err` hands the devices
+/// back as they were: there is no memory for the list of volumes.
 pub fn run_volumes<R: Threads + Wait + Sync, D: BlockDevice + Send, G: Gate + Sync>(
     rt: &R,
     alloc: Global,

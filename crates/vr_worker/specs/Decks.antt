@@ -1,5 +1,5 @@
 -- The decks of a step, and what they leave of the volumes. The rules are this project's own.
-use Rattle.std.specs.Prelude.{◌≡◌, ◌⊎◌, ◌<◌, ◌≤◌, ◌^◌, ◌==◌, ℕ, List, [], false, All, Contains}
+use Rattle.std.specs.Prelude.{◌≡◌, ◌⊎◌, ◌<◌, ◌≤◌, ◌-◌, ◌^◌, ◌==◌, ℕ, List, [], false, All, Contains}
 use Rattle.std.specs.Prelude.{Result}
 use Rattle.std.specs.Prelude.{OnOk, drop, get_or, length, map, take, count_by}
 use Rattle.vr_history.specs.Merged.{Numbered, last_stamp, merged, part_of_deck}
@@ -95,8 +95,16 @@ pub record HasAsked (result : Result (Unit {0}) RunNo) (histories : List (List E
   pub whole : OnOk result (take count deck.requests.items ≡ deck.requests.items)
   pub rising : AreRising (of_deck deck.number (merged histories))
 
--- the last stamp of one of the volumes is 2^62 or more
+-- an entry is of the last unit of recovery that a deck may have on a volume
+abbrev pub HasLastUnit : List Entry → Type 0
+HasLastUnit entries = (entry : Entry) × Contains entries entry × (2 ^ 32 - 2 ≤ entry.unit.number)
+
+-- the last stamp of a history is 2^62 or more, or one of its decks came to its last unit of recovery
+abbrev pub IsUsedUp : List Entry → Type 0
+IsUsedUp entries = (2 ^ 62 ≤ last_stamp 0 entries) ⊎ HasLastUnit entries
+
+-- so it is with the history of one of the volumes
 pub record HasUsedUp {V : Type 0} (entries : V → List Entry) (volumes : List V) : Type 0 where
   pub volume : V
   pub one : Contains volumes volume
-  pub stamp : 2 ^ 62 ≤ last_stamp 0 (entries volume)
+  pub used : IsUsedUp (entries volume)

@@ -1,7 +1,8 @@
 //! The decks of a step, each on a thread of its own.
 ghost use Rattle.std.specs.Prelude.{◌≡◌, ◌^◌, All, IsErrOf, IsTrue, Ok, OnOk, map};
 ghost use Rattle.vr_worker.specs.Decks.{AreNew, ArePlaced, AreSince, AreUpTo, ComeLater, ComeNext};
-ghost use Rattle.vr_worker.specs.Decks.{HasAsked, HasUsedUp, greatest_last, numbers_of};
+ghost use Rattle.vr_worker.specs.Decks.{HasAsked, HasLastUnit, HasUsedUp, IsUsedUp};
+ghost use Rattle.vr_worker.specs.Decks.{greatest_last, numbers_of};
 ghost use Rattle.vr_worker.specs.Ready.{IsBegun, IsDone, decks_of, history_of};
 ghost use Rattle.vr_worker.specs.declared.no.RunNo.TheVariants.{Stamps};
 
@@ -14,12 +15,16 @@ use std::alloc::Global;
 use std::marker::Brand;
 use std::sync::Wait;
 use std::thread::Threads;
+use vr_history::{Entry, History};
 use vr_ledger::Ledger;
 use vr_outside::Gate;
 use vr_types::OutOfMemory;
 
 /// The least stamp with which no event begins.
 const STAMP_LIMIT: u64 = 1 << 62;
+
+/// The greatest number of a unit of recovery: after it a deck has no other on its volume.
+const LAST_UNIT: u32 = u32::MAX - 1;
 
 /// What the decks of a step leave: the volumes, in the order of their numbers, and whether all
 /// requests were answered.
@@ -39,19 +44,38 @@ fn end_of(seats: &[Seat]) -> Result<(), RunNo>
     Ok(())
 }
 
-/// Whether the last stamp of a volume leaves no room for an event.
-fn is_used_up<V: Served>(volumes: &[V]) -> bool
-    ensures { IsTrue result → HasUsedUp V.entries volumes.now }
+/// Whether one of these entries is of a deck's last unit of recovery.
+fn has_last_unit(entries: &[Entry]) -> bool
+    ensures { IsTrue result → HasLastUnit entries.now }
 {
-    for volume in volumes {
-        if volume.history().last() >= STAMP_LIMIT {
+    for entry in entries {
+        if entry.unit.number >= LAST_UNIT {
             return true;
         }
     }
     false
 }
 
-/// An end for want of stamps, where a volume shows it.
+/// Whether a history has come to its last stamp, or a deck in it to its last unit of recovery.
+fn is_used_up(history: &History) -> bool
+    ensures { IsTrue result → IsUsedUp history.now.entries }
+{
+    history.last() >= STAMP_LIMIT || has_last_unit(history.entries())
+}
+
+/// Whether one of the volumes has such a history.
+fn has_used_up<V: Served>(volumes: &[V]) -> bool
+    ensures { IsTrue result → HasUsedUp V.entries volumes.now }
+{
+    for volume in volumes {
+        if is_used_up(volume.history()) {
+            return true;
+        }
+    }
+    false
+}
+
+/// An end for want of stamps or units of recovery, where a volume shows it.
 fn shown<V: Served>(end: Result<(), RunNo>, volumes: &[V]) -> Result<(), RunNo>
     ensures done { OnOk result (end ≡ Ok tt) }
     ensures stamps { IsErrOf result Stamps → HasUsedUp V.entries volumes.now }
@@ -60,7 +84,7 @@ fn shown<V: Served>(end: Result<(), RunNo>, volumes: &[V]) -> Result<(), RunNo>
         Ok(()) => Ok(()),
         Err(RunNo::Memory) => Err(RunNo::Memory),
         Err(RunNo::Stamps) => {
-            if is_used_up(volumes) {
+            if has_used_up(volumes) {
                 Err(RunNo::Stamps)
             } else {
                 Err(RunNo::Memory)

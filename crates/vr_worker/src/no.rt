@@ -7,7 +7,7 @@ use vr_types::OutOfMemory;
 /// Why the decks of a step ended before all of their requests were answered.
 #[derive(Clone, Copy, PartialEq, Eq)]
 pub enum RunNo {
-    /// A last stamp reached 2^62.
+    /// A last stamp reached 2^62, or a deck's units of recovery their last number.
     Stamps,
     /// Memory ran out.
     Memory,

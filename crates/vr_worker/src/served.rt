@@ -32,8 +32,9 @@ pub trait Served: Drop {
         ensures { result.now.entries ≡ entries self.now };
 
     /// One event of a request of a deck, whose last stamp is `after`: whether the request was answered.
-    /// Where it wasn't, a stage of it was done, and the deck asks it again. Where no stamps are left
-    /// (`Stamps`), or memory runs out (`Memory`, which may come at any time), nothing is entered.
+    /// Where it wasn't, a stage of it was done, and the deck asks it again. Where no stamps are left, or
+    /// no unit of recovery of the deck (`Stamps`), or memory runs out (`Memory`, which may come at any
+    /// time), nothing is entered.
     fn answer(
         &mut self,
         deck: u32,
