@@ -7,3 +7,8 @@ pub mod Leaving
 pub mod Stating
 pub mod Standing
 pub mod CallerLemmas
+pub mod Ordered
+pub mod Finding
+pub mod FirstPlace
+pub mod LastLive
+pub mod Keeping

@@ -1,11 +1,9 @@
 -- Lists of before-images after a record more.
 use Rattle.std.proofs.Common.{◌≡◌, ℕ, Bool, true, false, cond, List, [], ◌∷◌, ◌++◌, map}
-use Rattle.std.proofs.Common.{Option, Some, None, refl, sym, ap, ◌∙◌, ◌||◌}
+use Rattle.std.proofs.Common.{Option, Some, None, refl, ap, ◌∙◌, ◌||◌}
 use Rattle.std.specs.Prelude.{option_map, OnOk, Result, Ok, Err}
 use Rattle.std.specs.List.{cons_option, filter_map, list_any}
-use Rattle.std.proofs.Common.{◌<◌, ◌≤◌, ◌+◌, length, get_or, take}
-use Rattle.std.proofs.lemmas.List.{append-nil, take_all, take_more}
-use Rattle.std.proofs.lemmas.List.Folds.{list_any_at}
+use Rattle.std.proofs.lemmas.List.{append-nil}
 use Rattle.std.proofs.lemmas.List.Elements.{filter_map-append}
 use Rattle.vr_types.specs.declared.unit.Unit.{Unit as UnitOfRecovery}
 use Rattle.vr_history.specs.State.{BeforeImage, Logged}
@@ -38,32 +36,6 @@ pub on-more : {X E : Type 0} {A B : Type 0} (result : Result X E) → (A → B) 
     → OnOk result B
 on-more (Ok x) follows a = follows a
 on-more (Err e) follows a = a
-
--- a search finds one, or has gone over all
-pub there-at : (image_by : KeptRecord → Option BeforeImage) (unit : UnitOfRecovery) (part : ℕ)
-    (place : List ℕ) (records : List KeptRecord) (i : ℕ) (item : KeptRecord) → i < length records
-    → item ≡ get_or records i item → some_at unit part place (image_by item) ≡ true
-    → true ≡ has_at unit part place (filter_map image_by records)
-there-at image_by unit part place records i item within is here =
-    sym (list_any_at (λ kept. some_at unit part place (image_by kept)) records i item within
-    (sym (ap (λ (kept : KeptRecord). some_at unit part place (image_by kept)) is) ∙ here))
-    ∙ any-image image_by unit part place records
-
-pub none-at : (image_by : KeptRecord → Option BeforeImage) (unit : UnitOfRecovery) (part : ℕ)
-    (place : List ℕ) (records : List KeptRecord) (i : ℕ) → length records ≤ i
-    → list_any (λ kept. some_at unit part place (image_by kept)) (take i records) ≡ false
-    → false ≡ has_at unit part place (filter_map image_by records)
-none-at image_by unit part place records i over none =
-    sym none
-    ∙ ap (list_any (λ kept. some_at unit part place (image_by kept))) (take_all i records over)
-    ∙ any-image image_by unit part place records
-
--- one record more of a list
-pub one-more : (records : List KeptRecord) (i : ℕ) (item : KeptRecord) → i < length records
-    → item ≡ get_or records i item → take (i + 1) records ≡ take i records ++ item ∷ []
-one-more records i item within is =
-    take_more records i item within
-    ∙ ap (λ (kept : KeptRecord). take i records ++ kept ∷ []) (sym is)
 
 -- the places that are logged are those of the images
 pub logged-at : (unit : UnitOfRecovery) (part : ℕ) (place : List ℕ) (images : List BeforeImage)

@@ -4,3 +4,5 @@ pub mod Found
 pub mod Lengths
 pub mod Ascending
 pub mod Others
+pub mod Order
+pub mod Searched

@@ -9,6 +9,7 @@
 mod before;
 mod kept;
 mod laws;
+mod order;
 mod others;
 mod record;
 mod undo;

@@ -2,8 +2,9 @@
 ghost use Rattle.std.specs.Prelude.{◌≡◌, MatchOption};
 ghost use Rattle.std.specs.Option.{option_copied};
 ghost use Rattle.vr_undo.specs.Others.{IsLeastAllowed, NoneAllowed, others_in, place_other};
+ghost use Rattle.vr_undo.specs.Order.{AreAlike, IsOrder};
 
-use crate::kept::{lesser, place_allowed};
+use crate::kept::{Whose, first_place, place_allowed};
 use crate::record::{KeptRecord, is_unit};
 use crate::undo::Undo;
 use vr_space::Whence;
@@ -17,31 +18,30 @@ impl Undo {
             (NoneAllowed from.entry (others_in unit part.0 self.now))
             (λ place. IsLeastAllowed from.entry (others_in unit part.0 self.now) place.now) }
     {
-        other_in(self.records(), unit, part, from)
+        other_in(self.records(), self.order(), unit, part, from)
     }
 }
 
 /// The least place of a record that another unit may bring back, of those that a search may find.
 fn other_in<'a>(
     records: &'a [KeptRecord],
+    order: &[usize],
     unit: Unit,
     part: PartNo,
     from: Whence<'_>,
 ) -> Option<&'a Place>
+    requires alike { AreAlike records.now }
+    requires order { IsOrder records.now order.now }
     ensures { MatchOption (option_copied result)
         (NoneAllowed from.entry (others_in unit part.0 records.now))
         (IsLeastAllowed from.entry (others_in unit part.0 records.now)) }
 {
-    let mut next = None;
-    for one in records {
-        next = lesser(next, place_other(one, unit, part, from));
-    }
-    next
+    first_place(records, order, Whose::Others(unit), part, from)
 }
 
 /// The place of another unit's before-image, where it is of the part, there was a record, and a
 /// search may find it.
-fn place_other<'a>(
+pub(crate) fn place_other<'a>(
     one: &'a KeptRecord,
     unit: Unit,
     part: PartNo,

@@ -3,13 +3,16 @@ ghost use Rattle.std.specs.Prelude.{◌≡◌, IfOk, MatchOption, option_map, fa
 ghost use Rattle.std.specs.List.{list_any};
 ghost use Rattle.std.specs.Option.{option_copied};
 ghost use Rattle.vr_types.specs.Locks.{same_unit};
-ghost use Rattle.vr_undo.specs.Records.{befores_of, image_of, images_in, is_record_at, has_at};
+ghost use Rattle.vr_undo.specs.Records.{befores_of, image_of, is_record_at, has_at, last_in};
 ghost use Rattle.vr_undo.specs.Records.{before_of, keeps_for, kept_image, logged_image, new_record};
 ghost use Rattle.vr_undo.specs.Records.{some_at};
 ghost use Rattle.vr_undo.specs.Found.{IsLastAt};
 ghost use Rattle.vr_undo.specs.Lengths.{IsShort};
+ghost use Rattle.vr_undo.specs.Order.{AreAlike, AreNumbers, IsAlike, IsLive, IsOrder};
+ghost use Rattle.vr_undo.specs.Searched.{IsLastLive, has_image_at, image_by, images_by};
 
 use crate::before::{Before, unless_there};
+use crate::order::{FREE, STOOD, at_place};
 use std::alloc::Global;
 use vr_types::{OutOfMemory, PartNo, Place, Unit};
 
@@ -36,6 +39,7 @@ pub(crate) fn new_record(
     ensures value { IfOk result (λ made. made ≡ new_record unit
         (before_of part place.now (option_copied old.entry)) logged kept) }
     ensures short { IfOk result IsShort }
+    ensures alike { IfOk result IsAlike }
 {
     let logged = unless_there(alloc, logged, part, place, old)?;
     let kept = unless_there(alloc, kept, part, place, old)?;
@@ -59,24 +63,58 @@ fn is_at(of: Unit, image: &Option<Before>, unit: Unit, part: PartNo, place: &Pla
     }
 }
 
-/// Whether the log has a before-image of the place for the unit.
-pub(crate) fn has_logged(records: &[KeptRecord], unit: Unit, part: PartNo, place: &Place) -> bool
-    ensures { result ≡ has_at unit part.0 place.now (images_in records.now) }
-{
-    for one in records {
-        if is_at(one.unit, &one.logged, unit, part, place) {
-            return true;
-        }
-    }
-    false
+/// Which before-image of a record.
+#[derive(Clone, Copy)]
+pub(crate) enum Which {
+    Logged,
+    Kept,
 }
 
-/// Whether the unit may put back a before-image of the place.
-pub(crate) fn has_kept(records: &[KeptRecord], unit: Unit, part: PartNo, place: &Place) -> bool
-    ensures { result ≡ has_at unit part.0 place.now (befores_of records.now) }
+/// The before-image of a record.
+fn image(one: &KeptRecord, which: Which) -> &Option<Before>
+    ensures { result.now ≡ image_by which one.now }
 {
-    for one in records {
-        if is_at(one.unit, &one.kept, unit, part, place) {
+    match which {
+        Which::Logged => &one.logged,
+        Which::Kept => &one.kept,
+    }
+}
+
+/// Whether a record has such a before-image of the place for the unit.
+pub(crate) fn has_image(
+    records: &[KeptRecord],
+    order: &[usize],
+    which: Which,
+    unit: Unit,
+    part: PartNo,
+    place: &Place,
+) -> bool
+    requires alike { AreAlike records.now }
+    requires order { IsOrder records.now order.now }
+    ensures { result ≡ has_at unit part.0 place.now (images_by which records.now) }
+{
+    let free = at_place(records, order, part, FREE, place);
+    let stood = at_place(records, order, part, STOOD, place);
+    let of_free = any_at(records, free, which, unit, part, place);
+    let of_stood = any_at(records, stood, which, unit, part, place);
+    of_free || of_stood
+}
+
+/// Whether one of these records has such a before-image of the place for the unit.
+fn any_at(
+    records: &[KeptRecord],
+    numbers: &[usize],
+    which: Which,
+    unit: Unit,
+    part: PartNo,
+    place: &Place,
+) -> bool
+    requires { AreNumbers records.now numbers.now }
+    ensures { result ≡ list_any (has_image_at which unit part.0 place.now records.now) numbers.now }
+{
+    for number in numbers {
+        let one = &records[*number];
+        if is_at(one.unit, image(one, which), unit, part, place) {
             return true;
         }
     }
@@ -90,19 +128,36 @@ fn keeps_for(unit: Unit, one: &KeptRecord) -> bool
     one.kept.is_some() && is_unit(unit, one.unit)
 }
 
-/// The last one that the unit may put back.
-pub(crate) fn last_kept(records: &[KeptRecord], unit: Unit) -> Option<usize>
+/// The place in the list of live ones of the last that the unit may put back.
+pub(crate) fn last_kept(records: &[KeptRecord], live: &[usize], unit: Unit) -> Option<usize>
+    requires { IsLive records.now live.now }
     ensures { MatchOption result (list_any (keeps_for unit) records.now ≡ false)
-        (IsLastAt (keeps_for unit) records.now) }
+        (IsLastLive unit records.now live.now) }
 {
-    let mut at = records.len();
+    let mut at = live.len();
     while at > 0 {
         at -= 1;
-        if keeps_for(unit, &records[at]) {
+        if keeps_for(unit, &records[live[at]]) {
             return Some(at);
         }
     }
     None
+}
+
+/// The last before-image that the unit may put back.
+pub(crate) fn last_before<'a>(
+    records: &'a [KeptRecord],
+    live: &[usize],
+    unit: Unit,
+) -> Option<&'a Before>
+    requires { IsLive records.now live.now }
+    ensures { option_map (image_of unit) (option_copied result)
+        ≡ last_in unit (befores_of records.now) }
+{
+    match last_kept(records, live, unit) {
+        Some(at) => records[live[at]].kept.as_ref(),
+        None => None,
+    }
 }
 
 /// Whether a record has a before-image of the place for the unit.

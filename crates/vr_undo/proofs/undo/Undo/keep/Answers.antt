@@ -4,25 +4,18 @@ use Rattle.vr_history.specs.State.{BeforeImage}
 use Rattle.vr_undo.specs.Records.{before_of, befores_of, has_at, image_of, images_in, logged_of}
 use Rattle.vr_undo.specs.Records.{with_record}
 use Rattle.vr_undo.specs.declared.before.Before.{Before}
-use Rattle.vr_undo.specs.declared.record.KeptRecord.{KeptRecord}
 use Rattle.vr_undo.proofs.Recording.{befores-made, images-made, logged-made, on-more}
 use Rattle.vr_undo.proofs.undo.Undo.keep.Goals as goal
 
 logged-is : (c : goal.After-add)
-    → c.has_logged-logged.result
+    → c.has-logged.result
     ≡ has_at c.args.unit c.args.part.0 c.args.place.now (images_in c.args.self.now)
-logged-is c =
-    c.has_logged-logged.ensures
-    ∙ ap (λ (records : List KeptRecord). has_at c.args.unit c.args.part.0 c.args.place.now
-    (images_in records)) (c.deref.ensures.value ∙ c.self.view_is)
+logged-is c = c.has-logged.ensures
 
 kept-is : (c : goal.After-add)
-    → c.has_kept-kept.result
+    → c.has-kept.result
     ≡ has_at c.args.unit c.args.part.0 c.args.place.now (befores_of c.args.self.now)
-kept-is c =
-    c.has_kept-kept.ensures
-    ∙ ap (λ (records : List KeptRecord). has_at c.args.unit c.args.part.0 c.args.place.now
-    (befores_of records)) (c.deref-2.ensures.value ∙ c.self.view_is)
+kept-is c = c.has-kept.ensures
 
 pub returns-clause-befores : goal.returns-clause-befores
 returns-clause-befores c =
@@ -30,9 +23,9 @@ returns-clause-befores c =
     let befores : List BeforeImage = befores_of c.args.self.now in
     let new : Before = before_of c.args.part c.args.place.now (option_copied c.args.old) in
     on-more c.add.result
-    (λ (added : c.add.new.self ≡ with_record unit new c.has_logged-logged.result
-    c.has_kept-kept.result c.args.self.now). ap befores_of added
-    ∙ befores-made unit new c.has_logged-logged.result c.has_kept-kept.result c.args.self.now
+    (λ (added : c.add.new.self ≡ with_record unit new c.has-logged.result
+    c.has-kept.result c.args.self.now). ap befores_of added
+    ∙ befores-made unit new c.has-logged.result c.has-kept.result c.args.self.now
     ∙ ap (λ (b : Bool). cond b befores (befores ++ image_of unit new ∷ [])) (kept-is c))
     c.add.ensures.kept
 
@@ -42,9 +35,9 @@ returns-clause-images c =
     let images : List BeforeImage = images_in c.args.self.now in
     let new : Before = before_of c.args.part c.args.place.now (option_copied c.args.old) in
     on-more c.add.result
-    (λ (added : c.add.new.self ≡ with_record unit new c.has_logged-logged.result
-    c.has_kept-kept.result c.args.self.now). ap images_in added
-    ∙ images-made unit new c.has_logged-logged.result c.has_kept-kept.result c.args.self.now
+    (λ (added : c.add.new.self ≡ with_record unit new c.has-logged.result
+    c.has-kept.result c.args.self.now). ap images_in added
+    ∙ images-made unit new c.has-logged.result c.has-kept.result c.args.self.now
     ∙ ap (λ (b : Bool). cond b images (images ++ image_of unit new ∷ [])) (logged-is c))
     c.add.ensures.kept
 
@@ -53,9 +46,9 @@ returns-clause-logged c =
     let unit = c.args.unit in
     let new : Before = before_of c.args.part c.args.place.now (option_copied c.args.old) in
     on-more c.add.result
-    (λ (added : c.add.new.self ≡ with_record unit new c.has_logged-logged.result
-    c.has_kept-kept.result c.args.self.now). ap logged_of added
-    ∙ ap (λ (b : Bool). logged_of (with_record unit new b c.has_kept-kept.result
+    (λ (added : c.add.new.self ≡ with_record unit new c.has-logged.result
+    c.has-kept.result c.args.self.now). ap logged_of added
+    ∙ ap (λ (b : Bool). logged_of (with_record unit new b c.has-kept.result
     c.args.self.now)) (logged-is c)
-    ∙ logged-made unit new c.has_kept-kept.result c.args.self.now)
+    ∙ logged-made unit new c.has-kept.result c.args.self.now)
     c.add.ensures.kept

@@ -9,7 +9,7 @@ use Rattle.vr_undo.proofs.undo.Undo.unkeep.Goals as goal
 pub returns-in-Some-clause-without : goal.returns-in-Some-clause-without
 returns-in-Some-clause-without c =
     let test : KeptRecord → _ = is_record_at c.args.unit c.args.part.0 c.args.place.now in
-    c.drop_at.ensures
+    c.drop_at.ensures.records
     ∙ ap (λ (records : List KeptRecord). remove records c.in-Some.at) c.self.view_is
     ∙ removed test c.args.self.now c.in-Some.at
     (subst (λ (records : List KeptRecord). IsLastAt test records c.in-Some.at)
