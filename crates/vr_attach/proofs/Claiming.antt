@@ -24,8 +24,11 @@ use Rattle.vr_attach.proofs.Owning.{area-owned, area-owner}
 -- A part is on the blocks of a device of the volume's shape.
 pub inside-on : (geometry : Geometry) (shape : Shape) (now : Seen) → now.count ≡ geometry.blocks
     → now.size ≡ geometry.size → IsInside geometry shape → IsOn shape now
-inside-on geometry (KeyedShape part) now count size inside =
-    (omega (arith, inside.0, count), size ∙ sym inside.1)
+inside-on geometry (KeyedShape part) now count size inside = record {
+  part_is = inside.0;
+  blocks = omega (arith, count, ap (λ (g : Geometry). g.blocks) inside.1);
+  size = size ∙ sym (ap (λ (g : Geometry). g.size) inside.1);
+}
 inside-on geometry (NumberedShape part) now count size inside = record {
   part_is = inside.0;
   blocks = omega (arith, count, ap (λ (g : Geometry). g.blocks) inside.1);

@@ -2,6 +2,7 @@ pub mod Rules
 pub mod Heads
 pub mod Intervals
 pub mod Walks
+pub mod Alone
 pub mod Passing
 pub mod Owning
 pub mod Reaching

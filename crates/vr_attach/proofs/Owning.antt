@@ -80,10 +80,9 @@ area-owned geometry areas area part owns n from to = area-owner geometry areas a
 
 -- ---- where a part is laid
 
--- a keyed part is on the blocks of an area of the volume, and a relative one on areas of it
+-- a part is on areas of the volume
 abbrev pub IsOnAreas : Geometry → Shape → Type 0
-IsOnAreas geometry (KeyedShape part) = (area : ℕ) × (part.head ≡ head_block geometry area)
-    × (part.area ≡ geometry.area)
+IsOnAreas geometry (KeyedShape part) = part.geometry ≡ geometry
 IsOnAreas geometry (NumberedShape part) = part.geometry ≡ geometry
 
 -- a shape of this number, on areas of the volume, which are past the log
@@ -98,7 +97,7 @@ as-keyed : (geometry : Geometry) (part area : ℕ) (definition : Definition)
 as-keyed geometry part area definition = record {
   number = refl;
   past = λ n inside. omega (arith, inside.0);
-  areas = (area, refl, refl);
+  areas = refl;
 }
 
 -- and an entry-sequenced or relative one
@@ -171,26 +170,31 @@ laid-as geometry entries part shape is =
 -- ---- parts that stay in their own
 
 -- the blocks of the first area of a part that stays in its own are its own
-pub stays-owned : (shape : Shape) (owners : Owners) (image : Image) → StaysIn shape owners image
+pub stays-owned : (geometry : Geometry) (shape : Shape) (owners : Owners) (image : Image)
+    → 0 < area_count geometry → IsOnAreas geometry shape → StaysIn shape owners image
     → (n : ℕ) → InFirstArea shape n → InPart shape owners n
-stays-owned (KeyedShape part) owners image stays = stays
-stays-owned (NumberedShape part) owners image stays = (chain-here part (IsOwnArea part owners)
-    (IsFilled part) (IsOf image) (area_count part.geometry) part.first stays).owned
+stays-owned geometry (KeyedShape part) owners image some on stays = stays.0.owned
+stays-owned geometry (NumberedShape part) owners image some on stays =
+    (chain-here part (IsOwnArea part owners) (IsFilled part) (IsOf image)
+    (area_count part.geometry) part.first stays).owned
 
 -- So parts that stay in their own have no block of their first areas in common.
 pub owned-apart : (geometry : Geometry) (entries : List CatEntry) (owners : Owners) (image : Image)
+    → 0 < area_count geometry
     → ((part : ℕ) (shape : Shape) → shape_in geometry entries part ≡ Some shape
     → StaysIn shape owners image)
     → AreApart (shape_in geometry entries)
-owned-apart geometry entries owners image stays one other here there here-is there-is differ n
+owned-apart geometry entries owners image some stays one other here there here-is there-is differ n
     in-here in-there =
+    let mine : IsLaidAs geometry one here = laid-as geometry entries one here here-is in
+    let yours : IsLaidAs geometry other there = laid-as geometry entries other there there-is in
     let first : owners n ≡ Some (part_no here).0 =
-    stays-owned here owners image (stays one here here-is) n in-here in
+    stays-owned geometry here owners image some mine.areas (stays one here here-is) n in-here in
     let second : owners n ≡ Some (part_no there).0 =
-    stays-owned there owners image (stays other there there-is) n in-there in
+    stays-owned geometry there owners image some yours.areas (stays other there there-is) n
+    in-there in
     let same : (part_no here).0 ≡ (part_no there).0 = some-same (sym first ∙ second) in
-    differ (sym (laid-as geometry entries one here here-is).number ∙ same
-    ∙ (laid-as geometry entries other there there-is).number)
+    differ (sym mine.number ∙ same ∙ yours.number)
   where
     some-same : {x y : ℕ} → Some x ≡ Some y → x ≡ y
     some-same same = cc

@@ -1,7 +1,7 @@
 -- Which areas parts reach, and that a part stays in its own where those are its.
 use Rattle.std.proofs.Common.{◌≡◌, ℕ, zero, suc, ◌+◌, ◌<◌, ◌≤◌, List, [], ◌∷◌, get_or}
-use Rattle.std.proofs.Common.{Option, Some, None, refl, sym, subst, arith}
-use Rattle.std.specs.Prelude.{Contains}
+use Rattle.std.proofs.Common.{Option, Some, None, refl, sym, subst}
+use Rattle.std.specs.Prelude.{Contains, IfSome}
 use Rattle.std.proofs.lemmas.List.Elements.{All-contains, Contains-append_left}
 use Rattle.std.proofs.lemmas.List.Elements.{Contains-append_right, Contains-push}
 use Rattle.vr_types.specs.Geometry.{area_count, head_block}
@@ -9,7 +9,10 @@ use Rattle.vr_types.specs.Image.{Block, Image, block_at}
 use Rattle.vr_types.specs.declared.geometry.Geometry.{Geometry}
 use Rattle.vr_types.specs.declared.unit.PartNo.{PartNo}
 use Rattle.vr_catalog.specs.declared.entry.CatEntry.{CatEntry}
-use Rattle.vr_space.specs.Keyed.{IsOwned, Keyed}
+use Rattle.vr_seqset.specs.Reading.{record_in}
+use Rattle.vr_space.specs.Areas.{EachAfter, EachArea, IsOwnedArea, KeyedChain, areas_after, areas_in}
+use Rattle.vr_space.specs.Areas.{head_in}
+use Rattle.vr_space.specs.Areas.{most_areas}
 use Rattle.vr_space.specs.Known.{Known}
 use Rattle.vr_space.specs.Owners.{Owners}
 use Rattle.vr_space.specs.Part.{KeyedShape, NumberedShape, Shape, Stands, StaysIn, part_no}
@@ -18,6 +21,8 @@ use Rattle.vr_space.specs.Rosters.{IsOwnArea, Numbered, after_next, areas_from, 
 use Rattle.vr_space.specs.Rosters.{roster_block, used_of}
 use Rattle.vr_space.specs.Numbered.{IsFilled}
 use Rattle.vr_space.proofs.CallerLemmas.{are-chained, chain-less, chained-here}
+use Rattle.vr_space.proofs.CallerLemmas.{IsLinkedArea, area-each, each-after-both}
+use Rattle.vr_space.proofs.CallerLemmas.{each-after-less, links-in-each}
 use Rattle.vr_attach.specs.Laid.{ReachesArea, shape_in}
 use Rattle.vr_attach.specs.Owning.{owner_of}
 use Rattle.vr_attach.proofs.Owning.{IsOnAreas, area-owned, laid-as}
@@ -87,9 +92,50 @@ chain-owns part Own Interval image chain area among =
       split = None;
       met = [];
       areas = chain_of part image;
+      ends = [];
       used = used_of part image;
       tail = None;
     }
+
+-- ---- the areas of a keyed part
+
+-- each area that an image leads to is one of those that it has
+each-among : (part : KeyedChain) (image : Image) (k area : ℕ)
+    → EachAfter part (Contains (areas_after part image k area)) (IsOf image) k area
+each-among part image zero area = tt
+each-among part image (suc k) area = (
+  Contains-append_left (area ∷ []) rest area (Contains-push [] area),
+  λ top is. subst (λ (one : Block). IfSome (record_in one).next
+      (EachAfter part (Contains (area ∷ rest)) (IsOf image) k)) (sym is)
+      (by_next (record_in (head_in part image area)).next refl
+      (λ further. each-among part image k further)),
+)
+  where
+    rest : List ℕ
+    rest = after_next [] (areas_after part image k) (record_in (head_in part image area)).next
+
+    by_next : (next : Option ℕ) → (record_in (head_in part image area)).next ≡ next
+        → ((further : ℕ) → EachAfter part (Contains (areas_after part image k further)) (IsOf image)
+        k further)
+        → IfSome next (EachAfter part (Contains (area ∷ rest)) (IsOf image) k)
+    by_next None is more = tt
+    by_next (Some further) is more =
+        each-after-less part (Contains (areas_after part image k further))
+        (Contains (area ∷ rest)) (IsOf image) (IsOf image)
+        (λ at inside. Contains-append_right (area ∷ []) rest at
+        (subst (λ (o : Option ℕ). Contains (after_next [] (areas_after part image k) o) at)
+        (sym is) inside))
+        (λ at inside top may. may) k further (more further)
+
+-- each area of a part that stands for a content is there, and one of those that the image has
+stands-among : (part : KeyedChain) (image : Image) → Stands (KeyedShape part) image
+    → EachArea part (λ at. IsLinkedArea part image at × Contains (areas_in part image) at)
+    (IsOf image)
+stands-among part image stands =
+    let count : ℕ = most_areas in
+    each-after-both part (IsLinkedArea part image) (Contains (areas_in part image)) (IsOf image)
+    count part.first (links-in-each part image count part.first None stands.1.chain)
+    (each-among part image count part.first)
 
 -- ---- a part stays in its own
 
@@ -98,21 +144,20 @@ abbrev pub ReachesOwn : Geometry → Shape → List (Option PartNo) → Image �
 ReachesOwn geometry shape areas image = (area : ℕ) → ReachesArea geometry shape image area
     → get_or areas area None ≡ Some (part_no shape)
 
--- a keyed part by its area
-keyed-owned : (geometry : Geometry) (keyed : Keyed) (areas : List (Option PartNo))
-    → IsOnAreas geometry (KeyedShape keyed)
-    → ((area : ℕ) → keyed.head ≡ head_block geometry area
-    → get_or areas area None ≡ Some (part_no (KeyedShape keyed)))
-    → IsOwned keyed (owner_of geometry areas)
-keyed-owned geometry keyed areas on owns = λ n inside.
-    area-owned geometry areas on.0 (part_no (KeyedShape keyed)) (owns on.0 on.1) n
-    (omega (arith, on.1, inside.0)) (omega (arith, on.1, on.2, inside.1))
-
 by-shape : (geometry : Geometry) (shape : Shape) (areas : List (Option PartNo)) (image : Image)
     → IsOnAreas geometry shape → Stands shape image → ReachesOwn geometry shape areas image
     → StaysIn shape (owner_of geometry areas) image
 by-shape geometry (KeyedShape part) areas image on stands owns =
-    keyed-owned geometry part areas on owns
+    each-after-less part (λ at. IsLinkedArea part image at × Contains (areas_in part image) at)
+    (IsOwnedArea part (owner_of geometry areas)) (IsOf image) (IsOf image)
+    (λ at both. record {
+      there = both.0.there;
+      owned = λ n inside. area-owned geometry areas at (part_no (KeyedShape part))
+          (owns at both.1) n (subst (λ (g : Geometry). head_block g at ≤ n) on inside.0)
+          (subst (λ (g : Geometry). n ≤ head_block g at + g.area) on inside.1);
+    })
+    (λ at both top may. may) most_areas part.first
+    (stands-among part image stands)
 by-shape geometry (NumberedShape part) areas image on stands owns =
     chain-less part (λ at. (at < area_count part.geometry) × Contains (chain_of part image) at)
     (IsOwnArea part (owner_of geometry areas)) (IsFilled part) (IsOf image) (IsOf image)
@@ -136,21 +181,16 @@ pub reached-stays : (geometry : Geometry) (entries : List CatEntry) (part : ℕ)
 reached-stays geometry entries part shape areas image laid stands owns = by-shape geometry shape
     areas image (laid-as geometry entries part shape laid).areas stands owns
 
--- A keyed part does whatever the image has.
-pub keyed-stays : (geometry : Geometry) (entries : List CatEntry) (part : ℕ) (keyed : Keyed)
-    (areas : List (Option PartNo)) → shape_in geometry entries part ≡ Some (KeyedShape keyed)
-    → ((area : ℕ) → keyed.head ≡ head_block geometry area
-    → get_or areas area None ≡ Some (part_no (KeyedShape keyed)))
-    → IsOwned keyed (owner_of geometry areas)
-keyed-stays geometry entries part keyed areas laid owns = keyed-owned geometry keyed areas
-    (laid-as geometry entries part (KeyedShape keyed) laid).areas owns
-
 owned-by-shape : (geometry : Geometry) (shape : Shape) (owners : Owners) (image : Image) (area : ℕ)
     → IsOnAreas geometry shape → StaysIn shape owners image → ReachesArea geometry shape image area
     → (n : ℕ) → head_block geometry area ≤ n → n ≤ head_block geometry area + geometry.area
     → owners n ≡ Some (part_no shape).0
 owned-by-shape geometry (KeyedShape part) owners image area on stays reaches n from to =
-    stays n (omega (arith, reaches, from), omega (arith, reaches, on.2, to))
+    (area-each part (IsOwnedArea part owners) image most_areas part.first area
+    stays reaches).owned n (
+      subst (λ (g : Geometry). head_block g area ≤ n) (sym on) from,
+      subst (λ (g : Geometry). n ≤ head_block g area + g.area) (sym on) to,
+    )
 owned-by-shape geometry (NumberedShape part) owners image area on stays reaches n from to =
     (chain-owns part (IsOwnArea part owners) (IsFilled part) image stays area reaches).owned n
     (record {

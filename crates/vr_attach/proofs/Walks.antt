@@ -9,13 +9,12 @@ use Rattle.vr_seqset.specs.Entry.{Entry}
 use Rattle.vr_space.specs.Room.{Range}
 use Rattle.vr_space.specs.Keyed.{Keyed, HoldsRange, HoldRanges, entries_of, entry_block}
 use Rattle.vr_space.specs.Keyed.{content_from, low_of, range_of}
-use Rattle.vr_space.specs.Part.{KeyedShape, Stands}
 use Rattle.vr_space.specs.Search.{low_before, range_found, IsEntryAt}
 use Rattle.vr_space.specs.UnderWay.{interval_block}
 use Rattle.vr_space.specs.declared.search.FoundEntry.{FoundEntry}
 use Rattle.vr_space.proofs.CallerLemmas.{holds-nth}
 use Rattle.vr_attach.specs.Damage.{rule_number, HeadBreaks, IntervalBreaks, IsLeastBroken, HoldsNth}
-use Rattle.vr_attach.specs.Damage.{IsBadInterval, IsDamagedAt, IsWholeHead}
+use Rattle.vr_attach.specs.Damage.{IsBadInterval, IsDamagedAt, IsWholeHead, StandsWhole}
 use Rattle.vr_types.specs.declared.fault.DeviceFault.{DeviceFault}
 use Rattle.vr_attach.specs.declared.damage.Damage.{Damage}
 use Rattle.vr_attach.specs.declared.rule.Rule.{Rule}
@@ -41,25 +40,24 @@ got-within [] i entry is = absurd cc
 got-within (first ∷ entries) zero entry is = omega arith
 got-within (first ∷ entries) (suc i) entry is = omega (arith, got-within entries i entry is)
 
--- a head whose intervals all hold their ranges stands for a content
+-- the area of a head whose intervals all hold their ranges stands for a content
 pub stands_where : (part : Keyed) (image : Image) → IsWholeHead part (block_at image part.head)
     → ((i : ℕ) → i < length (entries_of (block_at image part.head))
     → HoldsNth part (block_at image part.head) image i)
-    → Stands (KeyedShape part) image
+    → StandsWhole part image
 stands_where part image head each =
     let entries : List Entry = entries_of (block_at image part.head) in
-    let low : Option (List ℕ) = low_of (block_at image part.head) in (
-      content_from part image low entries,
-      (
-        record {
-          head = head.0;
-          intervals = hold-all part image low entries
-              (λ i entry is. each i (got-within entries i entry is) entry is);
-          records = refl;
-        },
-        head.1,
-      ),
-    )
+    let low : Option (List ℕ) = low_of (block_at image part.head) in
+    record {
+      content = content_from part image low entries;
+      stands = record {
+        head = head.0;
+        intervals = hold-all part image low entries
+            (λ i entry is. each i (got-within entries i entry is) entry is);
+        records = refl;
+      };
+      whole = head.1;
+    }
 
 -- ---- the interval of an entry that is found
 
@@ -120,9 +118,9 @@ module _ (part : Keyed) (area areas : ℕ) (image : Image) where
 
   -- damaged blocks stand for none
   pub damaged_none : (n : ℕ) (rule : Rule) → IsDamagedAt part area areas image n rule
-      → Stands (KeyedShape part) image → ⊥
+      → StandsWhole part image → ⊥
   damaged_none n rule (inl bad) stands =
-      head_keeps part area areas top (stands.1.0.head, stands.1.1) rule bad.rule_is.broken
+      head_keeps part area areas top (stands.stands.head, stands.whole) rule bad.rule_is.broken
   damaged_none n rule (inr (head, bad)) stands =
       range_keeps part (range_of (low_before (low_of top) (entries_of top) bad.number) bad.entry)
       (block_at image n)
@@ -130,7 +128,7 @@ module _ (part : Keyed) (area areas : ℕ) (image : Image) where
       (range_of (low_before (low_of top) (entries_of top) bad.number) bad.entry) (block_at image m))
       (sym bad.block)
       (holds-nth part image (low_of top) (entries_of top) bad.number bad.entry
-      stands.1.0.intervals bad.is))
+      stands.stands.intervals bad.is))
       rule bad.rule_is.broken
 
   -- those of the first entries hold their ranges, unless one is damaged
@@ -177,7 +175,7 @@ module _ (part : Keyed) (area areas : ℕ) (image : Image) where
           nth-by k (slice_get (entries_of top) k) refl before refuted
 
   -- blocks that stand for none are damaged
-  pub damaged_some : (Stands (KeyedShape part) image → ⊥)
+  pub damaged_some : (StandsWhole part image → ⊥)
       → ((n : ℕ) (rule : Rule) → IsDamagedAt part area areas image n rule → ⊥) → ⊥
   damaged_some no_content none =
       head_or_broken part area areas top
@@ -258,15 +256,15 @@ pub walked : (part : Keyed) (area areas : ℕ) (image : Image) (top : Block)
     → IfOk result (λ (found : Option Damage). MatchOption found
     ((i : ℕ) → i < length (entries_of top) → HoldsNth part top image i)
     (λ (damage : Damage). IsBadInterval part top image damage.block damage.rule))
-    → IfOk result (λ (found : Option Damage). MatchOption found (Stands (KeyedShape part) image)
+    → IfOk result (λ (found : Option Damage). MatchOption found (StandsWhole part image)
     (λ (damage : Damage). IsDamagedAt part area areas image damage.block damage.rule))
-walked part area areas image top (Ok None) head same each =
+walked part area areas image block (Ok None) head same each =
     stands_where part image (subst (IsWholeHead part) same head)
     (subst (λ (b : Block). (i : ℕ) → i < length (entries_of b) → HoldsNth part b image i) same
     each)
-walked part area areas image top (Ok (Some damage)) head same bad =
+walked part area areas image block (Ok (Some damage)) head same bad =
     inr (
       subst (IsWholeHead part) same head,
       subst (λ (b : Block). IsBadInterval part b image damage.block damage.rule) same bad,
     )
-walked part area areas image top (Err fault) head same found = tt
+walked part area areas image block (Err fault) head same found = tt

@@ -9,9 +9,9 @@ use Rattle.vr_types.specs.declared.unit.AreaNo.{AreaNo}
 use Rattle.vr_types.specs.declared.unit.Kind.TheVariants as kinds
 use Rattle.vr_catalog.specs.declared.entry.CatEntry.{CatEntry}
 use Rattle.vr_catalog.specs.declared.entry.EntryKind.TheVariants.{Cluster}
-use Rattle.vr_space.specs.Keyed.{Keyed}
+use Rattle.vr_space.specs.Areas.{KeyedChain}
 use Rattle.vr_space.specs.Part.{KeyedShape}
-use Rattle.vr_attach.specs.Damage.{rule_number, IsDamagedAt}
+use Rattle.vr_attach.specs.Damage.{rule_number, IsDamagedIn}
 use Rattle.vr_attach.specs.Laid.{shape_of}
 use Rattle.vr_attach.specs.declared.part_no.PartNo2.{PartNo2}
 use Rattle.vr_attach.specs.declared.part_no.PartNo2.TheVariants.{Damaged, Fault, Memory}
@@ -32,13 +32,11 @@ pub record IsOfKeyed (geometry : Geometry) (entry : CatEntry) (length : ℕ) : T
 -- is the number of the least rule that it breaks.
 pub record IsShown (geometry : Geometry) (entry : CatEntry) (image : Image) (block number : ℕ) :
     Type 0 where
-  pub part : Keyed
+  pub part : KeyedChain
   pub shape : shape_of geometry entry ≡ Some (KeyedShape part)
-  pub area : AreaNo
-  pub first : entry.first_area ≡ Some area
   pub rule : Rule
   pub number_is : number ≡ rule_number rule
-  pub damaged : IsDamagedAt part area.0 (area_count geometry) image block rule
+  pub damaged : IsDamagedIn part image block rule
 
 -- a part that is shown as damaged is
 abbrev pub IsDamageShown : Geometry → CatEntry → Image → PartNo2 → Type 0

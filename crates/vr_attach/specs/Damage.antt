@@ -1,12 +1,13 @@
--- Where the blocks of a keyed part stand for no content: the first block of the walk with a broken
--- rule, and the least rule that is broken there. The walk is the head of the part, and then the
--- interval of each entry in their order. Written over what the blocks spell, apart from the walk of
--- the code. The rules and their numbers are this project's own.
+-- Where the blocks of a keyed part stand for no content: the first block of the walk
+-- with a broken rule, and the least rule that is broken there. The walk is the head of the part's
+-- first area, and then the interval of each entry in their order. Written over what the blocks
+-- spell, apart from the walk of the code. The rules and their numbers are this project's own.
 use Rattle.std.specs.Prelude.{◌≡◌, ◌⊎◌, ℕ, ◌<◌, true, false, IsTrue, List, [], ◌∷◌, ◌++◌, length}
 use Rattle.std.specs.Prelude.{All, Some, None, IfSome, map, replicate}
 use Rattle.std.specs.List.{slice_get}
 use Rattle.std.specs.List.Sorted.{IsStrictlySortedBy}
-use Rattle.vr_types.specs.Content.{place_cmp}
+use Rattle.vr_types.specs.Content.{Content, place_cmp}
+use Rattle.vr_types.specs.Geometry.{area_count}
 use Rattle.vr_types.specs.Image.{Block, Image, block_at}
 use Rattle.vr_ci_match.specs.declared.form.Form.TheVariants.{Plain}
 use Rattle.vr_ci_match.specs.declared.form.Shape.TheVariants as shapes
@@ -15,9 +16,10 @@ use Rattle.vr_seqset.specs.Entry.{Entry}
 use Rattle.vr_seqset.specs.SequenceSet.{SequenceSet, IsSequenceSet}
 use Rattle.vr_seqset.specs.Reading.{record_in}
 use Rattle.vr_space.specs.Room.{Range, is_in}
-use Rattle.vr_space.specs.Keyed.{Keyed, IsHead, IsWhole, IsKept, HoldsRange, entries_of}
+use Rattle.vr_space.specs.Keyed.{Keyed, KeyedStandsFor, IsHead, IsKept, HoldsRange, entries_of}
 use Rattle.vr_space.specs.Keyed.{entry_block, key_of, low_of, range_of}
 use Rattle.vr_space.specs.Search.{low_before}
+use Rattle.vr_space.specs.Areas.{KeyedChain, area_of}
 use Rattle.vr_attach.specs.declared.rule.Rule.{Rule}
 use Rattle.vr_attach.specs.declared.rule.Rule.TheVariants as rules
 
@@ -90,9 +92,23 @@ HeadBreaks part area areas top rules.Order = ⊥
 HeadBreaks part area areas top rules.Roster = ⊥
 HeadBreaks part area areas top rules.Slots = ⊥
 
+-- It is the head of a part of one area: the first and the last of its chain, and its last range
+-- goes up to the greatest key.
+pub record IsWhole (part : Keyed) (top : Block) : Type 0 where
+  pub first : (record_in top).first ≡ true
+  pub next : (record_in top).next ≡ None
+  pub last : (before : List Entry) (entry : Entry) → entries_of top ≡ before ++ entry ∷ []
+      → entry.high ≡ replicate part.key 255
+
 -- the head of a part of one area, which breaks none
 abbrev pub IsWholeHead : Keyed → Block → Type 0
 IsWholeHead part top = IsHead part top × IsWhole part top
+
+-- The blocks of the area stand for a content, under such a head.
+pub record StandsWhole (part : Keyed) (image : Image) : Type 0 where
+  pub content : Content
+  pub stands : KeyedStandsFor part image content
+  pub whole : IsWhole part (block_at image part.head)
 
 -- ---- an interval
 
@@ -157,10 +173,18 @@ pub record IsBadHead (part : Keyed) (area areas : ℕ) (image : Image) (n : ℕ)
     pub block : n ≡ part.head
     pub rule_is : IsLeastBroken (HeadBreaks part area areas (block_at image part.head)) rule
 
--- The part, whose area is `area` of `areas`, stands for no content: block n is the first that
--- breaks a rule, and this is the least that it breaks.
+-- The area, which is `area` of `areas`, is no part of one area: block n is the first that breaks a
+-- rule, and this is the least that it breaks.
 abbrev pub IsDamagedAt : Keyed → ℕ → ℕ → Image → ℕ → Rule → Type 0
 IsDamagedAt part area areas image n rule =
     IsBadHead part area areas image n rule
     ⊎ (IsWholeHead part (block_at image part.head)
     × IsBadInterval part (block_at image part.head) image n rule)
+
+-- ---- the same of a part
+
+-- The blocks of the part stand for no content: block n is the first that breaks a rule, and this is
+-- the least that it breaks. Its chain has one area: the first.
+abbrev pub IsDamagedIn : KeyedChain → Image → ℕ → Rule → Type 0
+IsDamagedIn part image n rule = IsDamagedAt (area_of part part.first) part.first
+    (area_count part.geometry) image n rule

@@ -1,12 +1,10 @@
--- Where the parts of a volume are on its blocks: the catalog, which is part 0, in area 0, a
--- key-sequenced cluster in the area that its entry names, and an entry-sequenced or relative one
--- from that area on. The rules are this project's own.
-use Rattle.std.specs.Prelude.{◌≡◌, ◌≢◌, ◌+◌, ◌<◌, ℕ, List, Option, Some, None, if◌then◌else◌, ◌==◌}
+-- Where the parts of a volume are on its blocks: the catalog, which is part 0, from area 0 on, and
+-- each cluster from the area on that its entry names. The rules are this project's own.
+use Rattle.std.specs.Prelude.{◌≡◌, ◌≢◌, ℕ, List, Option, Some, None, if◌then◌else◌, ◌==◌}
 use Rattle.std.specs.Prelude.{Bool, true, false, Contains}
 use Rattle.std.specs.Option.{option_and_then}
 use Rattle.vr_types.specs.Content.{Content}
 use Rattle.vr_types.specs.Image.{Image}
-use Rattle.vr_types.specs.Geometry.{head_block}
 use Rattle.vr_types.specs.declared.geometry.Geometry.{Geometry}
 use Rattle.vr_types.specs.declared.unit.AreaNo.{AreaNo}
 use Rattle.vr_types.specs.declared.unit.Kind.{Kind}
@@ -15,18 +13,17 @@ use Rattle.vr_catalog.specs.Catalog.{cluster_definition, entries_in, entry_with_
 use Rattle.vr_catalog.specs.Definition.{catalog_definition}
 use Rattle.vr_catalog.specs.declared.definition.Definition.{Definition}
 use Rattle.vr_catalog.specs.declared.entry.CatEntry.{CatEntry}
-use Rattle.vr_space.specs.Keyed.{Keyed}
+use Rattle.vr_space.specs.Areas.{IsKeyedChain, KeyedChain, areas_in}
 use Rattle.vr_space.specs.Known.{Known}
 use Rattle.vr_space.specs.Part.{Shape, KeyedShape, NumberedShape, InFirstArea}
 use Rattle.vr_space.specs.Rosters.{IsNumbered, Numbered, chain_of}
 
 -- a keyed part of this definition, whose first area is this one
-abbrev pub keyed_part : Geometry → ℕ → ℕ → Definition → Keyed
+abbrev pub keyed_part : Geometry → ℕ → ℕ → Definition → KeyedChain
 keyed_part geometry part area definition = record {
   part = part;
-  head = head_block geometry area;
-  area = geometry.area;
-  size = geometry.size;
+  first = area;
+  geometry = geometry;
   key = definition.key_length;
   offset = definition.key_offset;
   most = definition.maximum;
@@ -84,19 +81,17 @@ shape_by geometry catalog part = shape_in geometry (entries_in catalog) part
 
 -- a part is on blocks that the volume has, with their size
 abbrev pub IsInside : Geometry → Shape → Type 0
-IsInside geometry (KeyedShape part) =
-    (part.head + part.area < geometry.blocks) × (part.size ≡ geometry.size)
+IsInside geometry (KeyedShape part) = IsKeyedChain part × (part.geometry ≡ geometry)
 IsInside geometry (NumberedShape part) = IsNumbered part × (part.geometry ≡ geometry)
 
--- a part reaches an area: a keyed one its own, another those of its chain
+-- a part reaches the areas of its chain
 abbrev pub ReachesArea : Geometry → Shape → Image → ℕ → Type 0
-ReachesArea geometry (KeyedShape part) image area = part.head ≡ head_block geometry area
+ReachesArea geometry (KeyedShape part) image area = Contains (areas_in part image) area
 ReachesArea geometry (NumberedShape part) image area = Contains (chain_of part image) area
 
 -- by what it keeps in memory of its blocks
 abbrev pub HasArea : Geometry → Shape → Known → ℕ → Type 0
-HasArea geometry (KeyedShape part) known area = part.head ≡ head_block geometry area
-HasArea geometry (NumberedShape part) known area = Contains known.areas area
+HasArea geometry shape known area = Contains known.areas area
 
 -- one of these parts other than this one reaches the area
 pub record IsReachedElsewhere (geometry : Geometry) (shapes : ℕ → Option Shape) (image : Image)

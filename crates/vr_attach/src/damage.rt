@@ -3,16 +3,17 @@ ghost use Rattle.std.specs.Prelude.{◌≡◌, ◌<◌, ◌≤◌, ◌+◌, ℕ,
 ghost use Rattle.vr_types.specs.Image.{block_at};
 ghost use Rattle.vr_types.specs.Blocks.{Keeps};
 ghost use Rattle.vr_types.specs.Faults.{HasCause};
+ghost use Rattle.vr_space.specs.AreaCalls.{IsAreaOn};
 ghost use Rattle.vr_space.specs.Keyed.{HoldsRange, InArea, IsHead, entries_of};
 ghost use Rattle.vr_space.specs.Lent.{range_lent};
 ghost use Rattle.vr_space.specs.Part.{KeyedShape, IsOn, Stands};
 ghost use Rattle.vr_attach.specs.Damage.{HoldsNth, IntervalBreaks, IsBadInterval, IsDamagedAt};
-ghost use Rattle.vr_attach.specs.Damage.{IsLeastBroken};
+ghost use Rattle.vr_attach.specs.Damage.{IsDamagedIn, IsLeastBroken, StandsWhole};
 
 use crate::head::head_rule;
 use crate::interval::interval_rule;
 use crate::rule::Rule;
-use vr_space::{Layout, LentRange, entry_at, entry_count, read_block};
+use vr_space::{KeyedLayout, Layout, LentRange, entry_at, entry_count, read_block};
 use vr_types::{Blocks, DeviceFault};
 
 /// The first block of a part that breaks a rule, and the least rule that it breaks.
@@ -29,7 +30,7 @@ fn rule_at<B: Blocks>(
     number: u32,
     range: &LentRange<'_>,
 ) -> Result<Option<Rule>, DeviceFault>
-    requires on { IsOn (KeyedShape layout.now) (B.seen blocks.old) }
+    requires on { IsAreaOn layout.now (B.seen blocks.old) }
     requires inside { InArea layout.now number }
     ensures rule { IsTrue B.tells → IfOk result (λ rule. MatchOption rule
         (HoldsRange layout.now (range_lent range.now) (block_at (B.seen blocks.old).cur number))
@@ -49,7 +50,7 @@ fn damage_at<B: Blocks>(
     top: &[u8],
     number: usize,
 ) -> Result<Option<Damage>, DeviceFault>
-    requires on { IsOn (KeyedShape layout.now) (B.seen blocks.old) }
+    requires on { IsAreaOn layout.now (B.seen blocks.old) }
     requires head { IsHead layout.now top.now }
     requires within { number < length (entries_of top.now) }
     ensures holds { IsTrue B.tells → IfOk result (λ found. MatchOption found
@@ -79,7 +80,7 @@ fn damage_under<B: Blocks>(
     layout: &Layout,
     top: &[u8],
 ) -> Result<Option<Damage>, DeviceFault>
-    requires on { IsOn (KeyedShape layout.now) (B.seen blocks.old) }
+    requires on { IsAreaOn layout.now (B.seen blocks.old) }
     requires head { IsHead layout.now top.now }
     ensures found { IsTrue B.tells → IfOk result (λ found. MatchOption found
         ((i : ℕ) → i < length (entries_of top.now)
@@ -100,20 +101,42 @@ fn damage_under<B: Blocks>(
 }
 
 /// The first block of a part that breaks a rule, and the least rule that it breaks: its head, or
-/// the interval of an entry. None where the blocks stand for a content. The part's area is the one
-/// of this number, and the volume has `areas` of them. It reads each block once, the head into a
-/// buffer.
+/// the interval of an entry. None where the blocks stand for a content. It reads each block once,
+/// the head into a buffer.
 pub fn first_damage<B: Blocks>(
+    blocks: &mut B,
+    layout: &KeyedLayout,
+    top: &mut [u8],
+) -> Result<Option<Damage>, DeviceFault>
+    requires on { IsOn (KeyedShape layout.now) (B.seen blocks.old) }
+    requires top { length top.old ≡ layout.now.geometry.size }
+    ensures found { IsTrue B.tells → IfOk result (λ found. MatchOption found
+        (Stands (KeyedShape layout.now) (B.seen blocks.old).cur)
+        (λ damage. IsDamagedIn layout.now (B.seen blocks.old).cur damage.block damage.rule)) }
+    ensures keeps { Keeps B.tells (B.seen blocks.old) (B.seen blocks.new) }
+    ensures cause { HasCause (B.faults blocks.old) (B.faults blocks.new) result }
+{
+    damage_of(
+        blocks,
+        &layout.area(layout.first),
+        layout.first,
+        layout.geometry.areas(),
+        top,
+    )
+}
+
+/// The same of its first area, which is the one of this number of `areas`.
+fn damage_of<B: Blocks>(
     blocks: &mut B,
     layout: &Layout,
     area: u32,
     areas: u32,
     top: &mut [u8],
 ) -> Result<Option<Damage>, DeviceFault>
-    requires on { IsOn (KeyedShape layout.now) (B.seen blocks.old) }
+    requires on { IsAreaOn layout.now (B.seen blocks.old) }
     requires top { length top.old ≡ layout.now.size }
     ensures found { IsTrue B.tells → IfOk result (λ found. MatchOption found
-        (Stands (KeyedShape layout.now) (B.seen blocks.old).cur)
+        (StandsWhole layout.now (B.seen blocks.old).cur)
         (λ damage. IsDamagedAt layout.now area areas (B.seen blocks.old).cur
         damage.block damage.rule)) }
     ensures keeps { Keeps B.tells (B.seen blocks.old) (B.seen blocks.new) }

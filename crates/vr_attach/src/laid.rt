@@ -4,22 +4,26 @@ ghost use Rattle.vr_types.specs.Geometry.{IsAllowed, area_count};
 ghost use Rattle.vr_attach.specs.Laid.{keyed_part, numbered_part};
 
 use vr_catalog::Definition;
-use vr_space::{ChainLayout, Layout};
+use vr_space::{ChainLayout, KeyedLayout};
 use vr_types::{Geometry, Kind, PartNo};
 
 /// Where a keyed part of this definition is, whose first area this is. A record of the maximum has
 /// room in an interval of its own.
-pub fn layout_of(geometry: Geometry, part: PartNo, area: u32, definition: &Definition) -> Layout
+pub fn layout_of(
+    geometry: Geometry,
+    part: PartNo,
+    area: u32,
+    definition: &Definition,
+) -> KeyedLayout
     requires allowed { IsAllowed geometry }
     requires area { area < area_count geometry }
     requires room { definition.now.maximum + 7 ≤ geometry.size }
     ensures { result ≡ keyed_part geometry part.0 area definition.now }
 {
-    Layout {
+    KeyedLayout {
         part,
-        head: geometry.head_block(area),
-        area: geometry.area as u16,
-        size: geometry.size,
+        first: area,
+        geometry,
         key: definition.key_length,
         offset: definition.key_offset,
         most: definition.maximum,

@@ -2,8 +2,9 @@
 //! the first block that breaks a rule, if one does. It stands on `vr_types`, `vr_ci_match`,
 //! `vr_ci`, `vr_seqset`, `vr_space` and `vr_catalog`.
 //!
-//! It promises that the blocks stand for a content, or that the block and the rule shown are the
-//! first and the least of the walk; never both, never neither, and one damage at most.
+//! A chain has one area at most yet. It promises that the blocks stand for a content, or that the
+//! block and the rule shown are the first and the least of the walk; never both, never neither, and
+//! one damage at most.
 #![tactic(auto)]
 
 mod damage;

@@ -128,7 +128,14 @@ due-taken chain areas a area left of due least = record {
     image-chain = resting-chain part due.owners a left due.rests
 
     known : Known
-    known = record { split = None; met = []; areas = chain.areas; used = chain.used; tail = None }
+    known = record {
+      split = None;
+      met = [];
+      areas = chain.areas;
+      ends = [];
+      used = chain.used;
+      tail = None;
+    }
 
     own : All Own chain.areas
     own = (are-chained part Own (IsFilled part) a.cur known image-chain

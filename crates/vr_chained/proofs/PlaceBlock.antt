@@ -28,6 +28,7 @@ known-chain chain = record {
   split = None;
   met = [];
   areas = chain.areas;
+  ends = [];
   used = chain.used;
   tail = None;
 }

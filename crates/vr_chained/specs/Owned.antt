@@ -1,5 +1,5 @@
 -- What is seen of an entry-sequenced or relative part on blocks.
-use Rattle.std.specs.Prelude.{ℕ, List, Option, None}
+use Rattle.std.specs.Prelude.{ℕ, List, [], Option, None}
 use Rattle.vr_space.specs.Entries.{Tail as TailOf}
 use Rattle.vr_space.specs.Known.{Known}
 use Rattle.vr_space.specs.Met.{Met}
@@ -19,6 +19,7 @@ known_of owned = record {
   split = None;
   met = owned.met;
   areas = owned.chain.areas;
+  ends = [];
   used = owned.chain.used;
   tail = owned.tail;
 }

@@ -24,7 +24,10 @@ use Rattle.vr_types.specs.declared.unit.StageKind.{StageKind}
 use Rattle.vr_space.specs.Known.{Known}
 use Rattle.vr_space.specs.Part.{KeyedShape, NumberedShape, Shape, room_of}
 use Rattle.vr_space.specs.Room.{Lengths}
-use Rattle.vr_space.specs.Split.{SplitNow, free_interval, keyed_fits, keyed_stage, room_after}
+use Rattle.vr_space.specs.Areas.{area_for, area_of}
+use Rattle.vr_space.specs.Keyed.{Keyed as KeyedArea}
+use Rattle.vr_space.specs.Split.{area_fits, area_stage, free_interval, keyed_room_by, room_after}
+use Rattle.vr_space.specs.Split.{split_in, stage_under}
 use Rattle.vr_space.specs.Split.{room_by, room_by_split}
 use Rattle.vr_space.specs.declared.room.Room.TheVariants as answers
 use Rattle.vr_history.specs.Case.{Case, file_of, new_record}
@@ -51,7 +54,15 @@ use Rattle.vr_event.specs.declared.weighing.Weighed.TheVariants as weighed
 
 -- ---- what a part answers
 
-lacks-after : (stage : Option StageKind) (fits : Bool) (split : Option SplitNow) (free : Option ℕ)
+-- one area is needed, and none is free
+needs-one : (need left : ℕ) → answers.NoSpace 1 0 ≡ answers.NoSpace need left
+    → NoSpace need left ≡ lacks_area
+needs-one need left is =
+    let needs : need ≡ 1 = cc in
+    let lefts : left ≡ 0 = cc in
+    ap (λ (n : ℕ). NoSpace n left) needs ∙ ap (λ (n : ℕ). NoSpace 1 n) lefts
+
+lacks-after : (stage : Option StageKind) (fits : Bool) (split : Option StageKind) (free : Option ℕ)
     (need left : ℕ)
     → room_after stage (room_by fits (room_by_split split free)) ≡ answers.NoSpace need left
     → NoSpace need left ≡ lacks_area
@@ -59,10 +70,7 @@ lacks-after (Some stage) fits split free need left is = absurd cc
 lacks-after None true split free need left is = absurd cc
 lacks-after None false (Some split) free need left is = absurd cc
 lacks-after None false None (Some interval) need left is = absurd cc
-lacks-after None false None None need left is =
-    let needs : need ≡ 1 = cc in
-    let lefts : left ≡ 0 = cc in
-    ap (λ (n : ℕ). NoSpace n left) needs ∙ ap (λ (n : ℕ). NoSpace 1 n) lefts
+lacks-after None false None None need left is = needs-one need left is
 
 -- A keyed part that lacks room needs one area, and none is free to it.
 pub room-lacks : (shape : Shape) (known : Known) (image : Image) (free : ℕ) (kept : Lengths)
@@ -71,8 +79,17 @@ pub room-lacks : (shape : Shape) (known : Known) (image : Image) (free : ℕ) (k
     → NoSpace need left ≡ lacks_area
 room-lacks (NumberedShape part) known image free kept place n need left keyed is = absurd keyed
 room-lacks (KeyedShape part) known image free kept place n need left keyed is =
-    lacks-after (keyed_stage part known.split image place) (keyed_fits part image kept place n)
-    known.split (free_interval part (block_at image part.head)) need left is
+    by_area (area_for part image place) is
+  where
+    by_area : (found : Option ℕ)
+        → keyed_room_by part known.split image kept place n found ≡ answers.NoSpace need left
+        → NoSpace need left ≡ lacks_area
+    by_area None one = needs-one need left one
+    by_area (Some area) one =
+        let here : KeyedArea = area_of part area in
+        lacks-after (area_stage here (split_in known.split area) image place)
+        (area_fits here image kept place n) (stage_under known.split)
+        (free_interval here (block_at image here.head)) need left one
 
 module _ (store : StoreNow) (image : Image) (number : ℕ) (place : List ℕ) (n need left : ℕ)
     (laid : part_among store.parts number ≢ None)

@@ -40,7 +40,7 @@ use Rattle.vr_catalog.proofs.EntryRead.{entry_read}
 use Rattle.vr_catalog.proofs.NameLemmas.{name_is_dataset}
 use Rattle.vr_catalog.proofs.RecordLemmas.{length-padded}
 use Rattle.vr_space.specs.Keyed.{key_of}
-use Rattle.vr_split.proofs.Heads.{most-place}
+use Rattle.vr_space.proofs.CallerLemmas.{most-place}
 use Rattle.vr_volume.specs.CatalogRules.{IsEntryOf, has_intervals_by, has_sizes_by, is_over_by}
 use Rattle.vr_volume.specs.CatalogRules.{related_in}
 use Rattle.vr_volume.specs.Laid.{shape_from, shape_of}
@@ -48,7 +48,7 @@ use Rattle.vr_format.specs.Fit.{AreTaken, IsNext, IsTaken, in_area}
 use Rattle.vr_format.specs.Formatted.{place_of}
 use Rattle.vr_format.specs.InOrder.{AreElsewhere}
 use Rattle.vr_format.specs.Planned.{IsCluster, IsClusterOf, MayBeKeyed, MayBeNumbered}
-use Rattle.vr_format.specs.Planned.{catalog_keyed, cluster_shape}
+use Rattle.vr_format.specs.Planned.{catalog_area, cluster_shape}
 use Rattle.vr_format.proofs.Taken.{there-in-take}
 
 -- A cluster of the list.
@@ -278,7 +278,7 @@ name-bytes text is = All-from_get_or (λ (b : ℕ). b < 256) text 0
 
 -- a record begins with its name and blanks
 pub place-is : (geometry : Geometry) (entry : CatEntry)
-    → key_of (catalog_keyed geometry) (spelling entry) ≡ padded 44 entry.name
+    → key_of (catalog_area geometry) (spelling entry) ≡ padded 44 entry.name
 unfolding spelling
 place-is geometry entry =
     let name : List ℕ = padded 44 entry.name in
@@ -306,7 +306,7 @@ padded-bytes size text all = All-append (λ (b : ℕ). b < 256) (take size text)
     (All-replicate (λ (b : ℕ). b < 256) (size - length text) 32 (omega arith))
 
 pub place-within : (geometry : Geometry) (entry : CatEntry) → IsTrue (is_entry entry)
-    → IsTrue (is_le (place_cmp (key_of (catalog_keyed geometry) (spelling entry))
+    → IsTrue (is_le (place_cmp (key_of (catalog_area geometry) (spelling entry))
     (replicate 44 255)))
 place-within geometry entry is =
     subst (λ (p : List ℕ). is_le (place_cmp p (replicate 44 255)) ≡ true)

@@ -1,8 +1,9 @@
 -- What a new cluster stands for: no record, in one area of the volume.
 use Rattle.std.proofs.Common.{◌≡◌, ◌+◌, ◌*◌, ◌<◌, ℕ, zero, suc, List, [], ◌∷◌, ◌++◌}
-use Rattle.std.proofs.Common.{refl, sym, ap, subst, arith, Option, Some, None}
+use Rattle.std.proofs.Common.{refl, sym, ap, subst, arith, Option, Some, None, ◌∙◌}
 use Rattle.std.specs.Prelude.{Contains}
 use Rattle.std.proofs.lemmas.List.Elements.{All-contains, All-cons, All-nil}
+use Rattle.vr_types.specs.Content.{Content}
 use Rattle.vr_types.specs.Geometry.{IsAllowed, area_count, head_block}
 use Rattle.vr_types.specs.Image.{Block, Image, block_at}
 use Rattle.vr_types.specs.declared.geometry.Geometry.{Geometry}
@@ -13,6 +14,7 @@ use Rattle.vr_catalog.specs.declared.entry.CatEntry.{CatEntry}
 use Rattle.vr_seqset.specs.Roster.{IsRoster, Roster}
 use Rattle.vr_seqset.specs.Reading.{roster_in}
 use Rattle.vr_seqset.proofs.CallerLemmas.{roster_is}
+use Rattle.vr_space.specs.Areas.{KeyedChain}
 use Rattle.vr_space.specs.Part.{InFirstArea, KeyedShape, NumberedShape, Shape, StandsFor}
 use Rattle.vr_space.specs.Rosters.{Chains, IsChainedBy, IsNumbered, IsNextOf, IsOf, Numbered}
 use Rattle.vr_space.specs.Rosters.{after_next, areas_from, interval_in, roster_block}
@@ -20,7 +22,7 @@ use Rattle.vr_space.specs.Numbered.{IsFilled, NumberedStandsFor, items_from, ite
 use Rattle.vr_space.specs.Numbered.{start_of}
 use Rattle.vr_attach.specs.Laid.{shape_by_kind}
 use Rattle.vr_volume.specs.Volume.{IsInside}
-use Rattle.vr_mount.proofs.CallerLemmas.{area-on}
+use Rattle.vr_attach.proofs.CallerLemmas.{alone-reaches}
 use Rattle.vr_format.specs.Formatted.{HasOneArea}
 use Rattle.vr_format.specs.Planned.{BeginsEmpty, InAreaAt, IsCluster, IsClusterOf, IsNew, IsNewOf}
 use Rattle.vr_format.specs.Planned.{MayBeNumbered}
@@ -97,6 +99,15 @@ pub record IsMade (geometry : Geometry) (shape : Shape) (image : Image) : Type 0
   pub stands : StandsFor shape image []
   pub alone : HasOneArea geometry shape image
 
+-- a keyed part reaches its first area alone
+pub one-alone : (geometry : Geometry) (part : KeyedChain) (image : Image) (content : Content)
+    → part.geometry ≡ geometry → StandsFor (KeyedShape part) image content
+    → HasOneArea geometry (KeyedShape part) image
+one-alone geometry part image content is stands = λ area reaches.
+    ap (head_block part.geometry)
+    (sym (alone-reaches part image (content, stands) geometry area reaches))
+    ∙ ap (λ (g : Geometry). head_block g area) is
+
 some-shape : (x y : Shape) → Some x ≡ Some y → x ≡ y
 some-shape x y same = cc
 
@@ -123,9 +134,9 @@ module _ (geometry : Geometry) (allowed : IsAllowed geometry) (area : ℕ) (entr
   new-by kinds.Keyed may image new shape is =
       subst (λ (s : Shape). IsMade geometry s image)
       (some-shape (KeyedShape (cluster_keyed geometry area entry)) shape is) (record {
-        inside = (area-on geometry area there, refl);
+        inside = (record { allowed = allowed; first = there; fits = may.most }, refl);
         stands = new;
-        alone = λ at reaches. reaches;
+        alone = one-alone geometry (cluster_keyed geometry area entry) image [] refl new;
       })
   new-by kinds.Entry may image new shape is =
       subst (λ (s : Shape). IsMade geometry s image)

@@ -33,7 +33,7 @@ use Rattle.vr_attach.specs.Laid.{AreApart}
 use Rattle.vr_mount.proofs.CallerLemmas.{area-before, two-areas}
 use Rattle.vr_format.specs.Formatted.{catalog_of, first_entries, first_entry}
 use Rattle.vr_format.specs.Planned.{ArePlanned, HasHead, IsCluster, IsOneOf, MayStand}
-use Rattle.vr_format.specs.Planned.{catalog_keyed, cluster_keyed, cluster_shape}
+use Rattle.vr_format.specs.Planned.{catalog_area, cluster_keyed, cluster_shape, first_area}
 
 -- ---- the entry
 
@@ -115,7 +115,7 @@ module _ (geometry : Geometry) (allowed : IsAllowed geometry) where
   first-catalog : IsCatalog geometry (catalog_of (first_entry ∷ []))
   first-catalog = record {
     spelled = All-cons (λ (placed : List ℕ × List ℕ). IsTrue (is_some (entry_of placed.1)))
-        (key_of (catalog_keyed geometry) (spelling first_entry), spelling first_entry) []
+        (key_of (catalog_area geometry) (spelling first_entry), spelling first_entry) []
         (ap is_some spelled)
         (All-nil (λ (placed : List ℕ × List ℕ). IsTrue (is_some (entry_of placed.1))));
     parts = subst (λ (entries : List CatEntry). IsDistinct nat_eq (0 ∷ parts_in entries))
@@ -274,8 +274,8 @@ module _ (geometry : Geometry) (allowed : IsAllowed geometry) where
     number = omega (arith, small, part-is);
   }
 
-  pub catalog-head : HasHead (catalog_keyed geometry)
-  catalog-head = has-head 0 44 (omega arith) (omega arith) (omega arith) (catalog_keyed geometry)
+  pub catalog-head : HasHead (catalog_area geometry)
+  catalog-head = has-head 0 44 (omega arith) (omega arith) (omega arith) (catalog_area geometry)
       refl refl refl refl
 
   first-cluster : IsCluster geometry first_entry
@@ -283,7 +283,7 @@ module _ (geometry : Geometry) (allowed : IsAllowed geometry) where
     kind = refl;
     organised = record {
       head = has-head 1 8 (omega arith) (omega arith) (omega arith)
-          (cluster_keyed geometry 0 first_entry) refl refl refl refl;
+          (first_area (cluster_keyed geometry 0 first_entry)) refl refl refl refl;
       most = omega (arith, block_size_least geometry.size allowed.size);
     };
   }
@@ -297,22 +297,22 @@ module _ (geometry : Geometry) (allowed : IsAllowed geometry) where
   first-length = refl
 
   first-within : IsTrue (is_le (place_cmp
-      (key_of (catalog_keyed geometry) (spelling first_entry)) (replicate 44 255)))
+      (key_of (catalog_area geometry) (spelling first_entry)) (replicate 44 255)))
   unfolding spelling padded two four
   first-within = refl
 
-  first-stands : MayStand (catalog_keyed geometry) (first_entry ∷ [])
+  first-stands : MayStand (catalog_area geometry) (first_entry ∷ [])
   first-stands = record {
-    valid = All-cons (λ (entry : CatEntry). IsValid (catalog_keyed geometry) (spelling entry))
+    valid = All-cons (λ (entry : CatEntry). IsValid (catalog_area geometry) (spelling entry))
         first_entry [] (record {
           least = omega (arith, first-length);
           most = omega (arith, first-length);
-        }) (All-nil (λ (entry : CatEntry). IsValid (catalog_keyed geometry) (spelling entry)));
-    ascends = sorted-one (key_of (catalog_keyed geometry) (spelling first_entry));
+        }) (All-nil (λ (entry : CatEntry). IsValid (catalog_area geometry) (spelling entry)));
+    ascends = sorted-one (key_of (catalog_area geometry) (spelling first_entry));
     within = All-cons (λ (entry : CatEntry). IsTrue (is_le (place_cmp
-        (key_of (catalog_keyed geometry) (spelling entry)) (replicate 44 255))))
+        (key_of (catalog_area geometry) (spelling entry)) (replicate 44 255))))
         first_entry [] first-within (All-nil (λ (entry : CatEntry). IsTrue (is_le (place_cmp
-        (key_of (catalog_keyed geometry) (spelling entry)) (replicate 44 255)))));
+        (key_of (catalog_area geometry) (spelling entry)) (replicate 44 255)))));
     room = omega (arith, block_size_least geometry.size allowed.size);
   }
 
@@ -340,7 +340,7 @@ module _ (geometry : Geometry) (allowed : IsAllowed geometry) where
     catalog = empty-catalog;
     apart = empty-apart;
     content = refl;
-    records = none-stand (catalog_keyed geometry);
+    records = none-stand (catalog_area geometry);
     served = All-nil (IsCluster geometry);
     areas = omega (arith, two-areas geometry allowed);
     laid = λ part shape some is. other part shape some (laid-in-none part shape is);

@@ -1,16 +1,17 @@
--- What the blocks of a part stand for that has one interval in use, by its head and that interval.
-use Rattle.std.proofs.Common.{◌≡◌, ◌+◌, ℕ, List, [], ◌∷◌, ◌++◌, length, refl, sym, ap}
-use Rattle.std.proofs.Common.{subst, ◌∙◌, arith, Option, None}
+-- What the blocks of an area stand for that has one interval in use, by its head and that interval.
+use Rattle.std.proofs.Common.{◌≡◌, ◌+◌, ℕ, Bool, List, [], ◌∷◌, ◌++◌, length, refl, sym, ap}
+use Rattle.std.proofs.Common.{subst, ◌∙◌, arith, Option, None, Some}
+use Rattle.std.specs.Prelude.{cond}
 use Rattle.vr_types.specs.Content.{Content}
 use Rattle.vr_types.specs.Image.{Block, Image, block_at}
 use Rattle.vr_ci_match.specs.declared.form.Form.TheVariants.{Plain}
 use Rattle.vr_ci.specs.Interval as ci
-use Rattle.vr_space.specs.Keyed.{HoldRanges, IsHead, IsWhole, Keyed, content_from}
-use Rattle.vr_space.specs.Keyed.{entries_of, entry_block, low_of, records_in, HoldsRange}
-use Rattle.vr_space.specs.Part.{KeyedShape, StandsFor}
-use Rattle.vr_space.proofs.CallerLemmas.{whole-low}
+use Rattle.vr_seqset.specs.Reading.{record_in}
+use Rattle.vr_space.specs.Keyed.{HoldRanges, HoldsRange, IsHead, Keyed, content_from}
+use Rattle.vr_space.specs.Keyed.{entries_of, entry_block, low_of, records_in}
 use Rattle.vr_catalog.specs.declared.entry.CatEntry.{CatEntry}
-use Rattle.vr_format.specs.Planned.{MayStand, all_places, content_of}
+use Rattle.vr_attach.specs.Damage.{IsWhole}
+use Rattle.vr_format.specs.Planned.{MayStand, StandsWholeFor, all_places, content_of}
 use Rattle.vr_format.proofs.Records.{holds-all, records-are, value_of, whole_range}
 
 append-none : (content : Content) → content ++ [] ≡ content
@@ -23,33 +24,32 @@ pub one-stands : (part : Keyed) (entries : List CatEntry) (image : Image) (top b
     → MayStand part entries → length block ≡ part.size
     → ci.IsInterval Plain block (value_of entries)
     → block_at image part.head ≡ top → block_at image (part.head + 1) ≡ block
-    → StandsFor (KeyedShape part) image (content_of part entries)
-one-stands part entries image top block head whole one stand size interval at-head at-block = (
-  record {
-    head = subst (IsHead part) (sym at-head) head;
-    intervals = subst (λ (low : Option (List ℕ)). HoldRanges part image low
-        (entries_of (block_at image part.head))) (sym no-low)
-        (subst (HoldRanges part image None) (sym both) (
-          subst (HoldsRange part (whole_range part)) (sym here)
-              (holds-all part entries block stand size interval),
-          tt,
-        ));
-    records = sym (ap (λ (low : Option (List ℕ)). content_from part image low
-        (entries_of (block_at image part.head))) no-low
-        ∙ ap (content_from part image None) both
-        ∙ append-none (records_in part (whole_range part)
-        (block_at image (entry_block part (all_places part.key))))
-        ∙ ap (records_in part (whole_range part)) here
-        ∙ records-are part entries block stand size interval);
-  },
-  whole-there,
-)
+    → StandsWholeFor part image (content_of part entries)
+one-stands part entries image top block head whole one stand size interval at-head at-block =
+    record {
+      stands = record {
+        head = subst (IsHead part) (sym at-head) head;
+        intervals = subst (λ (low : Option (List ℕ)). HoldRanges part image low
+            (entries_of (block_at image part.head))) (sym no-low)
+            (subst (HoldRanges part image None) (sym both) (
+              subst (HoldsRange part (whole_range part)) (sym here)
+                  (holds-all part entries block stand size interval),
+              tt,
+            ));
+        records = sym (ap (λ (low : Option (List ℕ)). content_from part image low
+            (entries_of (block_at image part.head))) no-low
+            ∙ ap (content_from part image None) both
+            ∙ append-none (records_in part (whole_range part)
+            (block_at image (entry_block part (all_places part.key))))
+            ∙ ap (records_in part (whole_range part)) here
+            ∙ records-are part entries block stand size interval);
+      };
+      whole = subst (IsWhole part) (sym at-head) whole;
+    }
   where
-    whole-there : IsWhole part (block_at image part.head)
-    whole-there = subst (IsWhole part) (sym at-head) whole
-
     no-low : low_of (block_at image part.head) ≡ None
-    no-low = whole-low part (block_at image part.head) whole-there
+    no-low = ap low_of at-head
+        ∙ ap (λ (b : Bool). cond b None (Some (record_in top).low)) whole.first
 
     both : entries_of (block_at image part.head) ≡ all_places part.key ∷ []
     both = ap entries_of at-head ∙ one

@@ -37,7 +37,7 @@ use Rattle.vr_format.specs.Fit.{AreTaken, IsFormattedWith}
 use Rattle.vr_format.specs.Formatted.{IsFormatted, catalog_of, first_entry, place_of}
 use Rattle.vr_format.specs.InOrder.{AreInOrder, placed_entry}
 use Rattle.vr_format.specs.Planned.{ArePlanned, ArePlannedFor, InAreaAt, IsCluster, IsOneOf}
-use Rattle.vr_format.specs.Planned.{MayStand, catalog_keyed}
+use Rattle.vr_format.specs.Planned.{MayStand, catalog_area}
 use Rattle.vr_format.proofs.NewParts.{in-its-area}
 use Rattle.vr_format.proofs.Members.{IsMember, is-cluster, member-all, member-shape, next-at}
 use Rattle.vr_format.proofs.Members.{number-is, place-within, rules-any}
@@ -311,7 +311,7 @@ module _ (geometry : Geometry) (allowed : IsAllowed geometry)
         omega (arith, few, two-areas geometry allowed),
       )
 
-  stand-is : MayStand (catalog_keyed geometry) ordered
+  stand-is : MayStand (catalog_area geometry) ordered
   stand-is = record {
     valid = λ k d within. record {
       least = omega (arith, length-spelling (get_or ordered k d));
@@ -321,7 +321,7 @@ module _ (geometry : Geometry) (allowed : IsAllowed geometry)
         (subst Ascends (sym sorted.records) (ascends-catalog clusters));
     within = All-weaker Member
         (λ (entry : CatEntry). IsTrue (is_le
-        (place_cmp (key_of (catalog_keyed geometry) (spelling entry)) (replicate 44 255))))
+        (place_cmp (key_of (catalog_area geometry) (spelling entry)) (replicate 44 255))))
         (λ entry member. place-within geometry entry member.entry_is) ordered all-ordered;
     room = omega (arith, bounds.0, count-same);
   }

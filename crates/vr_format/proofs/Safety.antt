@@ -11,6 +11,7 @@ use Rattle.vr_types.specs.Image.{Image}
 use Rattle.vr_types.specs.Space.{all_free}
 use Rattle.vr_types.specs.declared.geometry.Geometry.{Geometry}
 use Rattle.vr_types.specs.declared.unit.PartNo.{PartNo}
+use Rattle.vr_space.specs.Areas.{KeyedChain, areas_after, areas_in, most_areas}
 use Rattle.vr_space.specs.Part.{KeyedShape, NumberedShape, Shape, Stands}
 use Rattle.vr_space.specs.Rosters.{Numbered, areas_from, chain_of}
 use Rattle.vr_space.proofs.CallerLemmas.{content_item, item-read, stands_content}
@@ -50,7 +51,9 @@ no-shape shape is = cc
 -- a part that is on blocks that the volume has begins with an area that ends there
 inside-ends : (geometry : Geometry) (shape : Shape) → IsInside geometry shape
     → EndsBefore geometry.blocks shape
-inside-ends geometry (KeyedShape part) inside = inside.0
+inside-ends geometry (KeyedShape part) inside =
+    subst (λ (g : Geometry). head_block part.geometry part.first + part.geometry.area < g.blocks)
+    inside.1 (area-on part.geometry part.first inside.0.first)
 inside-ends geometry (NumberedShape part) inside =
     subst (λ (g : Geometry). head_block part.geometry part.first + part.geometry.area < g.blocks)
     inside.1 (area-on part.geometry part.first inside.0.first)
@@ -60,21 +63,32 @@ first-of-chain : (part : Numbered) (image : Image) (k : ℕ) → 0 < k
 first-of-chain part image zero some = absurd (omega (arith, some))
 first-of-chain part image (suc k) some = (0, omega arith, refl)
 
+first-of-areas : (part : KeyedChain) (image : Image) (k : ℕ) → 0 < k
+    → Contains (areas_after part image k part.first) part.first
+first-of-areas part image zero some = absurd (omega (arith, some))
+first-of-areas part image (suc k) some = (0, omega arith, refl)
+
+-- which area that is
+begins-at : (geometry own : Geometry) (first area : ℕ) → own ≡ geometry
+    → head_block own first ≡ head_block geometry area → first ≡ area
+begins-at geometry own first area inside begins =
+    let begun : head_block geometry first ≡ head_block geometry area =
+    subst (λ (g : Geometry). head_block g first ≡ head_block geometry area) inside begins in
+    one_area (1 + geometry.log) geometry.area first area (head_block geometry area)
+    (omega (arith, begun)) (omega (arith, begun)) (omega arith) (omega arith)
+
 -- it reaches that area
 first-reached : (geometry : Geometry) (area : ℕ) (shape : Shape) (image : Image)
     → IsInside geometry shape → BeginsWith (head_block geometry area) shape
     → ReachesArea geometry shape image area
-first-reached geometry area (KeyedShape part) image inside begins = begins
+first-reached geometry area (KeyedShape part) image inside begins =
+    subst (λ (at : ℕ). Contains (areas_in part image) at)
+    (begins-at geometry part.geometry part.first area inside.1 begins)
+    (first-of-areas part image most_areas (omega arith))
 first-reached geometry area (NumberedShape part) image inside begins =
-    let same : part.first ≡ area = one_area (1 + geometry.log) geometry.area part.first area
-    (head_block geometry area) (omega (arith, begun)) (omega (arith, begun)) (omega arith)
-    (omega arith) in
-    subst (λ (at : ℕ). Contains (chain_of part image) at) same
+    subst (λ (at : ℕ). Contains (chain_of part image) at)
+    (begins-at geometry part.geometry part.first area inside.1 begins)
     (first-of-chain part image (area_count part.geometry) (omega (arith, inside.0.first)))
-  where
-    begun : head_block geometry part.first ≡ head_block geometry area
-    begun = subst (λ (g : Geometry). head_block g part.first ≡ head_block geometry area) inside.1
-        begins
 
 module _ (geometry : Geometry) (number : ℕ) (entries : List CatEntry) (image : Image)
     (formatted : IsFormatted geometry number entries image) where

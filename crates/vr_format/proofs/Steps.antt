@@ -16,10 +16,10 @@ use Rattle.vr_types.specs.Seen.{Seen}
 use Rattle.vr_types.specs.declared.geometry.Geometry.{Geometry}
 use Rattle.vr_types.specs.declared.unit.Kind.{Kind}
 use Rattle.vr_types.specs.declared.unit.Kind.TheVariants as kinds
-use Rattle.vr_types.proofs.CallerLemmas.{during-weaken}
-use Rattle.vr_types.proofs.CallerLemmas.{puts-touches}
+use Rattle.vr_types.proofs.CallerLemmas.{block_size_least, during-weaken, puts-touches}
 use Rattle.vr_catalog.specs.declared.entry.CatEntry.{CatEntry}
-use Rattle.vr_space.specs.Keyed.{InArea, Keyed}
+use Rattle.vr_space.specs.Areas.{IsKeyedChain, KeyedChain}
+use Rattle.vr_space.specs.Keyed.{InArea}
 use Rattle.vr_space.specs.Part.{KeyedShape, Shape, StandsFor}
 use Rattle.vr_space.specs.Rosters.{Numbered, roster_block}
 use Rattle.vr_seqset.specs.Roster.{IsRoster}
@@ -28,12 +28,14 @@ use Rattle.vr_catalog.specs.Catalog.{definition_in, entries_in, entry_with_part}
 use Rattle.vr_volume.specs.Laid.{catalog_shape, shape_by, shape_of}
 use Rattle.vr_volume.specs.Volume.{IsInside}
 use Rattle.vr_mount.specs.Touched.{Anything}
-use Rattle.vr_mount.proofs.CallerLemmas.{area-before, area-on, keyed-same, two-areas}
+use Rattle.vr_attach.proofs.CallerLemmas.{alone-each}
+use Rattle.vr_mount.proofs.CallerLemmas.{IsAreaSame, area-before, keyed-same, two-areas}
 use Rattle.vr_format.specs.Formatted.{HasOneArea, IsFormatted, IsWritten, catalog_of}
 use Rattle.vr_format.specs.Planned.{AreNew, ArePlanned, BeginsEmpty, InAreaAt, InClusters}
-use Rattle.vr_format.specs.Planned.{IsCluster, IsNew, IsNewOf, IsOneOf, catalog_keyed}
-use Rattle.vr_format.specs.Planned.{cluster_keyed, cluster_numbered, content_of, first_roster}
-use Rattle.vr_format.proofs.NewParts.{IsMade, new-made}
+use Rattle.vr_format.specs.Planned.{IsCluster, IsNew, IsNewOf, IsOneOf, catalog_area}
+use Rattle.vr_format.specs.Planned.{catalog_keyed, cluster_keyed, cluster_numbered, content_of}
+use Rattle.vr_format.specs.Planned.{first_area, first_roster}
+use Rattle.vr_format.proofs.NewParts.{IsMade, new-made, one-alone}
 
 -- what puts into some blocks puts into more
 pub touches-more : (less more : ℕ → Type 0) (old new : Seen) → ((n : ℕ) → less n → more n)
@@ -68,12 +70,18 @@ pub touches-put : (tells : Bool) (region : ℕ → Type 0) (n : ℕ) (bytes : Bl
 touches-put tells region n bytes a b told inside call =
     puts-touches tells region Anything n bytes a b told inside call (λ image left. tt)
 
--- a keyed part of the volume that isn't written stays
-pub part-stays : (part : Keyed) (region : ℕ → Type 0) (old new : Seen) (content : Content)
-    → ((n : ℕ) → InArea part n → region n → ⊥) → Touches region Anything old new
+-- a keyed part stays where its first area isn't written
+one-stays : (part : KeyedChain) (old new : Image) (content : Content)
+    → IsAreaSame part old new part.first → StandsFor (KeyedShape part) old content
+    → StandsFor (KeyedShape part) new content
+one-stays part old new content same stands = keyed-same part old new
+    (alone-each part old (content, stands) (IsAreaSame part old new) same) content stands
+
+pub part-stays : (part : KeyedChain) (region : ℕ → Type 0) (old new : Seen) (content : Content)
+    → ((n : ℕ) → InArea (first_area part) n → region n → ⊥) → Touches region Anything old new
     → StandsFor (KeyedShape part) old.cur content → StandsFor (KeyedShape part) new.cur content
 part-stays part region old new content apart call =
-    keyed-same part old.cur new.cur (λ n here. call.content n (apart n here)) content
+    one-stays part old.cur new.cur content (λ n here. call.content n (apart n here))
 
 -- ---- clusters
 
@@ -111,7 +119,7 @@ new-stays : (geometry : Geometry) (area : ℕ) (entry : CatEntry) (kind : Kind) 
     → ((n : ℕ) → InAreaAt geometry area n → block_at new n ≡ block_at old n)
     → IsNewOf geometry area entry old kind → IsNewOf geometry area entry new kind
 new-stays geometry area entry kinds.Keyed old new same is =
-    keyed-same (cluster_keyed geometry area entry) old new same [] is
+    one-stays (cluster_keyed geometry area entry) old new [] same is
 new-stays geometry area entry kinds.Entry old new same is =
     begins-stays (cluster_numbered geometry area entry) old new
     (same (head_block geometry area) (omega arith, omega arith)) is
@@ -145,7 +153,7 @@ pub in-start : (geometry : Geometry) (clusters n : ℕ) → n ≤ 1 → IsWritte
 in-start geometry clusters n here = inl here
 
 pub in-catalog : (geometry : Geometry) (clusters n : ℕ)
-    → InArea (catalog_keyed geometry) n → IsWritten geometry clusters n
+    → InArea (catalog_area geometry) n → IsWritten geometry clusters n
 in-catalog geometry clusters n here =
     let before = area-before geometry 0 (clusters + 1) (omega arith) in
     inr (here.0, omega (arith, before, here.1))
@@ -162,8 +170,8 @@ pub record Steps (geometry : Geometry) (number : ℕ) (entries clusters : List C
   pub header : block_at second.cur 0 ≡ header_block geometry number
   pub log : block_at second.cur 1 ≡ replicate geometry.size 0
   pub catalog : StandsFor (KeyedShape (catalog_keyed geometry)) third.cur
-      (content_of (catalog_keyed geometry) entries)
-  pub to_third : Touches (InArea (catalog_keyed geometry)) Anything second third
+      (content_of (catalog_area geometry) entries)
+  pub to_third : Touches (InArea (catalog_area geometry)) Anything second third
   pub new : AreNew geometry clusters (length clusters) last.cur
   pub to_last : Touches (InClusters geometry (length clusters)) Anything third last
 
@@ -179,13 +187,25 @@ module _ (geometry : Geometry) (number : ℕ) (entries clusters : List CatEntry)
       ∙ steps.to_third.content n
       (λ inside. absurd (omega (arith, inside.0, small, allowed.some_log)))
 
-  catalog-stays : StandsFor (catalog_shape geometry) last.cur (catalog_of entries)
+  catalog-stays : StandsFor (KeyedShape (catalog_keyed geometry)) last.cur
+      (content_of (catalog_area geometry) entries)
   catalog-stays =
-      subst (StandsFor (catalog_shape geometry) last.cur) (sym planned.content)
-      (part-stays (catalog_keyed geometry) (InClusters geometry (length clusters))
-      third last (content_of (catalog_keyed geometry) entries)
+      part-stays (catalog_keyed geometry) (InClusters geometry (length clusters))
+      third last (content_of (catalog_area geometry) entries)
       (λ n here also. let before = area-before geometry 0 1 (omega arith) in
-      absurd (omega (arith, here.1, also.0, before))) steps.to_last steps.catalog)
+      absurd (omega (arith, here.1, also.0, before))) steps.to_last steps.catalog
+
+  catalog-stands : StandsFor (catalog_shape geometry) last.cur (catalog_of entries)
+  catalog-stands = subst (StandsFor (catalog_shape geometry) last.cur) (sym planned.content)
+      catalog-stays
+
+  -- the catalog's part is there, and its records have room
+  catalog-chain : IsKeyedChain (catalog_keyed geometry)
+  catalog-chain = record {
+    allowed = allowed;
+    first = omega (arith, two-areas geometry allowed);
+    fits = omega (arith, block_size_least geometry.size allowed.size);
+  }
 
   below-of : (xs : List CatEntry) (at : ℕ) (entry : CatEntry)
       → slice_get xs at ≡ Some entry → at < length xs
@@ -228,20 +248,22 @@ module _ (geometry : Geometry) (number : ℕ) (entries clusters : List CatEntry)
       → shape_by geometry (catalog_of entries) part ≡ Some shape
       → StandsFor shape last.cur (cond is (catalog_of entries) [])
   laid-by part shape true is there = subst (λ (s : Shape). StandsFor s last.cur (catalog_of entries))
-      (catalog-is part shape is there) catalog-stays
+      (catalog-is part shape is there) catalog-stands
   laid-by part shape false is there = (cluster-made shape (one-of part shape is there)).stands
 
   inside-by : (part : ℕ) (shape : Shape) (is : Bool) → nat_eq part 0 ≡ is
       → shape_by geometry (catalog_of entries) part ≡ Some shape → IsInside geometry shape
   inside-by part shape true is there = subst (IsInside geometry) (catalog-is part shape is there)
-      (area-on geometry 0 (omega (arith, two-areas geometry allowed)), refl)
+      (catalog-chain, refl)
   inside-by part shape false is there = (cluster-made shape (one-of part shape is there)).inside
 
   alone-by : (part : ℕ) (shape : Shape) (is : Bool) → nat_eq part 0 ≡ is
       → shape_by geometry (catalog_of entries) part ≡ Some shape
       → HasOneArea geometry shape last.cur
   alone-by part shape true is there = subst (λ (s : Shape). HasOneArea geometry s last.cur)
-      (catalog-is part shape is there) (λ area reaches. reaches)
+      (catalog-is part shape is there)
+      (one-alone geometry (catalog_keyed geometry) last.cur
+      (content_of (catalog_area geometry) entries) refl catalog-stays)
   alone-by part shape false is there = (cluster-made shape (one-of part shape is there)).alone
 
   pub all-made : length last.cur ≡ geometry.blocks → IsFormatted geometry number entries last.cur

@@ -19,7 +19,8 @@ use Rattle.vr_seqset.specs.SequenceSet.{IsSequenceSet, KeepsRules, SequenceSet, 
 use Rattle.vr_seqset.proofs.CallerLemmas.{length-entry_bytes, length-spelling, record_is}
 use Rattle.vr_seqset.specs.Writing.{with_entry}
 use Rattle.vr_seqset.proofs.CallerLemmas.{earlier_keep}
-use Rattle.vr_space.specs.Keyed.{IsHead, IsWhole as IsWholePart, Keyed, entries_of}
+use Rattle.vr_space.specs.Keyed.{IsHead, Keyed, entries_of}
+use Rattle.vr_attach.specs.Damage.{IsWhole as IsWholePart}
 use Rattle.vr_format.specs.Planned.{HasHead, all_places, one_head}
 
 -- an area of which an interval is used has room for its entry

@@ -16,7 +16,8 @@ use Rattle.vr_seqset.specs.Entry.{Entry}
 use Rattle.vr_seqset.specs.Numbers.{intervals_used}
 use Rattle.vr_seqset.specs.Roster.{IsRoster, Roster}
 use Rattle.vr_seqset.specs.SequenceSet.{SequenceSet}
-use Rattle.vr_space.specs.Keyed.{Keyed, IsValid, key_of}
+use Rattle.vr_space.specs.Areas.{KeyedChain, area_of}
+use Rattle.vr_space.specs.Keyed.{Keyed, KeyedStandsFor, IsValid, key_of}
 use Rattle.vr_space.specs.Part.{Shape, KeyedShape, StandsFor}
 use Rattle.vr_space.specs.Rosters.{Numbered, roster_block}
 use Rattle.vr_catalog.specs.Catalog.{definition_in}
@@ -24,13 +25,14 @@ use Rattle.vr_catalog.specs.Definition.{catalog_definition}
 use Rattle.vr_catalog.specs.Record.{spelling}
 use Rattle.vr_catalog.specs.declared.entry.CatEntry.{CatEntry}
 use Rattle.vr_catalog.specs.declared.entry.EntryKind.TheVariants.{Cluster}
+use Rattle.vr_attach.specs.Damage.{IsWhole}
 use Rattle.vr_attach.specs.Laid.{AreApart, keyed_part, numbered_part, shape_by_kind}
 use Rattle.vr_volume.specs.CatalogRules.{IsCatalog}
 use Rattle.vr_volume.specs.Laid.{shape_by}
 use Rattle.vr_format.specs.Fit.{AreTaken}
 use Rattle.vr_format.specs.Formatted.{catalog_of}
 
--- ---- a part with one interval in use
+-- ---- an area with one interval in use
 
 -- interval 0 has all places
 abbrev pub all_places : ℕ → Entry
@@ -48,7 +50,7 @@ one_head part = record {
   entries = all_places part.key ∷ [];
 }
 
--- A part may have such a head.
+-- An area of a part may have such a head.
 pub record HasHead (part : Keyed) : Type 0 where
   pub size : IsBlockSize part.size
   pub key : 0 < part.key
@@ -75,10 +77,23 @@ pub record MayStand (part : Keyed) (entries : List CatEntry) : Type 0 where
       IsTrue (is_le (place_cmp (key_of part (spelling entry)) (replicate part.key 255)))) entries
   pub room : 207 * length entries ≤ part.size - 4
 
+-- The blocks of an area stand for the content, under the head of a part of one area.
+pub record StandsWholeFor (part : Keyed) (image : Image) (content : Content) : Type 0 where
+  pub stands : KeyedStandsFor part image content
+  pub whole : IsWhole part (block_at image part.head)
+
+-- ---- a part of one area
+
+abbrev pub first_area : KeyedChain → Keyed
+first_area part = area_of part part.first
+
 -- ---- a volume
 
-abbrev pub catalog_keyed : Geometry → Keyed
+abbrev pub catalog_keyed : Geometry → KeyedChain
 catalog_keyed geometry = keyed_part geometry 0 0 catalog_definition
+
+abbrev pub catalog_area : Geometry → Keyed
+catalog_area geometry = first_area (catalog_keyed geometry)
 
 -- the blocks of an area
 abbrev pub InAreaAt : Geometry → ℕ → ℕ → Type 0
@@ -86,7 +101,7 @@ InAreaAt geometry area n =
     (head_block geometry area ≤ n) × (n ≤ head_block geometry area + geometry.area)
 
 -- a cluster in this area, by its kind
-abbrev pub cluster_keyed : Geometry → ℕ → CatEntry → Keyed
+abbrev pub cluster_keyed : Geometry → ℕ → CatEntry → KeyedChain
 cluster_keyed geometry area entry = keyed_part geometry entry.part.0 area (definition_in entry)
 
 abbrev pub cluster_numbered : Geometry → ℕ → CatEntry → Numbered
@@ -99,7 +114,7 @@ cluster_shape geometry area entry =
 
 -- A key-sequenced one may have a head, and each of its records has room in an interval of its own.
 pub record MayBeKeyed (geometry : Geometry) (entry : CatEntry) : Type 0 where
-  pub head : HasHead (cluster_keyed geometry 0 entry)
+  pub head : HasHead (first_area (cluster_keyed geometry 0 entry))
   pub most : entry.maximum + 7 ≤ geometry.size
 
 -- An entry-sequenced or relative one has records, each with room in an interval.
@@ -159,8 +174,8 @@ pub record IsOneOf (geometry : Geometry) (clusters : List CatEntry) (shape : Sha
 pub record ArePlanned (geometry : Geometry) (entries clusters : List CatEntry) : Type 0 where
   pub catalog : IsCatalog geometry (catalog_of entries)
   pub apart : AreApart (shape_by geometry (catalog_of entries))
-  pub content : catalog_of entries ≡ content_of (catalog_keyed geometry) entries
-  pub records : MayStand (catalog_keyed geometry) entries
+  pub content : catalog_of entries ≡ content_of (catalog_area geometry) entries
+  pub records : MayStand (catalog_area geometry) entries
   pub served : All (IsCluster geometry) clusters
   pub areas : length clusters < area_count geometry
   pub laid : (part : ℕ) (shape : Shape) → part ≢ 0

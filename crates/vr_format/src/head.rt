@@ -1,7 +1,8 @@
 //! The head of a part that has one interval in use.
 ghost use Rattle.std.specs.Prelude.{◌≡◌, ◌∷◌, [], length, replicate};
 ghost use Rattle.vr_seqset.specs.SequenceSet.{IsSequenceSet};
-ghost use Rattle.vr_space.specs.Keyed.{IsHead, IsWhole, entries_of};
+ghost use Rattle.vr_space.specs.Keyed.{IsHead, entries_of};
+ghost use Rattle.vr_attach.specs.Damage.{IsWhole};
 ghost use Rattle.vr_format.specs.Planned.{HasHead, all_places, one_head};
 
 use vr_seqset::{SeqHead, SeqWriter};

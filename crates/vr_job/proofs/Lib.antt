@@ -13,6 +13,7 @@ pub mod Committed
 pub mod Keeping
 pub mod Kept
 pub mod Lacking
+pub mod AreasOnce
 pub mod Owning
 pub mod Placing
 pub mod RunCommitted

@@ -25,11 +25,11 @@ use Rattle.vr_attach.proofs.CallerLemmas.{area-owner, laid-as, stays-reached}
 use Rattle.vr_chained.proofs.Reached.{chain-once}
 use Rattle.vr_history.specs.State.{State}
 use Rattle.vr_mount.specs.Areas.{AreOwners, IsReachedIn}
-use Rattle.vr_space.specs.Keyed.{Keyed}
+use Rattle.vr_space.specs.Areas.{areas_in, most_areas}
 use Rattle.vr_space.specs.Known.{Known}
 use Rattle.vr_space.specs.Numbered.{IsFilled}
-use Rattle.vr_space.specs.Part.{KeyedShape, Knows, NumberedShape, OwnsChain, Shape, StaysIn}
-use Rattle.vr_space.specs.Part.{owned_count}
+use Rattle.vr_space.specs.Part.{HasOnly, KeyedShape, Knows, MayHold, NumberedShape, OwnsChain}
+use Rattle.vr_space.specs.Part.{Shape, Stands, StaysIn, owned_count}
 use Rattle.vr_space.specs.Rosters.{IsOwnArea, chain_of}
 use Rattle.vr_space.proofs.CallerLemmas.{rest-sound, sound-image}
 use Rattle.vr_store.specs.Store.{IsRestedPart, IsSet, IsStored, OwnsItsChain, StoreNow, owners_of}
@@ -38,6 +38,7 @@ use Rattle.vr_store.proofs.CallerLemmas.{among-all, rested-at}
 use Rattle.vr_record_file.specs.Now.{state_now}
 use Rattle.vr_event.specs.Volume.{IsHeld, IsWhole, OwnLaid, VolumeNow}
 use Rattle.vr_job.specs.Owning.{HasOwners}
+use Rattle.vr_job.proofs.AreasOnce.{areas-once}
 
 -- ---- how many areas a part has
 
@@ -167,11 +168,16 @@ module _ (number : ℕ) (store : StoreNow) (state : State) (now : Seen) (set : I
     owns = subst (λ (s : Shape). OwnsChain s known store.space) there.is
         (among-all (OwnsItsChain store.space) store.parts part.0 there.part set.owns there.found)
 
-    stays : StaysIn shape (owners_of store) now.cur
-    stays = subst (λ (s : Shape). StaysIn s (owners_of store) now.cur) there.is
-        (sound-image there.part.shape (owners_of store) now
+    held : HasOnly there.part.shape (owners_of store) (MayHold there.part.shape now.may) now.cur
+    held = sound-image there.part.shape (owners_of store) now
         (rest-sound there.part.shape (owners_of store) now rested.rests) now.cur
-        (record { each = λ n below inside. left.each n below })).within
+        (record { each = λ n below inside. left.each n below })
+
+    stays : StaysIn shape (owners_of store) now.cur
+    stays = subst (λ (s : Shape). StaysIn s (owners_of store) now.cur) there.is held.within
+
+    stands : Stands shape now.cur
+    stands = subst (λ (s : Shape). Stands s now.cur) there.is (held.content, held.stands)
 
     -- it owns each area that it reaches
     reached-own : (area : ℕ) → ReachesArea geometry shape now.cur area
@@ -196,18 +202,18 @@ module _ (number : ℕ) (store : StoreNow) (state : State) (now : Seen) (set : I
       → (area : ℕ) → get_or store.space area None ≡ Some part
       → ReachesArea geometry shape now.cur area
   own-reached part (KeyedShape keyed) laid area is =
-      home.1 ∙ ap (head_block geometry) (All-contains (λ (one : ℕ). home.0 ≡ one) (home.0 ∷ []) area
-      (All-cons (λ (one : ℕ). home.0 ≡ one) home.0 [] refl (All-nil (λ (one : ℕ). home.0 ≡ one)))
-      (owned-all part store.space (home.0 ∷ []) (one-alone home.0)
-      (All-cons (λ (one : ℕ). get_or store.space one None ≡ Some part) home.0 []
-      (reached-own part (KeyedShape keyed) laid home.0 home.1)
-      (All-nil (λ (one : ℕ). get_or store.space one None ≡ Some part)))
+      owned-all part store.space (areas_in keyed now.cur)
+      (areas-once keyed now.cur most_areas keyed.first None
+      (stands part (KeyedShape keyed) laid).1.chain)
+      (All-weaker (Contains (areas_in keyed now.cur))
+      (λ (one : ℕ). get_or store.space one None ≡ Some part)
+      (λ one has. reached-own part (KeyedShape keyed) laid one has) (areas_in keyed now.cur)
+      (All-contains_itself (areas_in keyed now.cur)))
       (ap (λ (n : ℕ). owned_count (record { 0 = n }) store.space)
       (sym (laid-as geometry entries part.0 (KeyedShape keyed) laid).number)
-      ∙ owns part (KeyedShape keyed) laid) area is))
-    where
-      home : (at : ℕ) × (keyed.head ≡ head_block geometry at) × (keyed.area ≡ geometry.area)
-      home = (laid-as geometry entries part.0 (KeyedShape keyed) laid).areas
+      ∙ owns part (KeyedShape keyed) laid
+      ∙ ap (λ (areas : List ℕ). length areas)
+      (knows part (KeyedShape keyed) laid).blocks.0.areas_are) area is
   own-reached part (NumberedShape chain) laid area is =
       owned-all part store.space (chain_of chain now.cur)
       (chain-once chain (IsOwnArea chain (owners_of store)) (IsFilled chain) now.cur

@@ -158,10 +158,20 @@ pub on-ok-from : {X E : Type 0} (r : Result X E) (P : Type 0) → P → OnOk r P
 on-ok-from (Ok x) P is = is
 on-ok-from (Err e) P is = tt
 
+pub on-ok-both : {X E : Type 0} (r : Result X E) (P Q : Type 0) → OnOk r P → OnOk r Q
+    → OnOk r (P × Q)
+on-ok-both (Ok x) P Q one other = (one, other)
+on-ok-both (Err e) P Q one other = tt
+
 pub if-ok-map : {X E : Type 0} (r : Result X E) (P Q : X → Type 0) → ((x : X) → P x → Q x)
     → IfOk r P → IfOk r Q
 if-ok-map (Ok x) P Q more is = more x is
 if-ok-map (Err e) P Q more is = is
+
+pub if-ok-both : {X E : Type 0} (r : Result X E) (O : Type 0) (P Q : X → Type 0)
+    → ((x : X) → O → P x → Q x) → OnOk r O → IfOk r P → IfOk r Q
+if-ok-both (Ok x) O P Q more on is = more x on is
+if-ok-both (Err e) O P Q more on is = is
 
 -- what is so of an error, with what is so where there is one
 pub if-err-both : {X E : Type 0} (r : Result X E) (O : Type 0) (P Q : E → Type 0)

@@ -12,21 +12,25 @@ use Rattle.vr_types.specs.declared.unit.StageKind.TheVariants.{CiCopy}
 use Rattle.vr_space.specs.declared.room.Room.TheVariants.{Stage, Ready, NoSpace}
 use Rattle.vr_seqset.specs.Entry.{Entry}
 use Rattle.vr_space.specs.Room.{Lengths, Range, HaveRoom, have_room, with_length}
-use Rattle.vr_space.specs.Keyed.{EachMayLeave, HoldsRange, IsHead, IsKeyedAtRest, KeepsRoom, Keyed}
+use Rattle.vr_space.specs.Keyed.{EachMayLeave, HasEnds, HoldsRange, InArea, IsHead, IsKeyedAtRest}
+use Rattle.vr_space.specs.Keyed.{KeepsRoom, Keyed}
 use Rattle.vr_space.specs.Keyed.{entries_of, entry_block, entry_in, lengths_of, low_of}
-use Rattle.vr_space.specs.Split.{SplitNow, free_interval, keyed_room, room_by, room_by_split}
+use Rattle.vr_space.specs.Split.{SplitNow, free_interval, room_by, room_by_split}
 use Rattle.vr_space.specs.Met.{Met, IsMet}
 use Rattle.vr_space.specs.Split.{room_after, stage_in, fits_in}
-use Rattle.vr_space.specs.Part.{KeyedShape, InPart, Nothing, HasRoom}
-use Rattle.vr_space.proofs.CallerLemmas.{area-due-keeps, due-then, ends-then, found-in}
-use Rattle.vr_space.proofs.CallerLemmas.{nothing-then, records-then, same-keeps}
+use Rattle.vr_space.specs.Part.{Nothing}
+use Rattle.vr_space.specs.AreaCalls.{HasRoomHere}
+use Rattle.vr_space.proofs.CallerLemmas.{due-here-keeps, due-here-then, found-in, keeps-here}
+use Rattle.vr_space.proofs.CallerLemmas.{nothing-then-here, room-here-keeps, rooms-here-keep}
+use Rattle.vr_space.proofs.CallerLemmas.{same-here-keeps, same-here-then}
 use Rattle.vr_split.specs.Switching.{KeepsPart, IsStageDone}
 use Rattle.vr_split.specs.Splits.{stage_now}
 use Rattle.vr_keyed.specs.Advance.{IsDue}
 use Rattle.vr_keyed.specs.Planned.{LacksRoom}
+use Rattle.vr_keyed.specs.Splits.{room_here}
 use Rattle.vr_keyed.proofs.Looking.{each-in}
 use Rattle.vr_keyed.proofs.MetRoom.{answer-met}
-use Rattle.vr_keyed.proofs.Reading.{still-adds, still-ends, still-room, still-rooms, still-whole}
+use Rattle.vr_keyed.proofs.Reading.{still-current, still-head}
 
 -- What a stage that is due says where no split is under way.
 pub record IsDueNew (fits : Bool) (free : Option ℕ) (kind : StageKind) : Type 0 where
@@ -116,14 +120,14 @@ module _ (part : Keyed) (now : Seen) (left : Left now now.cur) (rests : IsKeyedA
 -- where a split is under way, its stage is the one that is due
 pub going-due : (part : Keyed) (split : SplitNow) (image : Image) (kept : Lengths) (place : List ℕ)
     (n : ℕ) → (due : IsDue part (Some split) image kept place n)
-    → Stage split.stage ≡ keyed_room part (Some split) image kept place n
+    → Stage split.stage ≡ room_here part (Some split) image kept place n
 going-due part split image kept place n due =
     by (entry_in (block_at image part.head) place) due.1 ∙ sym due.1
   where
     free : Option ℕ
     free = free_interval part (block_at image part.head)
 
-    lacking : (fits : Bool) → room_by fits (room_by_split (Some split) free) ≡ Stage due.0
+    lacking : (fits : Bool) → room_by fits (room_by_split (Some split.stage) free) ≡ Stage due.0
         → Stage split.stage ≡ Stage due.0
     lacking true is = absurd (other is)
       where
@@ -133,14 +137,14 @@ going-due part split image kept place n due =
 
     of_stage : (b : Bool) (fits : Bool)
         → room_after (cond b (Some split.stage) None)
-        (room_by fits (room_by_split (Some split) free)) ≡ Stage due.0
+        (room_by fits (room_by_split (Some split.stage) free)) ≡ Stage due.0
         → Stage split.stage ≡ Stage due.0
     of_stage true fits is = is
     of_stage false fits is = lacking fits is
 
     by : (found : Option (Range × Entry))
         → room_after (stage_in (Some split) found)
-        (room_by (fits_in part image kept place n found) (room_by_split (Some split) free))
+        (room_by (fits_in part image kept place n found) (room_by_split (Some split.stage) free))
         ≡ Stage due.0
         → Stage split.stage ≡ Stage due.0
     by None is = lacking false is
@@ -153,7 +157,7 @@ going-due part split image kept place n due =
 -- where none is, it is a copy
 pub new-stage : (part : Keyed) (image : Image) (kept : Lengths) (place : List ℕ) (n : ℕ)
     → (due : IsDue part None image kept place n)
-    → Stage CiCopy ≡ keyed_room part None image kept place n
+    → Stage CiCopy ≡ room_here part None image kept place n
 new-stage part image kept place n due =
     by (entry_in (block_at image part.head) place) due.1 ∙ sym due.1
   where
@@ -174,7 +178,7 @@ new-stage part image kept place n due =
 -- the stage that was done is the one that was due
 pub going-stage : (part : Keyed) (split : Option SplitNow) (image : Image) (kept : Lengths)
     (place : List ℕ) (n : ℕ) → IsDue part split image kept place n → (kind : StageKind)
-    → stage_now split ≡ Some kind → Stage kind ≡ keyed_room part split image kept place n
+    → stage_now split ≡ Some kind → Stage kind ≡ room_here part split image kept place n
 going-stage part None image kept place n due kind is = absurd cc
 going-stage part (Some split) image kept place n due kind is =
     ap (λ (o : Option StageKind). Stage (unwrap_or o kind)) (sym is)
@@ -183,7 +187,7 @@ going-stage part (Some split) image kept place n due kind is =
 pub copy-stage : (part : Keyed) (split after : Option SplitNow) (image : Image) (kept : Lengths)
     (place : List ℕ) (n : ℕ) → is_some (stage_now split) ≡ false
     → IsDue part split image kept place n → stage_now after ≡ Some CiCopy → (kind : StageKind)
-    → stage_now after ≡ Some kind → Stage kind ≡ keyed_room part split image kept place n
+    → stage_now after ≡ Some kind → Stage kind ≡ room_here part split image kept place n
 copy-stage part None after image kept place n none due copy kind is =
     ap (λ (o : Option StageKind). Stage (unwrap_or o kind)) (sym is ∙ copy)
     ∙ new-stage part image kept place n due
@@ -195,32 +199,30 @@ module _ (tells : Bool) (told : IsTrue tells) (part : Keyed) (kept : Lengths) (a
     (call : Keeps tells a b) (rests : IsKeyedAtRest part a) (room : KeepsRoom part kept a) where
   pub part-after : KeepsPart part kept b c → KeepsPart part kept a c
   part-after after = record {
-    adds = λ whole owners owned. nothing-then (KeyedShape part) owners Nothing a b c
-        (still-adds part tells told a b call rests.sound whole owners owned)
-        (after.adds (still-whole part tells told a b call rests.sound whole) owners owned);
-    same = records-then (KeyedShape part) a.cur b.cur c.cur
-        (same-keeps tells told (KeyedShape part) a b call) after.same;
-    ends = ends-then part a b c (still-ends part tells told a b call rests.sound) after.ends;
+    adds = nothing-then-here part Nothing a b c
+        (keeps-here tells told part a b call rests.sound) after.adds;
+    same = same-here-then part a.cur b.cur c.cur (same-here-keeps tells told part a b call)
+        after.same;
+    current = subst (λ (top : Block). HasEnds top (block_at c.cur part.head))
+        (still-head part tells told a b call) after.current;
     room = after.room;
-    rooms = λ owners owned. touches-then (InPart (KeyedShape part) owners)
-        (HasRoom (KeyedShape part) kept) a b c
-        (still-rooms part tells told a b call rests.sound kept room owners owned)
-        (after.rooms owners owned);
+    rooms = touches-then (InArea part) (HasRoomHere part kept) a b c
+        (rooms-here-keep tells told part a b call rests.sound kept room) after.rooms;
   }
 
   -- or nothing more
   pub part-kept : KeepsPart part kept a b
   part-kept = record {
-    adds = still-adds part tells told a b call rests.sound;
-    same = same-keeps tells told (KeyedShape part) a b call;
-    ends = still-ends part tells told a b call rests.sound;
-    room = still-room part tells told a b call rests.sound kept room;
-    rooms = still-rooms part tells told a b call rests.sound kept room;
+    adds = keeps-here tells told part a b call rests.sound;
+    same = same-here-keeps tells told part a b call;
+    current = still-current part tells told a b call;
+    room = room-here-keeps tells told part a b call rests.sound kept room;
+    rooms = rooms-here-keep tells told part a b call rests.sound kept room;
   }
 
   pub done-after : IsStageDone part b c → IsStageDone part a c
   done-after after = record {
     rests = after.rests;
-    due = due-then (KeyedShape part) [] a b c
-        (area-due-keeps tells told part a b call rests.sound) after.due;
+    due = due-here-then part [] a b c (due-here-keeps tells told part a b call rests.sound)
+        after.due;
   }

@@ -17,12 +17,11 @@ use Rattle.vr_types.proofs.CallerLemmas.{same_place}
 use Rattle.vr_ci.specs.Interval as ci
 use Rattle.vr_space.specs.Room.{Range, is_in, is_above}
 use Rattle.vr_space.specs.Keyed.{Keyed, IsKept, key_of, placed}
-use Rattle.vr_space.specs.Part.{KeyedShape, IsRecordOf}
 use Rattle.vr_space.proofs.CallerLemmas.{NoneAt, AllAbove, none-record, record-left, record-right}
 use Rattle.vr_space.proofs.CallerLemmas.{same_is_equal, by_other, above-append, above-weaken}
 use Rattle.vr_space.proofs.CallerLemmas.{Rising, rising-sorted, sorted-rising, places-placed}
 use Rattle.vr_space.proofs.CallerLemmas.{in-above, in-most, in-both, lt_from_test}
-use Rattle.vr_keyed.specs.Setting.{is_between, items_between, items_given, items_set}
+use Rattle.vr_keyed.specs.Setting.{IsRecordHere, is_between, items_between, items_given, items_set}
 
 -- ---- tests
 
@@ -170,7 +169,7 @@ map-append part [] ys = refl
 map-append part (x ∷ xs) ys = ap (λ (c : Content). placed part x ∷ c) (map-append part xs ys)
 
 given-placed : (part : Keyed) (place : List ℕ) (new : Option (List ℕ))
-    → IfSome new (IsRecordOf (KeyedShape part) place)
+    → IfSome new (IsRecordHere part place)
     → map (placed part) (items_given new) ≡ given_at place new
 given-placed part place None is = refl
 given-placed part place (Some bytes) is =
@@ -178,7 +177,7 @@ given-placed part place (Some bytes) is =
 
 -- the records of the items are the content
 pub records-set : (part : Keyed) (range : Range) (place : List ℕ) (new : Option (List ℕ))
-    (items : List ci.Item) → IfSome new (IsRecordOf (KeyedShape part) place)
+    (items : List ci.Item) → IfSome new (IsRecordHere part place)
     → map (placed part) (items_set part range place new items)
     ≡ content_set range place new (map (placed part) items)
 records-set part range place new items is =
@@ -375,14 +374,14 @@ filter-says P test (item ∷ items) says = by (test item) refl (filter-says P te
 
 module _ (part : Keyed) (range : Range) (place : List ℕ) (new : Option (List ℕ))
     (items : List ci.Item) where
-  pub set-kept : IfSome new (IsRecordOf (KeyedShape part) place) → All (IsKept part) items
+  pub set-kept : IfSome new (IsRecordHere part place) → All (IsKept part) items
       → All (IsKept part) (items_set part range place new items)
   set-kept is kept =
       All-append (IsKept part) _ _ (filter-all (IsKept part) _ items kept)
       (All-append (IsKept part) (items_given new) _ (by new is)
       (filter-all (IsKept part) _ items kept))
     where
-      by : (o : Option (List ℕ)) → IfSome o (IsRecordOf (KeyedShape part) place)
+      by : (o : Option (List ℕ)) → IfSome o (IsRecordHere part place)
           → All (IsKept part) (items_given o)
       by None is_one = All-nil (IsKept part)
       by (Some bytes) is_one =
@@ -392,7 +391,7 @@ module _ (part : Keyed) (range : Range) (place : List ℕ) (new : Option (List �
   abbrev InRange : ci.Item → Type 0
   InRange item = IsTrue (is_in range (key_of part item.bytes))
 
-  pub set-within : IfSome new (IsRecordOf (KeyedShape part) place) → is_in range place ≡ true
+  pub set-within : IfSome new (IsRecordHere part place) → is_in range place ≡ true
       → All (λ (item : ci.Item). IsTrue (is_in range (key_of part item.bytes)))
       (items_set part range place new items)
   set-within is here =
@@ -403,14 +402,14 @@ module _ (part : Keyed) (range : Range) (place : List ℕ) (new : Option (List �
       (filter-says InRange _ items
       (λ item. above-in range place new [] here (key_of part item.bytes))))
     where
-      by : (o : Option (List ℕ)) → IfSome o (IsRecordOf (KeyedShape part) place)
+      by : (o : Option (List ℕ)) → IfSome o (IsRecordHere part place)
           → All InRange (items_given o)
       by None is_one = All-nil InRange
       by (Some bytes) is_one =
           All-cons InRange (record { bytes = bytes; live = true }) []
           (ap (is_in range) is_one.1 ∙ here) (All-nil InRange)
 
-  pub set-ascends : IfSome new (IsRecordOf (KeyedShape part) place)
+  pub set-ascends : IfSome new (IsRecordHere part place)
       → IsStrictlySortedBy place_cmp (map (λ (item : ci.Item). key_of part item.bytes) items)
       → IsStrictlySortedBy place_cmp
       (map (λ (item : ci.Item). key_of part item.bytes) (items_set part range place new items))

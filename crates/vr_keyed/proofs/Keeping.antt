@@ -10,7 +10,7 @@ use Rattle.vr_ci_match.specs.Fault.{is_busy}
 use Rattle.vr_space.specs.Room.{Range}
 use Rattle.vr_space.specs.Keyed.{Keyed, IsHead, HoldsRange, entry_in, records_in}
 use Rattle.vr_space.specs.Split.{SplitNow}
-use Rattle.vr_space.specs.UnderWay.{IsStable, IsReadyFor, KeyedUnderWay, interval_block}
+use Rattle.vr_space.specs.UnderWay.{IsStable, IsReadyFor, AreaUnderWay, interval_block}
 use Rattle.vr_space.specs.UnderWay.{above_cut}
 use Rattle.vr_space.proofs.CallerLemmas.{found-in, free-in, begun-stays}
 
@@ -55,7 +55,7 @@ module _ (part : Keyed) (tells : Bool) (told : IsTrue tells) (a b : Seen) (call 
   ready split stage is = absurd is
 
   -- it is under way still
-  pub way-still : (split : Option SplitNow) → KeyedUnderWay part split a
-      → KeyedUnderWay part split b
+  pub way-still : (split : Option SplitNow) → AreaUnderWay part split a
+      → AreaUnderWay part split b
   way-still None is = tt
   way-still (Some split) is = ready split split.stage is

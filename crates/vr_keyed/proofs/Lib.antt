@@ -20,5 +20,7 @@ pub mod StageKinds
 pub mod Keeping
 pub mod Attaching
 pub mod Walking
+pub mod Alone
 pub mod Owning
-pub mod Whole
+pub mod Known
+pub mod Lifted

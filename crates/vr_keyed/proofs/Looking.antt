@@ -14,7 +14,7 @@ use Rattle.vr_space.specs.Room.{Range}
 use Rattle.vr_space.specs.Keyed.{EachMayLeave, HoldsRange, HoldRanges, Keyed, entries_of}
 use Rattle.vr_space.specs.Keyed.{entry_block, entry_for, entry_in, low_of, range_of, records_of}
 use Rattle.vr_space.specs.Keyed.{way_in}
-use Rattle.vr_space.specs.Part.{KeyedShape, item_of}
+use Rattle.vr_space.specs.AreaCalls.{item_here}
 use Rattle.vr_space.proofs.CallerLemmas.{found-above}
 use Rattle.vr_keyed.specs.Look.{AreaStands, LeadsTo}
 
@@ -84,7 +84,7 @@ module _ (part : Keyed) (image : Image) (place : List ℕ) (n : ℕ)
       (holds-in part image place leads.at stands leads.found)
 
   -- and has the item of the place
-  pub led-item : item_of (KeyedShape part) image place
+  pub led-item : item_here part image place
       ≡ item_at (records_of part (block_at image n)) place
   led-item = ap (λ (o : Option (Range × Entry)). found_on image (way_in part place o)) leads.found
       ∙ ap (λ (k : ℕ). item_at (records_of part (block_at image k)) place) leads.block

@@ -9,11 +9,13 @@ use Rattle.vr_space.specs.declared.room.Room as answer
 use Rattle.vr_space.specs.Room.{Lengths, Range, with_length, have_room}
 use Rattle.vr_space.specs.Keyed.{Keyed, HoldsRange, entry_block, lengths_of}
 use Rattle.vr_space.specs.Split.{SplitNow, stage_at, stage_in, fits_in, room_after, room_by}
-use Rattle.vr_space.specs.Split.{room_by_split, free_interval, keyed_room}
+use Rattle.vr_space.specs.Split.{room_by_split, free_interval}
+use Rattle.vr_split.specs.Splits.{stage_now}
 use Rattle.vr_space.specs.Met.{Met, IsMet}
 use Rattle.vr_split.specs.Weights.{LengthsRoom}
 use Rattle.vr_keyed.specs.Lent.{ArePlaces, HasRoomFor}
 use Rattle.vr_keyed.specs.Look.{AreaStands}
+use Rattle.vr_keyed.specs.Splits.{room_here}
 use Rattle.vr_keyed.proofs.Looking.{holds-in}
 
 module _ (part : Keyed) (image : Image) (met : Met) (is : IsMet part image met) where
@@ -28,14 +30,14 @@ module _ (part : Keyed) (image : Image) (met : Met) (is : IsMet part image met) 
 
   -- the answer, by what was met
   pub met-room : (split : Option SplitNow) (kept : Lengths) (n : ℕ)
-      → keyed_room part split image kept met.place n
+      → room_here part split image kept met.place n
       ≡ room_after (stage_at split is.entry)
       (room_by
       (have_room part.size
       (with_length (lengths_of part kept met.range met.block) met.place n))
-      (room_by_split split (free_interval part (block_at image part.head))))
+      (room_by_split (stage_now split) (free_interval part (block_at image part.head))))
   met-room split kept n =
-      let other : answer.Room = room_by_split split
+      let other : answer.Room = room_by_split (stage_now split)
       (free_interval part (block_at image part.head)) in
       ap (λ (o : Option (Range × Entry)). room_after (stage_in split o)
       (room_by (fits_in part image kept met.place n o) other)) is.leads
@@ -48,13 +50,14 @@ module _ (part : Keyed) (image : Image) (met : Met) (is : IsMet part image met) 
       → stage ≡ stage_at split is.entry
       → fits ≡ have_room part.size
       (with_length (lengths_of part kept met.range met.block) place n)
-      → keyed_room part split image kept place n
+      → room_here part split image kept place n
       ≡ room_after stage
-      (room_by fits (room_by_split split (free_interval part (block_at image part.head))))
+      (room_by fits
+      (room_by_split (stage_now split) (free_interval part (block_at image part.head))))
   answer-met split kept n place stage fits same stages fit =
-      let other : answer.Room = room_by_split split
+      let other : answer.Room = room_by_split (stage_now split)
       (free_interval part (block_at image part.head)) in
-      ap (λ (p : List ℕ). keyed_room part split image kept p n) (sym same)
+      ap (λ (p : List ℕ). room_here part split image kept p n) (sym same)
       ∙ met-room split kept n
       ∙ ap (λ (p : List ℕ). room_after (stage_at split is.entry)
       (room_by (have_room part.size

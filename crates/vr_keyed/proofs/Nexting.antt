@@ -25,7 +25,7 @@ use Rattle.vr_space.specs.Room.{Range, is_in, is_above}
 use Rattle.vr_space.specs.Keyed.{Keyed, IsKept, HoldsRange, entries_of, entry_for, key_of, placed}
 use Rattle.vr_space.specs.Keyed.{records_of, range_of, HoldRanges, entry_block, low_of, way_in}
 use Rattle.vr_space.specs.Way.{found_on}
-use Rattle.vr_space.specs.Part.{KeyedShape, IsNextPlace, HasNoNext, item_of}
+use Rattle.vr_space.specs.AreaCalls.{IsNextHere, item_here, read_here}
 use Rattle.vr_space.specs.Search.{low_before}
 use Rattle.vr_space.proofs.CallerLemmas.{AllAbove, Rising, by_other, same_is_equal, lt_from_test}
 use Rattle.vr_space.proofs.CallerLemmas.{AscendFrom, head-ascends, in-most, in-above, above-more}
@@ -334,13 +334,13 @@ module _ (part : Keyed) (image : Image) (from : Whence) (stands : AreaStands par
 
   -- the area has no item at a place that isn't above
   none-out : (q : List ℕ) → is_above first-low q ≡ false
-      → item_of (KeyedShape part) image q ≡ None
+      → item_here part image q ≡ None
   none-out q out = ap (λ (b : Bool). found_on image
       (way_in part q (cond b (entry_for first-low all-entries q) None))) out
 
   -- nor at one that no entry reaches
   none-reached : (q : List ℕ) → position (reaches q) all-entries ≡ None
-      → item_of (KeyedShape part) image q ≡ None
+      → item_here part image q ≡ None
   none-reached q is = ⊎_elim
       (λ above. ap (λ (o : Option (Range × Entry)). found_on image (way_in part q o))
       (leads-above first-low all-entries q above ∙ found-none q first-low all-entries is))
@@ -350,7 +350,7 @@ module _ (part : Keyed) (image : Image) (from : Whence) (stands : AreaStands par
   abbrev pub NoneBefore : ℕ → Type 0
   NoneBefore n = (q : List ℕ) (i : ℕ) → IsTrue (allows from q)
       → position (reaches q) all-entries ≡ Some i → i < n
-      → item_of (KeyedShape part) image q ≡ None
+      → item_here part image q ≡ None
 
   module _ (n : ℕ) (first_is : Option (List ℕ)) (has : HasNth part image n from first_is) where
     abbrev nth-range : Range
@@ -376,7 +376,7 @@ module _ (part : Keyed) (image : Image) (from : Whence) (stands : AreaStands par
     -- what is read at a place of the range
     nth-item : (q : List ℕ) → is_above first-low q ≡ true
         → position (reaches q) all-entries ≡ Some n
-        → item_of (KeyedShape part) image q ≡ item_at (records_of part nth-block) q
+        → item_here part image q ≡ item_at (records_of part nth-block) q
     nth-item q above is = ap (λ (o : Option (Range × Entry)). found_on image (way_in part q o))
         (leads-above first-low all-entries q above
         ∙ found-entry q first-low all-entries n has.entry is has.is)
@@ -419,12 +419,12 @@ module _ (part : Keyed) (image : Image) (from : Whence) (stands : AreaStands par
 
   -- none at all
   pub no-next : (n : ℕ) → length all-entries ≤ n → NoneBefore n
-      → HasNoNext (KeyedShape part) image from
+      → (q : List ℕ) → IsTrue (allows from q) → read_here part image q ≡ None
   no-next n all none q allowed =
       ap (option_and_then record_of) (by (position (reaches q) all-entries) refl)
     where
       by : (o : Option ℕ) → position (reaches q) all-entries ≡ o
-          → item_of (KeyedShape part) image q ≡ None
+          → item_here part image q ≡ None
       by None is = none-reached q is
       by (Some i) is = none q i allowed is (omega (
         arith,
@@ -435,7 +435,7 @@ module _ (part : Keyed) (image : Image) (from : Whence) (stands : AreaStands par
 
   -- the first of the entry of this number
   pub next-is : (n : ℕ) (place : List ℕ) → HasNth part image n from (Some place) → NoneBefore n
-      → IsNextPlace (KeyedShape part) image from place
+      → IsNextHere part image from place
   next-is n place has none = record {
     allowed = right (is_in range place) (allows from place) passes;
     some = λ nothing. first-has part (is_sought range from)
@@ -479,7 +479,7 @@ module _ (part : Keyed) (image : Image) (from : Whence) (stands : AreaStands par
 
       by : (q : List ℕ) (o : Option ℕ) → position (reaches q) all-entries ≡ o
           → IsTrue (allows from q) → place_cmp q place ≡ Less
-          → item_of (KeyedShape part) image q ≡ None
+          → item_here part image q ≡ None
       by q None is allowed less = none-reached q is
       by q (Some i) is allowed less = ⊎_elim (λ under. none q i allowed is under)
           (λ most.

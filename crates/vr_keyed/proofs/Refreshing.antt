@@ -6,7 +6,7 @@ use Rattle.std.proofs.lemmas.List.Elements.{All-head}
 use Rattle.vr_types.specs.Image.{Block}
 use Rattle.vr_space.specs.Keyed.{Keyed, IsHead}
 use Rattle.vr_space.specs.Met.{Met}
-use Rattle.vr_space.specs.Part.{KeyedShape, IsRecordOf}
+use Rattle.vr_keyed.specs.Setting.{IsRecordHere}
 use Rattle.vr_keyed.specs.Slots.{met_places}
 use Rattle.vr_keyed.specs.Ready.{refreshed}
 
@@ -38,7 +38,7 @@ places-refreshed n bytes (one ∷ met) =
 
 -- a record that may stand at a place has a byte at least
 pub some-given : (part : Keyed) (top : Block) (place : List ℕ) (item : Option (List ℕ))
-    → IsHead part top → IfSome item (IsRecordOf (KeyedShape part) place)
+    → IsHead part top → IfSome item (IsRecordHere part place)
     → IfSome item (λ (bytes : List ℕ). 0 < length bytes)
 some-given part top place None head is = tt
 some-given part top place (Some bytes) head is =

@@ -16,11 +16,10 @@ use Rattle.vr_space.specs.Room.{Lengths, Range, HaveRoom, is_in, length_at, leng
 use Rattle.vr_space.specs.Room.{with_length, with_lengths, weight}
 use Rattle.vr_space.specs.Keyed.{Keyed, HoldsRange, items_of, placed, records_of, records_in}
 use Rattle.vr_space.specs.Keyed.{length_of, lengths_of}
-use Rattle.vr_space.specs.Part.{KeyedShape, IsRecordOf}
 use Rattle.vr_space.proofs.CallerLemmas.{NoneAt, AllAbove, Rising, rising-sorted, rising-filtered}
 use Rattle.vr_space.proofs.CallerLemmas.{none-record, none-filter, record-filter, places-placed}
 use Rattle.vr_space.proofs.CallerLemmas.{lt_from_test}
-use Rattle.vr_keyed.specs.Setting.{items_set}
+use Rattle.vr_keyed.specs.Setting.{IsRecordHere, items_set}
 use Rattle.vr_keyed.proofs.Lengths.{ArePast, Rise, IsUnder, NoMore, most_of, no-more-same}
 use Rattle.vr_keyed.proofs.Lengths.{under-then, under-withs, with-last, with-covered, under-weight}
 use Rattle.vr_keyed.proofs.Lengths.{rise-with, rise-withs, at-by, at-range}
@@ -272,7 +271,7 @@ module _ (part : Keyed) (range : Range) (place : List ℕ) (new : Option (List �
           (under-withs (lengths after) other (lengths_in range kept) rise-after rise under)
 
   -- the records that are written have room, and what is kept beside them
-  pub set-room-of : (kept : Lengths) → IfSome new (IsRecordOf (KeyedShape part) place)
+  pub set-room-of : (kept : Lengths) → IfSome new (IsRecordHere part place)
       → HasPlace kept
       → weight (lengths_of part kept range old) ≤ part.size - 4
       → ci.room (items_set part range place new (items_of old)) ≤ part.size - 4
@@ -293,7 +292,7 @@ module _ (part : Keyed) (range : Range) (place : List ℕ) (new : Option (List �
       )
 
   pub set-have-room : (kept : Lengths) (bytes : Block)
-      → IfSome new (IsRecordOf (KeyedShape part) place)
+      → IfSome new (IsRecordHere part place)
       → items_of bytes ≡ items_set part range place new (items_of old)
       → HoldsRange part range bytes
       → HasPlace kept

@@ -30,19 +30,18 @@ use Rattle.vr_space.specs.Room.{Lengths, Range, HaveRoom, is_in, weight, with_le
 use Rattle.vr_space.specs.Keyed.{Keyed, IsHead, IsKept, HoldsRange, items_of, key_of}
 use Rattle.vr_space.specs.Keyed.{records_of, lengths_of, entries_of, entry_block, entry_in}
 use Rattle.vr_space.specs.Keyed.{InArea, IsKeyedSound, low_of, way_in}
-use Rattle.vr_space.specs.Known.{Known}
 use Rattle.vr_space.specs.Split.{SplitNow, stage_at, stage_in}
 use Rattle.vr_space.specs.Met.{Met, IsMet}
-use Rattle.vr_space.specs.Part.{KeyedShape, IsRecordOf, HasRoomFor, IsDueTo, SetsOne, item_of}
+use Rattle.vr_space.specs.AreaCalls.{IsDueHere, SetsHere, item_here}
 use Rattle.vr_space.proofs.CallerLemmas.{found-in, IsSplitBlock, way-puts, same_is_equal}
 use Rattle.vr_space.proofs.CallerLemmas.{IsFoundAbove, found-above}
 use Rattle.vr_split.specs.Switching.{OfBlock}
-use Rattle.vr_split.proofs.CallerLemmas.{KeepsOthers, ends-after, head-still, interval-sound}
+use Rattle.vr_split.proofs.CallerLemmas.{KeepsOthers, current-after, head-still, interval-sound}
 use Rattle.vr_split.proofs.CallerLemmas.{of-found, set-adds, sound-put}
 use Rattle.vr_split.proofs.CallerLemmas.{led-is, rest-after, room-after, rooms-after}
 use Rattle.vr_split.proofs.CallerLemmas.{sets-one, due-put, head-apart, of-same, found-range}
-use Rattle.vr_keyed.specs.Setting.{items_set}
-use Rattle.vr_keyed.specs.Ready.{IsReady, MaySet, IsSetNow, refreshed}
+use Rattle.vr_keyed.specs.Setting.{IsRecordHere, items_set}
+use Rattle.vr_keyed.specs.Ready.{HasRoomToSet, IsReady, MaySet, IsSetNow, refreshed}
 use Rattle.vr_keyed.proofs.Looking.{each-in}
 use Rattle.vr_keyed.proofs.Contents.{content_set, records-set, set-here, set-other, set-kept}
 use Rattle.vr_keyed.proofs.Contents.{set-within, set-ascends}
@@ -66,7 +65,7 @@ module _ (part : Keyed) (range : Range) (place : List ℕ) (item : Option (List 
     written-items written = sym (interval_says Plain bytes _ written refl).0
 
     pub written-holds : IsWritten → length bytes ≡ part.size → HoldsRange part range old
-        → IfSome item (IsRecordOf (KeyedShape part) place) → is_in range place ≡ true
+        → IfSome item (IsRecordHere part place) → is_in range place ≡ true
         → HoldsRange part range bytes
     written-holds written long holds valid here =
         let items = written-items written in
@@ -93,7 +92,7 @@ module _ (part : Keyed) (range : Range) (place : List ℕ) (item : Option (List 
               (set-within part range place item (items_of old) valid here);
         }
 
-    pub written-records : IsWritten → IfSome item (IsRecordOf (KeyedShape part) place)
+    pub written-records : IsWritten → IfSome item (IsRecordHere part place)
         → records_of part bytes ≡ content_set range place item (records_of part old)
     written-records written valid =
         ap (map (Rattle.vr_space.specs.Keyed.placed part)) (written-items written)
@@ -125,8 +124,8 @@ test-apart n m is same = true≢false (sym (eq-eqb n m same) ∙ is)
 le-from : (n m : ℕ) → nat_le n m ≡ true → n ≤ m
 le-from n m is = Rattle.std.proofs.Common.leb-true n m is
 
-module _ (part : Keyed) (kept : Lengths) (known : Known) (place : List ℕ)
-    (item : Option (List ℕ)) (met : Met) (a : Seen) (ready : IsReady part kept known place item a)
+module _ (part : Keyed) (kept : Lengths) (split : Option SplitNow) (place : List ℕ)
+    (item : Option (List ℕ)) (met : Met) (a : Seen) (ready : IsReady part kept split place item a)
     (is : IsMet part a.cur met) (at_place : met.place ≡ place) (left : Left a a.cur) where
   abbrev top : Block
   top = block_at a.cur part.head
@@ -178,7 +177,7 @@ module _ (part : Keyed) (kept : Lengths) (known : Known) (place : List ℕ)
   has-place = by item refl ready.can.room
     where
       by : (o : Option (List ℕ)) → item ≡ o
-          → HasRoomFor (KeyedShape part) known a.cur kept place o
+          → HasRoomToSet part a.cur kept place o
           → HasPlace part met.range place item met.block old-holds in-range kept
       by None same room = inl same
       by (Some record_given) same room = inr (
@@ -237,7 +236,7 @@ module _ (part : Keyed) (kept : Lengths) (known : Known) (place : List ℕ)
     keeps q found leads_q there = by (is_eq (place_cmp q place)) refl
       where
         Kept : Type 0
-        Kept = (item_at (records_of part bytes) q ≡ item_of (KeyedShape part) a.cur q)
+        Kept = (item_at (records_of part bytes) q ≡ item_here part a.cur q)
             ⊎ ((q ≡ place) × (item_at (records_of part bytes) q ≡ option_map Standing item))
 
         equal-is : (o : Ordering) → is_eq o ≡ true → o ≡ Equal
@@ -260,7 +259,7 @@ module _ (part : Keyed) (kept : Lengths) (known : Known) (place : List ℕ)
         block-is = ap (block_at a.cur) there ∙ is.still
 
         by : (b : Bool) → is_eq (place_cmp q place) ≡ b
-            → (item_at (records_of part bytes) q ≡ item_of (KeyedShape part) a.cur q)
+            → (item_at (records_of part bytes) q ≡ item_here part a.cur q)
             ⊎ ((q ≡ place) × (item_at (records_of part bytes) q ≡ option_map Standing item))
         by true it =
             let same : q ≡ place = same_place q place (equal-is (place_cmp q place) it) in
@@ -280,18 +279,18 @@ module _ (part : Keyed) (kept : Lengths) (known : Known) (place : List ℕ)
       may-set = record {
         adds = set-adds part tells told a b met.number bytes place (option_map Standing item)
             ready.rests left call other inside-part of-holds keeps;
-        ends = ends-after part tells told a b met.number bytes ready.rests.sound call other;
+        current = current-after part tells told a b met.number bytes call other;
         room = room-after part tells told a b met.number bytes kept ready.rests call other
             ready.room of-room;
         rooms = rooms-after part tells told a b met.number bytes kept ready.rests call other
             inside-part ready.room of-holds of-room;
       }
 
-      off-split : (now : SplitNow) → known.split ≡ Some now → (m : ℕ) → InArea part m
+      off-split : (now : SplitNow) → split ≡ Some now → (m : ℕ) → InArea part m
           → IsSplitBlock part now m → m ≢ met.number
       off-split now some m within_part named same =
-          let stage : stage_at known.split is.entry ≡ None =
-          sym (ap (stage_in known.split) leads) ∙ ready.can.no_stage in
+          let stage : stage_at split is.entry ≡ None =
+          sym (ap (stage_in split) leads) ∙ ready.can.no_stage in
           let tests = either-false (nat_eq (slice_index is.entry.intervals 0) now.old)
           (nat_eq (slice_index is.entry.intervals 0) now.into) now.stage
           (subst (λ (o : Option SplitNow). stage_at o is.entry ≡ None) some stage) in
@@ -308,7 +307,7 @@ module _ (part : Keyed) (kept : Lengths) (known : Known) (place : List ℕ)
       -- what is read by way of an entry that leads to the block
       read-now : (q : List ℕ) (found : Range × Entry)
           → entry_in top q ≡ Some found → entry_block part found.1 ≡ met.number
-          → item_of (KeyedShape part) b.cur q
+          → item_here part b.cur q
           ≡ item_at (records_of part (block_at b.cur met.number)) q
       read-now q found leads_q there =
           led-is part tells told b b met.number bytes q found
@@ -317,17 +316,17 @@ module _ (part : Keyed) (kept : Lengths) (known : Known) (place : List ℕ)
           ∙ ap (λ (n : ℕ). item_at (records_of part (block_at b.cur n)) q) there
 
       set-now : block_at b.cur met.number ≡ bytes
-          → SetsOne (KeyedShape part) place item a.cur b.cur
+          → SetsHere part place item a.cur b.cur
       set-now now = sets-one part tells told a b met.number bytes place item at call other now leads
           is.number has keeps
 
       -- what is left of the block has the record of each other place
       left-other : block_at b.cur met.number ≡ bytes → (listed q : List ℕ) (found : Range × Entry)
-          → q ≢ place → IsDueTo (KeyedShape part) listed a q
+          → q ≢ place → IsDueHere part listed a q
           → entry_in top q ≡ Some found
           → entry_block part found.1 ≡ met.number → (block : Block)
           → MayOnceForced listed b met.number block
-          → item_at (records_of part block) q ≡ item_of (KeyedShape part) b.cur q
+          → item_at (records_of part block) q ≡ item_here part b.cur q
       left-other now listed q found apart due leads_q there block once = ⊎_elim
           (λ old. ⊎_elim
           (λ forced. ap (λ (x : Block). item_at (records_of part x) q) (once.1 forced)
@@ -354,7 +353,7 @@ module _ (part : Keyed) (kept : Lengths) (known : Known) (place : List ℕ)
           (interval-sound part a met.number bytes ready.rests other of-holds)
 
       pub done-set : block_at b.cur met.number ≡ bytes
-          → IsSetNow part known (met.number ∷ []) place item a b
+          → IsSetNow part split (met.number ∷ []) place item a b
       done-set now = record {
         set = set-now now;
         due = λ listed q due either. due-put part tells told a b met.number bytes listed q
@@ -365,7 +364,7 @@ module _ (part : Keyed) (kept : Lengths) (known : Known) (place : List ℕ)
             (once.1 (within_list met.number (Contains-push [] met.number)))
             ∙ sym (read-now q found leads_q there)) either) due;
         rests = rest-after part tells told a b met.number bytes ready.rests call other new-sound;
-        way = way-puts tells told part known.split met.number bytes a b call ready.rests.sound left
+        way = way-puts tells told part split met.number bytes a b call ready.rests.sound left
             off-split ready.way;
       }
 

@@ -7,10 +7,11 @@ use Rattle.vr_space.specs.declared.room.Room.TheVariants.{Stage}
 use Rattle.vr_space.specs.Room.{Lengths}
 use Rattle.vr_space.specs.Whence.{places_kept}
 use Rattle.vr_space.specs.Keyed.{Keyed}
-use Rattle.vr_space.specs.Split.{SplitNow, keyed_room}
+use Rattle.vr_space.specs.Split.{SplitNow}
 use Rattle.vr_space.specs.UnderWay.{IsBegun}
 use Rattle.vr_keyed.specs.declared.plan.Plan.{Plan}
 use Rattle.vr_keyed.specs.Planned.{begun_with}
+use Rattle.vr_keyed.specs.Splits.{room_here}
 
 -- a stage that a split has reached once its copy is done
 abbrev pub IsLaterStage : StageKind → Type 0
@@ -30,10 +31,10 @@ abbrev pub IsLater : Option SplitNow → Type 0
 IsLater None = Unit {0}
 IsLater (Some split) = IsLaterStage split.stage
 
--- a stage comes before such a record
+-- a stage comes before such a record of the area
 abbrev pub IsDue : Keyed → Option SplitNow → Image → Lengths → List ℕ → ℕ → Type 0
 IsDue part split image kept place n =
-    (kind : StageKind) × (keyed_room part split image kept place n ≡ Stage kind)
+    (kind : StageKind) × (room_here part split image kept place n ≡ Stage kind)
 
 -- the split can begin with this
 abbrev pub CanBegin : Keyed → Image → Lengths → Plan → Type 0

@@ -1,6 +1,6 @@
 -- The records of an interval, with one at a place set or taken away. The rules are this project's
 -- own.
-use Rattle.std.specs.Prelude.{ℕ, Bool, true, false, List, [], ◌∷◌, ◌++◌, Option}
+use Rattle.std.specs.Prelude.{◌≡◌, ℕ, Bool, true, false, List, [], ◌∷◌, ◌++◌, Option}
 use Rattle.std.specs.Prelude.{Some, None, ◌&&◌, filter}
 use Rattle.std.specs.Borrow.{Bor}
 use Rattle.std.specs.Option.{option_map}
@@ -9,8 +9,12 @@ use Rattle.std.specs.declared.cmp.Ordering.{Ordering}
 use Rattle.vr_types.specs.Content.{place_cmp}
 use Rattle.vr_ci.specs.Interval as ci
 use Rattle.vr_space.specs.Room.{Range, is_above}
-use Rattle.vr_space.specs.Keyed.{Keyed, key_of}
+use Rattle.vr_space.specs.Keyed.{IsValid, Keyed, key_of}
 use Rattle.vr_keyed.specs.declared.stretch.Stretch.{Stretch}
+
+-- a record that may stand at the place
+abbrev pub IsRecordHere : Keyed → List ℕ → List ℕ → Type 0
+IsRecordHere part place bytes = IsValid part bytes × (key_of part bytes ≡ place)
 
 -- at most, or below
 abbrev pub is_up_to : Bool → Ordering → Bool

@@ -7,17 +7,18 @@ ghost use Rattle.vr_types.specs.Blocks.{Keeps};
 ghost use Rattle.vr_types.specs.Faults.{HasCause};
 ghost use Rattle.vr_types.specs.declared.fault.DeviceFault.TheVariants.{Read};
 ghost use Rattle.vr_types.specs.declared.unit.StageKind.TheVariants as stages;
+ghost use Rattle.vr_space.specs.AreaCalls.{area_part, IsAreaOn};
 ghost use Rattle.vr_space.specs.declared.room.Room.TheVariants as answers;
 ghost use Rattle.vr_space.specs.Room.{Lengths};
 ghost use Rattle.vr_space.specs.Keyed.{IsKeyedAtRest, KeepsRoom};
-ghost use Rattle.vr_space.specs.Split.{SplitNow, keyed_room};
-ghost use Rattle.vr_space.specs.UnderWay.{KeyedUnderWay};
+ghost use Rattle.vr_space.specs.Split.{SplitNow};
+ghost use Rattle.vr_space.specs.UnderWay.{AreaUnderWay};
 ghost use Rattle.vr_space.specs.Met.{IsMet};
-ghost use Rattle.vr_space.specs.Part.{KeyedShape, IsOn, part_no};
 ghost use Rattle.vr_split.specs.Switching.{KeepsPart, IsStageDone};
 ghost use Rattle.vr_split.specs.Splits.{stage_now, after_stage, after_fault};
 ghost use Rattle.vr_keyed.specs.Lent.{HasRoomFor};
 ghost use Rattle.vr_keyed.specs.Look.{HasEntry};
+ghost use Rattle.vr_keyed.specs.Splits.{room_here};
 ghost use Rattle.vr_keyed.specs.Slots.{AreSlotsOf, met_in, mets};
 ghost use Rattle.vr_keyed.specs.Planned.{IsPlan, HasKeyAt};
 ghost use Rattle.vr_keyed.specs.Advance.{CanBegin, IsDue, IsLater, IsIntervalStage};
@@ -40,7 +41,7 @@ fn plan_at<B: Blocks, K: Kept>(
     longest: u32,
     weights: &mut Weights,
 ) -> Result<Option<Plan>, DeviceFault>
-    requires on { IsOn (KeyedShape layout.now) (B.seen blocks.old) }
+    requires on { IsAreaOn layout.now (B.seen blocks.old) }
     requires place { length place.now ≡ layout.now.key }
     requires longest { longest ≤ layout.now.most }
     requires slots { AreSlotsOf layout.now slots.old }
@@ -50,12 +51,12 @@ fn plan_at<B: Blocks, K: Kept>(
     requires entry { IsTrue B.tells → HasEntry layout.now (B.seen blocks.old).cur place.now }
     requires rests { IsTrue B.tells → IsKeyedAtRest layout.now (B.seen blocks.old) }
     requires room { IsTrue B.tells → KeepsRoom layout.now
-        (K.kept kept.now (part_no (KeyedShape layout.now))) (B.seen blocks.old) }
+        (K.kept kept.now (area_part layout.now)) (B.seen blocks.old) }
     requires due { IsTrue B.tells → IsDue layout.now None (B.seen blocks.old).cur
-        (K.kept kept.now (part_no (KeyedShape layout.now))) place.now longest }
+        (K.kept kept.now (area_part layout.now)) place.now longest }
     ensures plan { IsTrue B.tells → IfOk result (λ plan. IsSomeAnd plan
         (IsPlan layout.now (B.seen blocks.old).cur
-        (K.kept kept.now (part_no (KeyedShape layout.now))) (met_in slots.new.first) place.now
+        (K.kept kept.now (area_part layout.now)) (met_in slots.new.first) place.now
         longest weights.new.lengths)) }
     ensures number { IfOk result (λ plan. IfSome plan
         (λ p. p.number < length weights.new.lengths)) }
@@ -87,7 +88,7 @@ fn begin_split<B: Blocks, K: Kept>(
     longest: u32,
     weights: &mut Weights,
 ) -> Result<bool, DeviceFault>
-    requires on { IsOn (KeyedShape layout.now) (B.seen blocks.old) }
+    requires on { IsAreaOn layout.now (B.seen blocks.old) }
     requires part { split.old.part ≡ layout.now }
     requires none { split.old.split ≡ None }
     requires place { length place.now ≡ layout.now.key }
@@ -99,11 +100,11 @@ fn begin_split<B: Blocks, K: Kept>(
     requires entry { IsTrue B.tells → HasEntry layout.now (B.seen blocks.old).cur place.now }
     requires rests { IsTrue B.tells → IsKeyedAtRest layout.now (B.seen blocks.old) }
     requires room { IsTrue B.tells → KeepsRoom layout.now
-        (K.kept kept.now (part_no (KeyedShape layout.now))) (B.seen blocks.old) }
+        (K.kept kept.now (area_part layout.now)) (B.seen blocks.old) }
     requires due { IsTrue B.tells → IsDue layout.now None (B.seen blocks.old).cur
-        (K.kept kept.now (part_no (KeyedShape layout.now))) place.now longest }
+        (K.kept kept.now (area_part layout.now)) place.now longest }
     ensures begun { IsTrue B.tells → IfOk result (λ begun. IsTrue begun
-        × KeyedUnderWay layout.now split.new.split (B.seen blocks.new)) }
+        × AreaUnderWay layout.now split.new.split (B.seen blocks.new)) }
     ensures copy { IfOk result (λ begun. IsTrue begun
         → stage_now split.new.split ≡ Some stages.CiCopy) }
     ensures none { IfOk result (λ begun. begun ≡ false → split.new.split ≡ None) }
@@ -133,11 +134,11 @@ fn go_on<B: Blocks>(
     slots: &mut Slots,
     blocks: &mut B,
 ) -> Result<StageKind, DeviceFault>
-    requires on { IsOn (KeyedShape split.old.part) (B.seen blocks.old) }
+    requires on { IsAreaOn split.old.part (B.seen blocks.old) }
     requires under_way { IsSome split.old.split }
     requires rests { IsTrue B.tells → IsKeyedAtRest split.old.part (B.seen blocks.old) }
     requires way { IsTrue B.tells
-        → KeyedUnderWay split.old.part split.old.split (B.seen blocks.old) }
+        → AreaUnderWay split.old.part split.old.split (B.seen blocks.old) }
     ensures part { split.new.part ≡ split.old.part }
     ensures stage { IfOk result (λ kind. stage_now split.old.split ≡ Some kind) }
     ensures next { OnOk result (split.new.split ≡ after_stage split.old.split) }
@@ -148,7 +149,7 @@ fn go_on<B: Blocks>(
     ensures done { IsTrue B.tells → OnOk result
         (IsStageDone split.old.part (B.seen blocks.old) (B.seen blocks.new)) }
     ensures way { IsTrue B.tells → OnOk result
-        (KeyedUnderWay split.old.part split.new.split (B.seen blocks.new)) }
+        (AreaUnderWay split.old.part split.new.split (B.seen blocks.new)) }
     ensures slots { AreSlotsOf split.old.part slots.old → AreSlotsOf split.old.part slots.new }
     ensures none { mets slots.new ≡ [] }
     ensures unread { IfErr result (λ fault. fault ≡ Read
@@ -173,7 +174,7 @@ pub(crate) fn advance_at<B: Blocks, K: Kept>(
     longest: u32,
     weights: &mut Weights,
 ) -> Result<StageKind, DeviceFault>
-    requires on { IsOn (KeyedShape layout.now) (B.seen blocks.old) }
+    requires on { IsAreaOn layout.now (B.seen blocks.old) }
     requires part { split.old.part ≡ layout.now }
     requires later { IsLater split.old.split }
     requires place { length place.now ≡ layout.now.key }
@@ -185,23 +186,23 @@ pub(crate) fn advance_at<B: Blocks, K: Kept>(
     requires entry { IsTrue B.tells → HasEntry layout.now (B.seen blocks.old).cur place.now }
     requires rests { IsTrue B.tells → IsKeyedAtRest layout.now (B.seen blocks.old) }
     requires room { IsTrue B.tells → KeepsRoom layout.now
-        (K.kept kept.now (part_no (KeyedShape layout.now))) (B.seen blocks.old) }
+        (K.kept kept.now (area_part layout.now)) (B.seen blocks.old) }
     requires way { IsTrue B.tells
-        → KeyedUnderWay layout.now split.old.split (B.seen blocks.old) }
+        → AreaUnderWay layout.now split.old.split (B.seen blocks.old) }
     requires due { IsTrue B.tells → IsDue layout.now split.old.split (B.seen blocks.old).cur
-        (K.kept kept.now (part_no (KeyedShape layout.now))) place.now longest }
+        (K.kept kept.now (area_part layout.now)) place.now longest }
     ensures stage { IsTrue B.tells → IfOk result (λ kind. answers.Stage kind
-        ≡ keyed_room layout.now split.old.split (B.seen blocks.old).cur
-        (K.kept kept.now (part_no (KeyedShape layout.now))) place.now longest) }
+        ≡ room_here layout.now split.old.split (B.seen blocks.old).cur
+        (K.kept kept.now (area_part layout.now)) place.now longest) }
     ensures kind { IfOk result IsIntervalStage }
     // At every moment, whether it fails or not.
     ensures keeps { IsTrue B.tells → KeepsPart layout.now
-        (K.kept kept.now (part_no (KeyedShape layout.now))) (B.seen blocks.old)
+        (K.kept kept.now (area_part layout.now)) (B.seen blocks.old)
         (B.seen blocks.new) }
     ensures done { IsTrue B.tells → OnOk result
         (IsStageDone layout.now (B.seen blocks.old) (B.seen blocks.new)) }
     ensures way { IsTrue B.tells → OnOk result
-        (KeyedUnderWay layout.now split.new.split (B.seen blocks.new)) }
+        (AreaUnderWay layout.now split.new.split (B.seen blocks.new)) }
     ensures split { OnErr result (split.new.split ≡ split.old.split) }
     ensures later { IsLater split.new.split }
     ensures part { split.new.part ≡ layout.now }

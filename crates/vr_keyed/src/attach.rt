@@ -2,7 +2,8 @@
 ghost use Rattle.std.specs.Prelude.{◌≡◌, IsTrue, IfOk, IfErr};
 ghost use Rattle.vr_types.specs.Blocks.{Keeps};
 ghost use Rattle.vr_types.specs.Geometry.{IsAllowed};
-ghost use Rattle.vr_space.specs.Part.{IsOn, KeyedShape, Stands};
+ghost use Rattle.vr_space.specs.Part.{IsOn, KeyedShape};
+ghost use Rattle.vr_space.specs.Part.{Stands};
 ghost use Rattle.vr_attach.specs.Attached.{HasPartCause, IsDamageShown, IsOfKeyed};
 ghost use Rattle.vr_attach.specs.Laid.{keyed_part as part_of};
 ghost use Rattle.vr_catalog.specs.Catalog.{definition_in};
@@ -12,11 +13,11 @@ use crate::keyed::{Keyed, keyed_part};
 use std::alloc::Global;
 use vr_attach::{PartNo2, layout_of};
 use vr_catalog::{CatEntry, Definition};
-use vr_space::Layout;
+use vr_space::KeyedLayout;
 use vr_types::{AreaNo, Blocks, Geometry, Kind};
 
 /// Where the part of an entry is, with places of this length.
-fn layout_for(geometry: &Geometry, entry: &CatEntry, area: AreaNo, length: u16) -> Layout
+fn layout_for(geometry: &Geometry, entry: &CatEntry, area: AreaNo, length: u16) -> KeyedLayout
     requires allowed { IsAllowed geometry.now }
     requires entry { (is : IsOfKeyed geometry.now entry.now length) × (is.area ≡ area) }
     ensures { result ≡ part_of geometry.now entry.now.part.0 area.0 (definition_in entry.now) }
@@ -32,27 +33,24 @@ fn layout_for(geometry: &Geometry, entry: &CatEntry, area: AreaNo, length: u16) 
 }
 
 impl Keyed {
-    /// The part of a layout, as its blocks stand: with no split under way, and nothing met. Its
-    /// area is the one of this number, and the volume has `areas` of them. The answers are those of
-    /// `attach`.
+    /// The part of a layout, as its blocks stand: with no split under way, and nothing met. The
+    /// answers are those of `attach`.
     pub fn attach_layout<B: Blocks>(
         alloc: Global,
         blocks: &mut B,
-        layout: Layout,
-        area: u32,
-        areas: u32,
+        layout: KeyedLayout,
     ) -> Result<Keyed, PartNo2>
         requires on { IsOn (KeyedShape layout) (B.seen blocks.old) }
         ensures attached { IfOk result (IsAttachedTo layout) }
         ensures stands { IsTrue B.tells → IfOk result (λ keyed.
             Stands (KeyedShape keyed.part) (B.seen blocks.old).cur) }
         ensures damaged { IsTrue B.tells → IfErr result
-            (IsDamageIn layout area areas (B.seen blocks.old).cur) }
+            (IsDamageIn layout (B.seen blocks.old).cur) }
         ensures keeps { Keeps B.tells (B.seen blocks.old) (B.seen blocks.new) }
         ensures cause { HasPartCause (B.faults blocks.old) (B.faults blocks.new) result }
     {
         let mut keyed = keyed_part(alloc, layout)?;
-        match keyed.first_damage(blocks, area, areas)? {
+        match keyed.first_damage(blocks)? {
             None => Ok(keyed),
             Some(damage) => Err(PartNo2::Damaged {
                 block: damage.block,
@@ -88,6 +86,6 @@ impl Keyed {
             unreachable!("the part has an area")
         };
         let layout = layout_for(geometry, entry, area, length);
-        Keyed::attach_layout(alloc, blocks, layout, area.0, geometry.areas())
+        Keyed::attach_layout(alloc, blocks, layout)
     }
 }

@@ -8,6 +8,7 @@ ghost use Rattle.std.specs.List.Sorted.{IsStrictlySortedBy};
 ghost use Rattle.vr_types.specs.Content.{place_cmp};
 ghost use Rattle.vr_ci.specs.Interval as ci;
 ghost use Rattle.vr_ci.specs.Interval.{room};
+ghost use Rattle.vr_space.specs.AreaCalls.{area_part};
 ghost use Rattle.vr_space.specs.Whence.{first_of, places_kept};
 ghost use Rattle.vr_space.specs.Room.{
   HaveRoom,
@@ -20,7 +21,6 @@ ghost use Rattle.vr_space.specs.Room.{
 };
 ghost use Rattle.vr_space.specs.Room as ranges;
 ghost use Rattle.vr_space.specs.Keyed.{Keyed, HoldsRange, IsKept, IsValid, key_of, lengths_of};
-ghost use Rattle.vr_space.specs.Part.{KeyedShape, part_no};
 ghost use Rattle.vr_split.specs.Weights.{HasNoRoom};
 ghost use Rattle.vr_space.specs.Lent.{range_lent};
 ghost use Rattle.vr_keyed.specs.Lent.{lengths_among, with_record};
@@ -139,7 +139,7 @@ fn add_kept_at<K: Kept>(kept: &K, part: PartNo, place: &Place, weights: &mut Wei
 
 /// The number of the part.
 fn part_of(layout: &Layout) -> PartNo
-    ensures { result ≡ part_no (KeyedShape layout.now) }
+    ensures { result ≡ area_part layout.now }
 {
     layout.part
 }
@@ -175,7 +175,7 @@ fn gather_kept<K: Kept>(
     kept: &K,
     weights: &mut Weights,
 ) -> bool
-    ensures gathered { let all = K.kept kept.now (part_no (KeyedShape layout.now)) in
+    ensures gathered { let all = K.kept kept.now (area_part layout.now) in
         let lengths = lengths_of layout.now all (range_lent range.now) block.now in
         HoldsRange layout.now (range_lent range.now) block.now
         → ArePlaces layout.now.key all → HasRoomFor layout.now weights.old → MatchBool result
@@ -205,7 +205,7 @@ pub(crate) fn gather_lengths<K: Kept>(
     longest: u32,
     weights: &mut Weights,
 ) -> bool
-    ensures gathered { let all = K.kept kept.now (part_no (KeyedShape layout.now)) in
+    ensures gathered { let all = K.kept kept.now (area_part layout.now) in
         let lengths = lengths_of layout.now all (range_lent range.now) block.now in
         HoldsRange layout.now (range_lent range.now) block.now
         → ArePlaces layout.now.key all → length place.now ≡ layout.now.key
@@ -229,7 +229,7 @@ pub(crate) fn has_kept_room<K: Kept>(
     kept: &K,
     weights: &mut Weights,
 ) -> bool
-    ensures room { let all = K.kept kept.now (part_no (KeyedShape layout.now)) in
+    ensures room { let all = K.kept kept.now (area_part layout.now) in
         let lengths = lengths_of layout.now all (range_lent range.now) block.now in
         HoldsRange layout.now (range_lent range.now) block.now
         → ArePlaces layout.now.key all → HasRoomFor layout.now weights.old
@@ -255,7 +255,7 @@ pub fn fits<K: Kept>(
     longest: u32,
     weights: &mut Weights,
 ) -> bool
-    ensures fits { let all = K.kept kept.now (part_no (KeyedShape layout.now)) in
+    ensures fits { let all = K.kept kept.now (area_part layout.now) in
         let lengths = lengths_of layout.now all (range_lent range.now) block.now in
         HoldsRange layout.now (range_lent range.now) block.now
         → ArePlaces layout.now.key all → length place.now ≡ layout.now.key

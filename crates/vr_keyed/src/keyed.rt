@@ -4,10 +4,11 @@ ghost use Rattle.std.specs.Prelude.{MatchOption};
 ghost use Rattle.std.specs.Prelude.{vec_capacity};
 ghost use Rattle.vr_types.specs.Blocks.{Keeps};
 ghost use Rattle.vr_types.specs.Faults.{HasCause};
-ghost use Rattle.vr_space.specs.Part.{HasRoom, IsOn, IsPlaceOf, IsRecordOf, KeyedShape, Stands};
-ghost use Rattle.vr_space.specs.Part.{given, part_no};
-ghost use Rattle.vr_attach.specs.Damage.{IsDamagedAt};
+ghost use Rattle.vr_space.specs.Part.{HasRoom, IsOn, IsPlaceOf, IsRecordOf, KeyedShape, Knows};
+ghost use Rattle.vr_space.specs.Part.{Stands, given, part_no};
+ghost use Rattle.vr_attach.specs.Damage.{IsDamagedIn};
 ghost use Rattle.vr_keyed.specs.Lent.{ArePlaces};
+ghost use Rattle.vr_keyed.specs.Owned.{known_of};
 ghost use Rattle.vr_keyed.specs.Ready.{put_of};
 ghost use Rattle.vr_keyed.specs.Splits.{IsSplit};
 
@@ -22,7 +23,7 @@ use crate::slots::Slots;
 use std::alloc::Global;
 use std::marker::Model;
 use vr_attach::{Damage, first_damage};
-use vr_space::{Kept, Layout, Part, Room, Whence};
+use vr_space::{Kept, KeyedLayout, Layout, Part, Room, Whence};
 use vr_split::{CiSplit, Weights, ci_split, empty_weights};
 use vr_types::{Blocks, DeviceFault, OutOfMemory, PartNo, Place, PlaceBuffer, Space, StageKind};
 
@@ -31,7 +32,9 @@ use vr_types::{Blocks, DeviceFault, OutOfMemory, PartNo, Place, PlaceBuffer, Spa
 /// that its calls need, so that none of them takes memory.
 #[derive(Drop)]
 pub struct Keyed {
-    layout: Layout,
+    layout: KeyedLayout,
+    /// Its one area.
+    area: Layout,
     split: CiSplit,
     slots: Slots,
     spare: Slot,
@@ -42,6 +45,7 @@ pub struct Keyed {
 
 impl Model for Keyed {
     ghost use Rattle.std.specs.Prelude.{◌≡◌, ◌≤◌, vec_len, vec_capacity};
+    ghost use Rattle.vr_space.specs.Areas.{area_of};
     ghost use Rattle.vr_keyed.specs.Owned.{Owned};
     ghost use Rattle.vr_keyed.specs.Slots.{AreSlotsOf, IsSlotOf, mets};
     ghost use Rattle.vr_keyed.specs.Lent.{HasRoomFor};
@@ -56,12 +60,13 @@ impl Model for Keyed {
       put = keyed.put.items;
     } };
 
-    ghost invariant = { λ keyed. (keyed.split.part ≡ keyed.layout)
+    ghost invariant = { λ keyed. (keyed.area ≡ area_of keyed.layout keyed.layout.first)
+        × (keyed.split.part ≡ keyed.area)
         × IsLater keyed.split.split
-        × AreSlotsOf keyed.layout keyed.slots
-        × IsSlotOf keyed.layout keyed.spare
-        × HasRoomFor keyed.layout keyed.weights
-        × (vec_len keyed.out ≡ keyed.layout.size)
+        × AreSlotsOf keyed.area keyed.slots
+        × IsSlotOf keyed.area keyed.spare
+        × HasRoomFor keyed.area keyed.weights
+        × (vec_len keyed.out ≡ keyed.area.size)
         × (1 ≤ vec_capacity keyed.put) };
 }
 
@@ -90,18 +95,20 @@ fn note_put(noted: &mut Vec<u32>, put: Option<u32>)
 
 /// A part of this layout, with no split under way and nothing met. It fails only if memory runs
 /// out, and takes all that the part needs.
-pub fn keyed_part(alloc: Global, layout: Layout) -> Result<Keyed, OutOfMemory>
+pub fn keyed_part(alloc: Global, layout: KeyedLayout) -> Result<Keyed, OutOfMemory>
     ensures { IfOk result (λ keyed. keyed
         ≡ record { part = layout; split = None; met = []; put = [] }) }
 {
-    let split = ci_split(alloc, layout.copy())?;
-    let slots = Slots::empty(alloc, &layout)?;
-    let spare = empty_slot(alloc, &layout)?;
-    let weights = empty_weights(alloc, layout.size / 3 + 1, layout.key)?;
-    let out = vec![in alloc; 0; layout.size as usize]?;
+    let area = layout.area(layout.first);
+    let split = ci_split(alloc, area.copy())?;
+    let slots = Slots::empty(alloc, &area)?;
+    let spare = empty_slot(alloc, &area)?;
+    let weights = empty_weights(alloc, area.size / 3 + 1, area.key)?;
+    let out = vec![in alloc; 0; area.size as usize]?;
     let put = Vec::with_capacity(alloc, 1)?;
     Ok(Keyed {
         layout,
+        area,
         split,
         slots,
         spare,
@@ -125,35 +132,32 @@ impl Keyed {
         ensures { IsTrue result ↔ (IsPlaceOf (KeyedShape self.now.part) place.now
             × IfSome (given bytes.entry) (IsRecordOf (KeyedShape self.now.part) place.now)) }
     {
-        let layout = &self.layout;
+        let area = &self.area;
         let place = place.as_slice();
-        if place.len() != layout.key as usize {
+        if place.len() != area.key as usize {
             return false;
         }
         match bytes {
-            Some(bytes) => bytes.len() <= layout.most as usize && layout.is_at(bytes, place),
+            Some(bytes) => bytes.len() <= area.most as usize && area.is_at(bytes, place),
             None => true,
         }
     }
 
-    /// The first damage of the part's blocks, if there is one. The part's area is the one of this
-    /// number, and the volume has `areas` of them.
+    /// The first damage of the part's blocks, if there is one.
     pub(crate) fn first_damage<B: Blocks>(
         &mut self,
         blocks: &mut B,
-        area: u32,
-        areas: u32,
     ) -> Result<Option<Damage>, DeviceFault>
         requires on { IsOn (KeyedShape self.old.part) (B.seen blocks.old) }
         ensures same { self.new ≡ self.old }
         ensures found { IsTrue B.tells → IfOk result (λ found. MatchOption found
             (Stands (KeyedShape self.old.part) (B.seen blocks.old).cur)
-            (λ damage. IsDamagedAt self.old.part area areas (B.seen blocks.old).cur
+            (λ damage. IsDamagedIn self.old.part (B.seen blocks.old).cur
             damage.block damage.rule)) }
         ensures keeps { Keeps B.tells (B.seen blocks.old) (B.seen blocks.new) }
         ensures cause { HasCause (B.faults blocks.old) (B.faults blocks.new) result }
     {
-        first_damage(blocks, &self.layout, area, areas, self.out.as_mut_slice())
+        first_damage(blocks, &self.layout, self.out.as_mut_slice())
     }
 
     /// Whether each interval of the part has room for what is kept for its range, beside its
@@ -169,6 +173,8 @@ impl Keyed {
             (K.kept kept.now (part_no (KeyedShape self.old.part))) }
         requires stands { IsTrue B.tells
             → Stands (KeyedShape self.old.part) (B.seen blocks.old).cur }
+        requires knows { IsTrue B.tells
+            → Knows (KeyedShape self.old.part) (known_of self.old) (B.seen blocks.old) }
         ensures same { self.new ≡ self.old }
         ensures rooms { IsTrue B.tells → IfOk result (λ is. IsTrue is
             ↔ HasRoom (KeyedShape self.old.part)
@@ -178,7 +184,7 @@ impl Keyed {
     {
         rooms_in(
             blocks,
-            &self.layout,
+            &self.area,
             kept,
             self.out.as_mut_slice(),
             &mut self.weights,
@@ -201,7 +207,7 @@ impl Part for Keyed {
         part: &mut Self,
         place: &Place,
     ) -> Result<Option<&'a [u8]>, DeviceFault> {
-        look_in(blocks, &part.layout, place.as_slice())
+        look_in(blocks, &part.area, place.as_slice())
     }
 
     fn next<B: Blocks>(
@@ -210,7 +216,7 @@ impl Part for Keyed {
         from: Whence<'_>,
         into: &mut PlaceBuffer,
     ) -> Result<bool, DeviceFault> {
-        next_in(&mut self.spare, &self.layout, blocks, from, into)
+        next_in(&mut self.spare, &self.area, blocks, from, into)
     }
 
     fn room<B: Blocks, K: Kept>(
@@ -223,7 +229,7 @@ impl Part for Keyed {
     ) -> Result<Room, DeviceFault> {
         let split = under_way(&self.split);
         room_at(
-            &self.layout,
+            &self.area,
             split,
             &mut self.slots,
             blocks,
@@ -243,7 +249,7 @@ impl Part for Keyed {
         length: u32,
     ) -> Result<StageKind, DeviceFault> {
         advance_at(
-            &self.layout,
+            &self.area,
             &mut self.split,
             &mut self.slots,
             blocks,
@@ -263,7 +269,7 @@ impl Part for Keyed {
     ) -> Result<(), DeviceFault> {
         let put = set(
             &mut self.slots,
-            &self.layout,
+            &self.area,
             blocks,
             self.out.as_mut_slice(),
             place.as_slice(),
@@ -278,7 +284,7 @@ impl Part for Keyed {
     }
 
     fn areas(&self) -> u32 {
-        0
+        1
     }
 
     fn put_blocks(&self) -> &[u32] {

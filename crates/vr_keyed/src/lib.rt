@@ -1,6 +1,7 @@
 //! A key-sequenced part of one area, on blocks: its head and its control intervals. What speaks of
-//! one head holds of each area of a chain; that the part has one is used in `keyed` alone. It
-//! stands on `vr_types`, `vr_ci`, `vr_seqset`, `vr_space`, `vr_split`, `vr_catalog` and `vr_attach`.
+//! one area holds of each of a chain; that the part has one is used in `keyed` and `attach` alone.
+//! It stands on `vr_types`, `vr_ci`, `vr_seqset`, `vr_space`, `vr_split`, `vr_catalog` and
+//! `vr_attach`.
 #![tactic(auto)]
 
 mod advance;

@@ -5,8 +5,8 @@ ghost use Rattle.std.specs.Io.BufRead.{Rests};
 ghost use Rattle.vr_types.specs.Image.{block_at};
 ghost use Rattle.vr_types.specs.Blocks.{Keeps};
 ghost use Rattle.vr_types.specs.Faults.{HasCause};
+ghost use Rattle.vr_space.specs.AreaCalls.{IsAreaOn, read_here};
 ghost use Rattle.vr_space.specs.Keyed.{InArea, IsHead};
-ghost use Rattle.vr_space.specs.Part.{KeyedShape, IsOn, record_read};
 ghost use Rattle.vr_keyed.specs.Look.{AreaStands, HasEntry, LeadsTo};
 
 use vr_space::{Layout, entry_for, record_at};
@@ -14,7 +14,7 @@ use vr_types::{Blocks, DeviceFault};
 
 /// The block of the interval that the head leads to from a place of the area.
 fn block_for<B: Blocks>(blocks: &mut B, layout: &Layout, place: &[u8]) -> Result<u32, DeviceFault>
-    requires on { IsOn (KeyedShape layout.now) (B.seen blocks.old) }
+    requires on { IsAreaOn layout.now (B.seen blocks.old) }
     requires place { length place.now ≡ layout.now.key }
     requires head { IsTrue B.tells
         → IsHead layout.now (block_at (B.seen blocks.old).cur layout.now.head) }
@@ -39,13 +39,13 @@ pub(crate) fn look_in<'a, B: Blocks>(
     layout: &Layout,
     place: &[u8],
 ) -> Result<Option<&'a [u8]>, DeviceFault>
-    requires on { IsOn (KeyedShape layout.now) (B.seen blocks.old) }
+    requires on { IsAreaOn layout.now (B.seen blocks.old) }
     requires place { length place.now ≡ layout.now.key }
     requires stands { IsTrue B.tells → AreaStands layout.now (B.seen blocks.old).cur }
     requires entry { IsTrue B.tells → HasEntry layout.now (B.seen blocks.old).cur place.now }
     ensures item { IsTrue B.tells → IfOk result (λ found. MatchOption found
-        (record_read (KeyedShape layout.now) (B.seen blocks.old).cur place.now ≡ None)
-        (λ s. record_read (KeyedShape layout.now) (B.seen blocks.old).cur place.now
+        (read_here layout.now (B.seen blocks.old).cur place.now ≡ None)
+        (λ s. read_here layout.now (B.seen blocks.old).cur place.now
         ≡ Some s.now)) }
     ensures* after { sem 𝓛 (Rests B.row blocks.entry (λ new.
         Keeps B.tells (B.seen blocks.old) (B.seen new)

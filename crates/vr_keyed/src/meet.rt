@@ -3,9 +3,9 @@ ghost use Rattle.std.specs.Prelude.{◌≡◌, ◌≢◌, ◌<◌, ℕ, IsTrue, 
 ghost use Rattle.vr_types.specs.Image.{Image, block_at};
 ghost use Rattle.vr_types.specs.Blocks.{Keeps};
 ghost use Rattle.vr_types.specs.Faults.{HasCause};
+ghost use Rattle.vr_space.specs.AreaCalls.{IsAreaOn};
 ghost use Rattle.vr_space.specs.Keyed.{Keyed, IsHead};
 ghost use Rattle.vr_space.specs.Met.{IsMet, met_next};
-ghost use Rattle.vr_space.specs.Part.{KeyedShape, IsOn};
 ghost use Rattle.vr_keyed.specs.Look.{HasEntry};
 ghost use Rattle.vr_keyed.specs.Slots.{IsSlotOf, AreSlotsOf, IsFirst, IsLed, met_in, mets};
 ghost use Rattle.vr_keyed.specs.Slots.{HasMetPlace, met_places};
@@ -23,7 +23,7 @@ fn find<B: Blocks>(
     blocks: &mut B,
     place: &[u8],
 ) -> Result<(), DeviceFault>
-    requires on { IsOn (KeyedShape layout.now) (B.seen blocks.old) }
+    requires on { IsAreaOn layout.now (B.seen blocks.old) }
     requires place { length place.now ≡ layout.now.key }
     requires slot { IsSlotOf layout.now slot.old }
     requires head { IsTrue B.tells
@@ -51,7 +51,7 @@ fn fill<B: Blocks>(
     blocks: &mut B,
     place: &[u8],
 ) -> Result<(), DeviceFault>
-    requires on { IsOn (KeyedShape layout.now) (B.seen blocks.old) }
+    requires on { IsAreaOn layout.now (B.seen blocks.old) }
     requires place { length place.now ≡ layout.now.key }
     requires slot { IsSlotOf layout.now slot.old }
     requires head { IsTrue B.tells
@@ -96,7 +96,7 @@ fn read_in<B: Blocks>(
     blocks: &mut B,
     place: &[u8],
 ) -> Result<(), DeviceFault>
-    requires on { IsOn (KeyedShape layout.now) (B.seen blocks.old) }
+    requires on { IsAreaOn layout.now (B.seen blocks.old) }
     requires place { length place.now ≡ layout.now.key }
     requires room { AreSlotsOf layout.now slots.old }
     requires head { IsTrue B.tells
@@ -129,7 +129,7 @@ pub(crate) fn meet<B: Blocks>(
     blocks: &mut B,
     place: &[u8],
 ) -> Result<(), DeviceFault>
-    requires on { IsOn (KeyedShape layout.now) (B.seen blocks.old) }
+    requires on { IsAreaOn layout.now (B.seen blocks.old) }
     requires place { length place.now ≡ layout.now.key }
     requires room { AreSlotsOf layout.now slots.old }
     requires head { IsTrue B.tells

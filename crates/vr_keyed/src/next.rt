@@ -12,10 +12,10 @@ ghost use Rattle.vr_types.specs.Image.{block_at};
 ghost use Rattle.vr_types.specs.Blocks.{Keeps};
 ghost use Rattle.vr_types.specs.Faults.{HasCause};
 ghost use Rattle.vr_ci.specs.Interval as ci;
+ghost use Rattle.vr_space.specs.AreaCalls.{IsAreaOn, NextHere};
 ghost use Rattle.vr_space.specs.Whence.{allows};
 ghost use Rattle.vr_space.specs.Keyed.{HoldsRange, IsHead, IsKept, entries_of, key_of};
 ghost use Rattle.vr_space.specs.Search.{keys_of};
-ghost use Rattle.vr_space.specs.Part.{KeyedShape, IsOn, NextIs};
 ghost use Rattle.vr_keyed.specs.Look.{AreaStands};
 ghost use Rattle.vr_keyed.specs.Slots.{IsSlotOf, low_kept, met_in};
 ghost use Rattle.vr_keyed.specs.Next.{is_sought, first_sought, FoundIs, NthIs};
@@ -110,7 +110,7 @@ fn find_nth<B: Blocks>(
     blocks: &mut B,
     number: usize,
 ) -> Result<bool, DeviceFault>
-    requires on { IsOn (KeyedShape layout.now) (B.seen blocks.old) }
+    requires on { IsAreaOn layout.now (B.seen blocks.old) }
     requires slot { IsSlotOf layout.now slot.old }
     requires head { IsTrue B.tells
         → IsHead layout.now (block_at (B.seen blocks.old).cur layout.now.head) }
@@ -159,7 +159,7 @@ fn find_start<B: Blocks>(
     blocks: &mut B,
     from: Whence<'_>,
 ) -> Result<(usize, usize), DeviceFault>
-    requires on { IsOn (KeyedShape layout.now) (B.seen blocks.old) }
+    requires on { IsAreaOn layout.now (B.seen blocks.old) }
     requires head { IsTrue B.tells
         → IsHead layout.now (block_at (B.seen blocks.old).cur layout.now.head) }
     ensures start { IsTrue B.tells → IfOk result (λ bounds.
@@ -183,7 +183,7 @@ fn next_nth<B: Blocks>(
     from: Whence<'_>,
     into: &mut PlaceBuffer,
 ) -> Result<bool, DeviceFault>
-    requires on { IsOn (KeyedShape layout.now) (B.seen blocks.old) }
+    requires on { IsAreaOn layout.now (B.seen blocks.old) }
     requires slot { IsSlotOf layout.now slot.old }
     requires room { layout.now.key ≤ into.old.room }
     requires stands { IsTrue B.tells → AreaStands layout.now (B.seen blocks.old).cur }
@@ -210,13 +210,13 @@ pub(crate) fn next_in<B: Blocks>(
     from: Whence<'_>,
     into: &mut PlaceBuffer,
 ) -> Result<bool, DeviceFault>
-    requires on { IsOn (KeyedShape layout.now) (B.seen blocks.old) }
+    requires on { IsAreaOn layout.now (B.seen blocks.old) }
     requires slot { IsSlotOf layout.now slot.old }
     requires room { layout.now.key ≤ into.old.room }
     requires stands { IsTrue B.tells → AreaStands layout.now (B.seen blocks.old).cur }
     ensures slot { IsSlotOf layout.now slot.new }
     ensures next { IsTrue B.tells → IfOk result (λ found.
-        NextIs (KeyedShape layout.now) (B.seen blocks.old).cur from.entry found into.new.place) }
+        NextHere layout.now (B.seen blocks.old).cur from.entry found into.new.place) }
     ensures room { into.new.room ≡ into.old.room }
     ensures keeps { Keeps B.tells (B.seen blocks.old) (B.seen blocks.new) }
     ensures cause { HasCause (B.faults blocks.old) (B.faults blocks.new) result }

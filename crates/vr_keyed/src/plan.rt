@@ -2,9 +2,9 @@
 ghost use Rattle.std.specs.Prelude.{◌≡◌, ◌<◌, ℕ, IsTrue, IfSome, IfOk, MatchOption, MatchBool};
 ghost use Rattle.std.specs.Prelude.{IsSomeAnd, Some, length};
 ghost use Rattle.vr_types.specs.Image.{Image};
+ghost use Rattle.vr_space.specs.AreaCalls.{area_part, IsAreaOn};
 ghost use Rattle.vr_space.specs.Room.{HaveRoom, with_length};
 ghost use Rattle.vr_space.specs.Keyed.{HoldsRange, lengths_of};
-ghost use Rattle.vr_space.specs.Part.{part_no};
 ghost use Rattle.vr_space.specs.Split.{free_interval};
 ghost use Rattle.vr_keyed.specs.Lent.{ArePlaces, HasRoomFor};
 ghost use Rattle.vr_keyed.specs.Slots.{met_in};
@@ -13,7 +13,6 @@ ghost use Rattle.vr_types.specs.Image.{block_at};
 ghost use Rattle.vr_types.specs.Blocks.{Keeps};
 ghost use Rattle.vr_types.specs.Faults.{HasCause};
 ghost use Rattle.vr_space.specs.Keyed.{IsHead};
-ghost use Rattle.vr_space.specs.Part.{KeyedShape, IsOn};
 ghost use Rattle.vr_keyed.specs.Planned.{IsCutAt, HasNoCut, IsTargetAt, HasNoTarget};
 
 use crate::gather::gather_lengths;
@@ -77,7 +76,7 @@ pub(crate) fn find_target<B: Blocks>(
     blocks: &mut B,
     place: &[u8],
 ) -> Result<Option<Target>, DeviceFault>
-    requires on { IsOn (KeyedShape layout.now) (B.seen blocks.old) }
+    requires on { IsAreaOn layout.now (B.seen blocks.old) }
     requires head { IsTrue B.tells
         → IsHead layout.now (block_at (B.seen blocks.old).cur layout.now.head) }
     ensures target { IsTrue B.tells → IfOk result (λ target. MatchOption target
@@ -101,7 +100,7 @@ fn gather_met<K: Kept>(
     longest: u32,
     weights: &mut Weights,
 ) -> bool
-    ensures gathered { let all = K.kept kept.now (part_no (KeyedShape layout.now)) in
+    ensures gathered { let all = K.kept kept.now (area_part layout.now) in
         let met = met_in slot.now in
         let lengths = lengths_of layout.now all met.range met.block in
         HoldsRange layout.now met.range met.block → ArePlaces layout.now.key all
@@ -143,7 +142,7 @@ pub(crate) fn plan_in<K: Kept>(
     longest: u32,
     weights: &mut Weights,
 ) -> Option<Plan>
-    ensures plan { let all = K.kept kept.now (part_no (KeyedShape layout.now)) in
+    ensures plan { let all = K.kept kept.now (area_part layout.now) in
         (image : Image) → LacksRoom layout.now image all (met_in slot.now) place.now longest
         → IsTargetAt layout.now (block_at image layout.now.head) place.now target
         → HasRoomFor layout.now weights.old
@@ -178,14 +177,14 @@ pub(crate) fn plan_split<B: Blocks, K: Kept>(
     longest: u32,
     weights: &mut Weights,
 ) -> Result<Option<Plan>, DeviceFault>
-    requires on { IsOn (KeyedShape layout.now) (B.seen blocks.old) }
+    requires on { IsAreaOn layout.now (B.seen blocks.old) }
     requires room { HasRoomFor layout.now weights.old }
-    requires lacks { let all = K.kept kept.now (part_no (KeyedShape layout.now)) in
+    requires lacks { let all = K.kept kept.now (area_part layout.now) in
         IsTrue B.tells → LacksRoom layout.now (B.seen blocks.old).cur all (met_in slot.now)
         place.now longest }
     requires free { IsTrue B.tells → (into : ℕ) × (free_interval layout.now
         (block_at (B.seen blocks.old).cur layout.now.head) ≡ Some into) }
-    ensures plan { let all = K.kept kept.now (part_no (KeyedShape layout.now)) in
+    ensures plan { let all = K.kept kept.now (area_part layout.now) in
         IsTrue B.tells → IfOk result (λ plan. IsSomeAnd plan (IsPlan layout.now
         (B.seen blocks.old).cur all (met_in slot.now) place.now longest weights.new.lengths)) }
     ensures number { IfOk result (λ plan. IfSome plan

@@ -6,17 +6,18 @@ ghost use Rattle.vr_types.specs.Image.{block_at};
 ghost use Rattle.vr_types.specs.Blocks.{Keeps};
 ghost use Rattle.vr_types.specs.Faults.{HasCause};
 ghost use Rattle.vr_seqset.specs.Entry.{Entry};
+ghost use Rattle.vr_space.specs.AreaCalls.{area_part, IsAreaOn};
 ghost use Rattle.vr_space.specs.Keyed.{IsHead, entry_block};
-ghost use Rattle.vr_space.specs.Split.{SplitNow, free_from, free_interval, keyed_room};
+ghost use Rattle.vr_space.specs.Split.{SplitNow, free_from, free_interval};
 ghost use Rattle.vr_space.specs.Split.{room_by_split};
 ghost use Rattle.vr_space.specs.Split.{stage_at};
 ghost use Rattle.vr_space.specs.Met.{IsMet, met_next};
-ghost use Rattle.vr_space.specs.Part.{KeyedShape, IsOn, part_no};
 ghost use Rattle.vr_keyed.specs.Look.{AreaStands, HasEntry};
 ghost use Rattle.vr_keyed.specs.Slots.{AreSlotsOf, met_in, met_places, mets};
 ghost use Rattle.vr_space.specs.Lent.{range_lent};
+ghost use Rattle.vr_split.specs.Splits.{stage_now};
 ghost use Rattle.vr_keyed.specs.Lent.{ArePlaces, HasRoomFor};
-ghost use Rattle.vr_keyed.specs.Splits.{IsSplit};
+ghost use Rattle.vr_keyed.specs.Splits.{IsSplit, room_here};
 
 use crate::gather::fits;
 use crate::meet::meet;
@@ -98,7 +99,7 @@ pub(crate) fn find_free<B: Blocks>(
     layout: &Layout,
     blocks: &mut B,
 ) -> Result<Option<u16>, DeviceFault>
-    requires on { IsOn (KeyedShape layout.now) (B.seen blocks.old) }
+    requires on { IsAreaOn layout.now (B.seen blocks.old) }
     requires head { IsTrue B.tells
         → IsHead layout.now (block_at (B.seen blocks.old).cur layout.now.head) }
     ensures free { IsTrue B.tells → IfOk result (λ free. MatchOption free
@@ -132,11 +133,11 @@ fn room_beyond<B: Blocks>(
     split: Option<UnderWay>,
     blocks: &mut B,
 ) -> Result<Room, DeviceFault>
-    requires on { IsOn (KeyedShape layout.now) (B.seen blocks.old) }
+    requires on { IsAreaOn layout.now (B.seen blocks.old) }
     requires head { IsTrue B.tells
         → IsHead layout.now (block_at (B.seen blocks.old).cur layout.now.head) }
     ensures answer { IsTrue B.tells → IfOk result (λ room. (now : Option SplitNow)
-        → IsSplit now split → room ≡ room_by_split now
+        → IsSplit now split → room ≡ room_by_split (stage_now now)
         (free_interval layout.now (block_at (B.seen blocks.old).cur layout.now.head))) }
     ensures keeps { Keeps B.tells (B.seen blocks.old) (B.seen blocks.new) }
     ensures cause { HasCause (B.faults blocks.old) (B.faults blocks.new) result }
@@ -176,7 +177,7 @@ pub(crate) fn room_met<B: Blocks, K: Kept>(
     longest: u32,
     weights: &mut Weights,
 ) -> Result<Room, DeviceFault>
-    requires on { IsOn (KeyedShape layout.now) (B.seen blocks.old) }
+    requires on { IsAreaOn layout.now (B.seen blocks.old) }
     requires stands { IsTrue B.tells → AreaStands layout.now (B.seen blocks.old).cur }
     requires met { IsTrue B.tells
         → IsMet layout.now (B.seen blocks.old).cur (met_in slot.now) }
@@ -184,10 +185,10 @@ pub(crate) fn room_met<B: Blocks, K: Kept>(
     requires place { length place.now ≡ layout.now.key }
     requires room { HasRoomFor layout.now weights.old }
     requires kept { IsTrue B.tells
-        → ArePlaces layout.now.key (K.kept kept.now (part_no (KeyedShape layout.now))) }
+        → ArePlaces layout.now.key (K.kept kept.now (area_part layout.now)) }
     ensures answer { IsTrue B.tells → IfOk result (λ room. (now : Option SplitNow)
-        → IsSplit now split → room ≡ keyed_room layout.now now (B.seen blocks.old).cur
-        (K.kept kept.now (part_no (KeyedShape layout.now))) place.now longest) }
+        → IsSplit now split → room ≡ room_here layout.now now (B.seen blocks.old).cur
+        (K.kept kept.now (area_part layout.now)) place.now longest) }
     ensures room { HasRoomFor layout.now weights.new }
     ensures keeps { Keeps B.tells (B.seen blocks.old) (B.seen blocks.new) }
     ensures cause { HasCause (B.faults blocks.old) (B.faults blocks.new) result }
@@ -222,7 +223,7 @@ pub(crate) fn room_at<B: Blocks, K: Kept>(
     longest: u32,
     weights: &mut Weights,
 ) -> Result<Room, DeviceFault>
-    requires on { IsOn (KeyedShape layout.now) (B.seen blocks.old) }
+    requires on { IsAreaOn layout.now (B.seen blocks.old) }
     requires place { length place.now ≡ layout.now.key }
     requires stands { IsTrue B.tells → AreaStands layout.now (B.seen blocks.old).cur }
     requires entry { IsTrue B.tells → HasEntry layout.now (B.seen blocks.old).cur place.now }
@@ -231,10 +232,10 @@ pub(crate) fn room_at<B: Blocks, K: Kept>(
         → All (IsMet layout.now (B.seen blocks.old).cur) (mets slots.old) }
     requires room { HasRoomFor layout.now weights.old }
     requires kept { IsTrue B.tells
-        → ArePlaces layout.now.key (K.kept kept.now (part_no (KeyedShape layout.now))) }
+        → ArePlaces layout.now.key (K.kept kept.now (area_part layout.now)) }
     ensures answer { IsTrue B.tells → IfOk result (λ room. (now : Option SplitNow)
-        → IsSplit now split → room ≡ keyed_room layout.now now (B.seen blocks.old).cur
-        (K.kept kept.now (part_no (KeyedShape layout.now))) place.now longest) }
+        → IsSplit now split → room ≡ room_here layout.now now (B.seen blocks.old).cur
+        (K.kept kept.now (area_part layout.now)) place.now longest) }
     ensures slots { AreSlotsOf layout.now slots.new }
     ensures places { OnOk result
         (met_places (mets slots.new) ≡ met_next (met_places (mets slots.old)) place.now) }

@@ -4,9 +4,9 @@ ghost use Rattle.std.specs.List.{slice_get};
 ghost use Rattle.vr_types.specs.Image.{block_at};
 ghost use Rattle.vr_types.specs.Blocks.{Keeps};
 ghost use Rattle.vr_types.specs.Faults.{HasCause};
+ghost use Rattle.vr_space.specs.AreaCalls.{area_part, HasRoomHere, IsAreaOn};
 ghost use Rattle.vr_space.specs.Keyed.{HoldsRange, InArea, IsHead, entries_of};
 ghost use Rattle.vr_space.specs.Lent.{range_lent};
-ghost use Rattle.vr_space.specs.Part.{HasRoom, IsOn, KeyedShape, part_no};
 ghost use Rattle.vr_attach.specs.Damage.{HoldsNth};
 ghost use Rattle.vr_keyed.specs.Lent.{ArePlaces, HasRoomFor};
 ghost use Rattle.vr_keyed.specs.Look.{AreaStands};
@@ -26,13 +26,13 @@ fn has_room_in<B: Blocks, K: Kept>(
     kept: &K,
     weights: &mut Weights,
 ) -> Result<bool, DeviceFault>
-    requires on { IsOn (KeyedShape layout.now) (B.seen blocks.old) }
+    requires on { IsAreaOn layout.now (B.seen blocks.old) }
     requires inside { InArea layout.now number }
-    requires kept { ArePlaces layout.now.key (K.kept kept.now (part_no (KeyedShape layout.now))) }
+    requires kept { ArePlaces layout.now.key (K.kept kept.now (area_part layout.now)) }
     requires weights { HasRoomFor layout.now weights.old }
     ensures room { IsTrue B.tells → HoldsRange layout.now (range_lent range.now)
         (block_at (B.seen blocks.old).cur number) → IfOk result (λ is. IsTrue is
-        ↔ HasRoomIn layout.now (K.kept kept.now (part_no (KeyedShape layout.now)))
+        ↔ HasRoomIn layout.now (K.kept kept.now (area_part layout.now))
         (range_lent range.now) (block_at (B.seen blocks.old).cur number)) }
     ensures weights { HasRoomFor layout.now weights.new }
     ensures keeps { Keeps B.tells (B.seen blocks.old) (B.seen blocks.new) }
@@ -51,15 +51,15 @@ fn has_room_at<B: Blocks, K: Kept>(
     kept: &K,
     weights: &mut Weights,
 ) -> Result<bool, DeviceFault>
-    requires on { IsOn (KeyedShape layout.now) (B.seen blocks.old) }
-    requires kept { ArePlaces layout.now.key (K.kept kept.now (part_no (KeyedShape layout.now))) }
+    requires on { IsAreaOn layout.now (B.seen blocks.old) }
+    requires kept { ArePlaces layout.now.key (K.kept kept.now (area_part layout.now)) }
     requires weights { HasRoomFor layout.now weights.old }
     requires head { IsTrue B.tells → IsHead layout.now top.now }
     requires within { IsTrue B.tells → number < length (entries_of top.now) }
     requires holds { IsTrue B.tells
         → HoldsNth layout.now top.now (B.seen blocks.old).cur number }
     ensures room { IsTrue B.tells → IfOk result (λ is. IsTrue is
-        ↔ HasRoomNth layout.now (K.kept kept.now (part_no (KeyedShape layout.now))) top.now
+        ↔ HasRoomNth layout.now (K.kept kept.now (area_part layout.now)) top.now
         (B.seen blocks.old).cur number) }
     ensures weights { HasRoomFor layout.now weights.new }
     ensures keeps { Keeps B.tells (B.seen blocks.old) (B.seen blocks.new) }
@@ -90,14 +90,14 @@ fn have_rooms<B: Blocks, K: Kept>(
     kept: &K,
     weights: &mut Weights,
 ) -> Result<bool, DeviceFault>
-    requires on { IsOn (KeyedShape layout.now) (B.seen blocks.old) }
-    requires kept { ArePlaces layout.now.key (K.kept kept.now (part_no (KeyedShape layout.now))) }
+    requires on { IsAreaOn layout.now (B.seen blocks.old) }
+    requires kept { ArePlaces layout.now.key (K.kept kept.now (area_part layout.now)) }
     requires weights { HasRoomFor layout.now weights.old }
     requires head { IsTrue B.tells → IsHead layout.now top.now }
     requires holds { IsTrue B.tells → (i : ℕ) → i < length (entries_of top.now)
         → HoldsNth layout.now top.now (B.seen blocks.old).cur i }
     ensures rooms { IsTrue B.tells → IfOk result (λ is. IsTrue is
-        ↔ HaveRoomsAll layout.now (K.kept kept.now (part_no (KeyedShape layout.now))) top.now
+        ↔ HaveRoomsAll layout.now (K.kept kept.now (area_part layout.now)) top.now
         (B.seen blocks.old).cur) }
     ensures weights { HasRoomFor layout.now weights.new }
     ensures keeps { Keeps B.tells (B.seen blocks.old) (B.seen blocks.new) }
@@ -122,13 +122,13 @@ pub(crate) fn rooms_in<B: Blocks, K: Kept>(
     top: &mut [u8],
     weights: &mut Weights,
 ) -> Result<bool, DeviceFault>
-    requires on { IsOn (KeyedShape layout.now) (B.seen blocks.old) }
+    requires on { IsAreaOn layout.now (B.seen blocks.old) }
     requires top { length top.old ≡ layout.now.size }
-    requires kept { ArePlaces layout.now.key (K.kept kept.now (part_no (KeyedShape layout.now))) }
+    requires kept { ArePlaces layout.now.key (K.kept kept.now (area_part layout.now)) }
     requires weights { HasRoomFor layout.now weights.old }
     requires stands { IsTrue B.tells → AreaStands layout.now (B.seen blocks.old).cur }
     ensures rooms { IsTrue B.tells → IfOk result (λ is. IsTrue is
-        ↔ HasRoom (KeyedShape layout.now) (K.kept kept.now (part_no (KeyedShape layout.now)))
+        ↔ HasRoomHere layout.now (K.kept kept.now (area_part layout.now))
         (B.seen blocks.old).cur) }
     ensures weights { HasRoomFor layout.now weights.new }
     ensures keeps { Keeps B.tells (B.seen blocks.old) (B.seen blocks.new) }

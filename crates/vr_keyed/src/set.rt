@@ -5,11 +5,12 @@ ghost use Rattle.vr_types.specs.Image.{block_at};
 ghost use Rattle.vr_types.specs.Blocks.{Keeps};
 ghost use Rattle.vr_types.specs.Faults.{HasCause, HasWriteCause};
 ghost use Rattle.vr_types.specs.declared.fault.DeviceFault.TheVariants.{Read, Write};
+ghost use Rattle.vr_space.specs.AreaCalls.{IsAreaOn};
 ghost use Rattle.vr_space.specs.Room.{Lengths};
 ghost use Rattle.vr_space.specs.Keyed.{InArea, Keyed, IsHead};
-ghost use Rattle.vr_space.specs.Known.{Known};
 ghost use Rattle.vr_space.specs.Met.{IsMet};
-ghost use Rattle.vr_space.specs.Part.{KeyedShape, IsOn, given};
+ghost use Rattle.vr_space.specs.Split.{SplitNow};
+ghost use Rattle.vr_space.specs.Part.{given};
 ghost use Rattle.vr_keyed.specs.Look.{HasEntry};
 ghost use Rattle.vr_keyed.specs.Slots.{IsSlotOf, AreSlotsOf, IsFirst, met_in, mets};
 ghost use Rattle.vr_keyed.specs.Slots.{HasMetPlace, met_places};
@@ -56,7 +57,7 @@ fn put_set<B: Blocks>(
     place: &[u8],
     bytes: Option<&[u8]>,
 ) -> Result<Option<u32>, DeviceFault>
-    requires on { IsOn (KeyedShape layout.now) (B.seen blocks.old) }
+    requires on { IsAreaOn layout.now (B.seen blocks.old) }
     requires room { AreSlotsOf layout.now slots.old }
     requires out { length out.old ≡ layout.now.size }
     requires first { IsFirst place.now slots.old }
@@ -65,17 +66,17 @@ fn put_set<B: Blocks>(
     ensures room { AreSlotsOf layout.now slots.new }
     ensures filled { slots.new.filled ≡ slots.old.filled }
     ensures places { met_places (mets slots.new) ≡ met_places (mets slots.old) }
-    ensures may { IsTrue B.tells → (kept : Lengths) (known : Known)
-        → IsReady layout.now kept known place.now (given bytes.entry) (B.seen blocks.old)
+    ensures may { IsTrue B.tells → (kept : Lengths) (split : Option SplitNow)
+        → IsReady layout.now kept split place.now (given bytes.entry) (B.seen blocks.old)
         → MaySet layout.now kept place.now (given bytes.entry)
         (B.seen blocks.old) (B.seen blocks.new) }
     ensures done { IsTrue B.tells → IfOk result (λ put.
-        (kept : Lengths) (known : Known)
-        → IsReady layout.now kept known place.now (given bytes.entry) (B.seen blocks.old)
-        → IsSetNow layout.now known (put_of put) place.now (given bytes.entry)
+        (kept : Lengths) (split : Option SplitNow)
+        → IsReady layout.now kept split place.now (given bytes.entry) (B.seen blocks.old)
+        → IsSetNow layout.now split (put_of put) place.now (given bytes.entry)
         (B.seen blocks.old) (B.seen blocks.new)) }
-    ensures met { IsTrue B.tells → OnOk result ((kept : Lengths) (known : Known)
-        → IsReady layout.now kept known place.now (given bytes.entry) (B.seen blocks.old)
+    ensures met { IsTrue B.tells → OnOk result ((kept : Lengths) (split : Option SplitNow)
+        → IsReady layout.now kept split place.now (given bytes.entry) (B.seen blocks.old)
         → All (IsMet layout.now (B.seen blocks.new).cur) (mets slots.new)) }
     ensures put { IfOk result (λ put. All (InArea layout.now) (put_of put)) }
     ensures count { (B.seen blocks.new).count ≡ (B.seen blocks.old).count }
@@ -100,7 +101,7 @@ fn set_second<B: Blocks>(
     place: &[u8],
     bytes: Option<&[u8]>,
 ) -> Result<Option<u32>, DeviceFault>
-    requires on { IsOn (KeyedShape layout.now) (B.seen blocks.old) }
+    requires on { IsAreaOn layout.now (B.seen blocks.old) }
     requires room { AreSlotsOf layout.now slots.old }
     requires out { length out.old ≡ layout.now.size }
     requires second { (slots.old.filled ≡ 2) × (slots.old.second.place.place ≡ place.now) }
@@ -108,17 +109,17 @@ fn set_second<B: Blocks>(
         → All (IsMet layout.now (B.seen blocks.old).cur) (mets slots.old) }
     ensures room { AreSlotsOf layout.now slots.new }
     ensures places { met_places (mets slots.new) ≡ met_places (mets slots.old) }
-    ensures may { IsTrue B.tells → (kept : Lengths) (known : Known)
-        → IsReady layout.now kept known place.now (given bytes.entry) (B.seen blocks.old)
+    ensures may { IsTrue B.tells → (kept : Lengths) (split : Option SplitNow)
+        → IsReady layout.now kept split place.now (given bytes.entry) (B.seen blocks.old)
         → MaySet layout.now kept place.now (given bytes.entry)
         (B.seen blocks.old) (B.seen blocks.new) }
     ensures done { IsTrue B.tells → IfOk result (λ put.
-        (kept : Lengths) (known : Known)
-        → IsReady layout.now kept known place.now (given bytes.entry) (B.seen blocks.old)
-        → IsSetNow layout.now known (put_of put) place.now (given bytes.entry)
+        (kept : Lengths) (split : Option SplitNow)
+        → IsReady layout.now kept split place.now (given bytes.entry) (B.seen blocks.old)
+        → IsSetNow layout.now split (put_of put) place.now (given bytes.entry)
         (B.seen blocks.old) (B.seen blocks.new)) }
-    ensures met { IsTrue B.tells → OnOk result ((kept : Lengths) (known : Known)
-        → IsReady layout.now kept known place.now (given bytes.entry) (B.seen blocks.old)
+    ensures met { IsTrue B.tells → OnOk result ((kept : Lengths) (split : Option SplitNow)
+        → IsReady layout.now kept split place.now (given bytes.entry) (B.seen blocks.old)
         → All (IsMet layout.now (B.seen blocks.new).cur) (mets slots.new)) }
     ensures put { IfOk result (λ put. All (InArea layout.now) (put_of put)) }
     ensures count { (B.seen blocks.new).count ≡ (B.seen blocks.old).count }
@@ -141,7 +142,7 @@ pub(crate) fn set<B: Blocks>(
     place: &[u8],
     bytes: Option<&[u8]>,
 ) -> Result<Option<u32>, DeviceFault>
-    requires on { IsOn (KeyedShape layout.now) (B.seen blocks.old) }
+    requires on { IsAreaOn layout.now (B.seen blocks.old) }
     requires place { length place.now ≡ layout.now.key }
     requires room { AreSlotsOf layout.now slots.old }
     requires out { length out.old ≡ layout.now.size }
@@ -151,17 +152,17 @@ pub(crate) fn set<B: Blocks>(
     requires met { IsTrue B.tells
         → All (IsMet layout.now (B.seen blocks.old).cur) (mets slots.old) }
     ensures room { AreSlotsOf layout.now slots.new }
-    ensures may { IsTrue B.tells → (kept : Lengths) (known : Known)
-        → IsReady layout.now kept known place.now (given bytes.entry) (B.seen blocks.old)
+    ensures may { IsTrue B.tells → (kept : Lengths) (split : Option SplitNow)
+        → IsReady layout.now kept split place.now (given bytes.entry) (B.seen blocks.old)
         → MaySet layout.now kept place.now (given bytes.entry)
         (B.seen blocks.old) (B.seen blocks.new) }
     ensures done { IsTrue B.tells → IfOk result (λ put.
-        (kept : Lengths) (known : Known)
-        → IsReady layout.now kept known place.now (given bytes.entry) (B.seen blocks.old)
-        → IsSetNow layout.now known (put_of put) place.now (given bytes.entry)
+        (kept : Lengths) (split : Option SplitNow)
+        → IsReady layout.now kept split place.now (given bytes.entry) (B.seen blocks.old)
+        → IsSetNow layout.now split (put_of put) place.now (given bytes.entry)
         (B.seen blocks.old) (B.seen blocks.new)) }
-    ensures met { IsTrue B.tells → OnOk result ((kept : Lengths) (known : Known)
-        → IsReady layout.now kept known place.now (given bytes.entry) (B.seen blocks.old)
+    ensures met { IsTrue B.tells → OnOk result ((kept : Lengths) (split : Option SplitNow)
+        → IsReady layout.now kept split place.now (given bytes.entry) (B.seen blocks.old)
         → All (IsMet layout.now (B.seen blocks.new).cur) (mets slots.new)) }
     ensures places { HasMetPlace (mets slots.old) place.now → OnOk result
         (met_places (mets slots.new) ≡ met_places (mets slots.old)) }

@@ -1,10 +1,11 @@
 //! Attaching the part to blocks that are changed: what it answers, beside the plain program.
-ghost use Rattle.std.specs.Prelude.{◌≡◌, ◌<◌, ◌≤◌, ◌+◌, IfOk};
+ghost use Rattle.std.specs.Prelude.{◌<◌, ◌≤◌, ◌+◌, IfOk};
 ghost use Rattle.vr_types.specs.Geometry.{area_count};
 ghost use Rattle.vr_attach.specs.Attached.{IsOfKeyed};
 ghost use Rattle.vr_keyed_cases.specs.TheLayout.{the_geometry};
 
 use crate::answers::{Answer, Stop, say, say_fault, say_number};
+use crate::format::{HEAD, geometry};
 use crate::held::{Held, boxed_blocks};
 use crate::images::last_blocks;
 use crate::plain_damage::{Found, damage_in};
@@ -15,22 +16,10 @@ use vr_attach::PartNo2;
 use vr_catalog::{CatEntry, EntryKind, FreeSpace, ShareOptions, SpaceUnit};
 use vr_device::memory_device;
 use vr_keyed::Keyed;
-use vr_types::{AreaNo, Blocks, DeviceFault, Geometry, Kind, NameFault, PartNo, dataset_name};
+use vr_types::{AreaNo, Blocks, DeviceFault, Kind, NameFault, PartNo, dataset_name};
 
 /// The longest record of the entry. The part itself takes longer ones.
 const LONGEST: u32 = 300;
-
-/// A volume of a header, a log block, and two areas.
-fn geometry() -> Geometry
-    ensures { result ≡ the_geometry }
-{
-    Geometry {
-        size: 512,
-        blocks: 10,
-        log: 1,
-        area: 3,
-    }
-}
 
 /// The entry of the part: in area 1, with keys of 8 bytes at the start of a record.
 fn entry(alloc: Global) -> Result<CatEntry, Stop>
@@ -132,10 +121,10 @@ fn put_byte(blocks: &mut [u8], place: usize, byte: u32) -> Answer {
     }
 }
 
-/// The part's four blocks on blocks 6 to 9 of a volume.
+/// The part's four blocks on blocks 6 to 9 of a whole volume.
 fn volume(alloc: Global, blocks: &[u8], fails: &[u64]) -> Result<Box<Traced>, Stop> {
     let device = memory_device(alloc, 512, 10, fails)?;
-    let mut traced = boxed_blocks(alloc, device)?;
+    let mut traced = boxed_blocks(alloc, device, 0)?;
     write_blocks(&mut traced, blocks);
     Ok(traced)
 }
@@ -144,7 +133,7 @@ fn write_blocks(traced: &mut Traced, blocks: &[u8]) {
     for n in 0..4u32 {
         let from = n as usize * 512;
         if let Some(block) = blocks.get(from..from + 512) {
-            let _ = traced.put(6 + n, block);
+            let _ = traced.put(HEAD + n, block);
         }
     }
     traced.clear_notes();
@@ -176,7 +165,7 @@ fn attached(alloc: Global, traced: &mut Traced) -> Result<Outcome, Stop> {
     match Keyed::attach(alloc, traced, &geometry, &entry, 8).err() {
         None => Ok(Outcome::Sound),
         Some(PartNo2::Damaged { block, rule }) => Ok(Outcome::Damaged(Found {
-            block: (block as usize).saturating_sub(6),
+            block: (block as usize).saturating_sub(HEAD as usize),
             rule,
         })),
         Some(PartNo2::Fault(fault)) => Ok(Outcome::Fault(fault)),

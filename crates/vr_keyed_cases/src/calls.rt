@@ -4,7 +4,6 @@ ghost use Rattle.vr_space.specs.Part.{IsRecordOf};
 ghost use Rattle.vr_keyed_cases.specs.TheLayout.{the_shape};
 
 use crate::answers::{Answer, Stop, say, say_fault, say_number, say_room, say_stage};
-use crate::format::layout;
 use crate::held::{Held, Stand};
 use crate::record::{key, record};
 use crate::words::{number, parted};
@@ -113,7 +112,7 @@ fn set_bytes(
 ) -> Answer
     requires place { length place.now ≡ 8 }
 {
-    if !layout().is_at(bytes, place.as_slice()) || bytes.len() > 505 {
+    if !held.part.may_stand(place, Some(bytes)) {
         return Err(Stop::Line);
     }
     steps(held, place, bytes, to_the_end, out)

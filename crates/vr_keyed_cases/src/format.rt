@@ -1,20 +1,35 @@
-//! The part as it is made, byte by byte: a head of one entry, and an empty interval.
+//! The part as it is made, byte by byte: a head of one entry, and an empty interval; and where it
+//! is.
 ghost use Rattle.std.specs.Prelude.{◌≡◌, length, IfOk};
-ghost use Rattle.vr_keyed_cases.specs.TheLayout.{the_layout};
+ghost use Rattle.vr_keyed_cases.specs.TheLayout.{the_geometry, the_layout};
 
 use std::alloc::{AllocError, Global};
-use vr_space::Layout;
-use vr_types::PartNo;
+use vr_space::KeyedLayout;
+use vr_types::{Geometry, PartNo};
+
+/// The block of the volume that is the part's head.
+pub const HEAD: u32 = 6;
+
+/// A volume of a header, a log block, and two areas.
+pub fn geometry() -> Geometry
+    ensures { result ≡ the_geometry }
+{
+    Geometry {
+        size: 512,
+        blocks: 10,
+        log: 1,
+        area: 3,
+    }
+}
 
 /// Where the part is, and what its records are.
-pub fn layout() -> Layout
+pub fn layout() -> KeyedLayout
     ensures { result ≡ the_layout }
 {
-    Layout {
+    KeyedLayout {
         part: PartNo(1),
-        head: 0,
-        area: 3,
-        size: 512,
+        first: 1,
+        geometry: geometry(),
         key: 8,
         offset: 0,
         most: 505,

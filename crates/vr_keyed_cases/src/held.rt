@@ -4,7 +4,7 @@ ghost use Rattle.vr_space.specs.Part.{IsRecordOf};
 ghost use Rattle.vr_keyed_cases.specs.TheLayout.{the_shape};
 
 use crate::answers::{Answer, Stop};
-use crate::format::{empty_interval, head, layout};
+use crate::format::{HEAD, empty_interval, head, layout};
 use crate::one_kept::OneKept;
 use crate::record::is_whole;
 use crate::traced::Traced;
@@ -29,7 +29,7 @@ pub struct Held {
 impl Held {
     /// The part on a device as it is, with no split under way.
     pub fn over(alloc: Global, device: MemoryDevice) -> Result<Box<Held>, Stop> {
-        Held::on(alloc, boxed_blocks(alloc, device)?)
+        Held::on(alloc, boxed_blocks(alloc, device, HEAD)?)
     }
 
     fn on(alloc: Global, blocks: Box<Traced>) -> Result<Box<Held>, Stop> {
@@ -48,7 +48,7 @@ impl Held {
     /// A new part, on a device whose calls of these numbers fail. The first three calls make it.
     pub fn format(alloc: Global, fails: &[u64]) -> Result<Box<Held>, Stop> {
         let device = memory_device(alloc, 512, 4, fails)?;
-        let mut blocks = boxed_blocks(alloc, device)?;
+        let mut blocks = boxed_blocks(alloc, device, HEAD)?;
         write_first(alloc, &mut blocks)?;
         Held::on(alloc, blocks)
     }
@@ -103,9 +103,9 @@ impl Held {
     }
 }
 
-/// Blocks over a device, in a box.
-pub fn boxed_blocks(alloc: Global, device: MemoryDevice) -> Result<Box<Traced>, Stop> {
-    let blocks = Traced::over(alloc, device)?;
+/// Blocks over a device, whose first block is the one of this number, in a box.
+pub fn boxed_blocks(alloc: Global, device: MemoryDevice, base: u32) -> Result<Box<Traced>, Stop> {
+    let blocks = Traced::over(alloc, device, base)?;
     Ok(Box::new(alloc, blocks)?)
 }
 
@@ -120,9 +120,9 @@ fn boxed_part(alloc: Global) -> Result<Box<Keyed>, Stop>
 /// Writes the blocks of a new part.
 fn write_first(alloc: Global, blocks: &mut Traced) -> Answer {
     let head = head(alloc)?;
-    let _ = blocks.put(0, head.as_slice());
+    let _ = blocks.put(HEAD, head.as_slice());
     let interval = empty_interval(alloc)?;
-    let _ = blocks.put(1, interval.as_slice());
+    let _ = blocks.put(HEAD + 1, interval.as_slice());
     let _ = blocks.force(&[]);
     blocks.clear_notes();
     Ok(())

@@ -8,12 +8,14 @@ use vr_device::{BlockDevice, MemoryDevice};
 use vr_types::{Blocks, DeviceFault, FaultCount, OutOfMemory};
 
 /// Blocks of 512 bytes over a device in memory, each written through at once. A call of the device
-/// is noted: `r1` a read of block 1, `w1` a write of it, `s` a sync. These blocks report no
+/// is noted: `r1` a read of its block 1, `w1` a write of it, `s` a sync. These blocks report no
 /// content, so that lines may ask for any calls in any order; and of the ten that they say there are,
 /// those that the device hasn't can't be read or written.
 #[derive(Drop)]
 pub struct Traced {
     device: MemoryDevice,
+    /// Which of the blocks is the device's first.
+    base: u32,
     block: Vec<u8>,
     notes: String,
     reads_failed: FaultCount,
@@ -32,11 +34,12 @@ impl Model for Traced {
 }
 
 impl Traced {
-    /// Blocks over a device.
-    pub fn over(alloc: Global, device: MemoryDevice) -> Result<Traced, OutOfMemory> {
+    /// Blocks over a device, whose first block is the one of this number.
+    pub fn over(alloc: Global, device: MemoryDevice, base: u32) -> Result<Traced, OutOfMemory> {
         let block = vec![in alloc; 0; 512]?;
         Ok(Traced {
             device,
+            base,
             block,
             notes: String::new(alloc),
             reads_failed: FaultCount::new(),
@@ -80,7 +83,13 @@ impl Traced {
         let _ = write!(self.notes, "{n}");
     }
 
-    /// Reads a block into the buffer: whether that succeeds.
+    /// The number of a block on the device; one that the device hasn't, where it comes before the
+    /// first.
+    fn on_device(&self, n: u32) -> u32 {
+        n.wrapping_sub(self.base)
+    }
+
+    /// Reads a block of the device into the buffer: whether that succeeds.
     fn read(&mut self, n: u32) -> bool
         ensures { self.new ≡ self.old }
     {
@@ -89,7 +98,7 @@ impl Traced {
             && self.device.read(n, &mut self.block).is_ok()
     }
 
-    /// Writes a block: whether that succeeds.
+    /// Writes a block of the device: whether that succeeds.
     fn write(&mut self, n: u32, bytes: &[u8]) -> bool
         ensures { self.new ≡ self.old }
     {
@@ -118,6 +127,7 @@ impl Blocks for Traced {
     ghost sized = { λ t n block told. absurd (not_told told) };
 
     fn get(&mut self, n: u32) -> Result<&[u8], DeviceFault> {
+        let n = self.on_device(n);
         self.note_block(" r", n);
         if self.read(n) {
             Ok(self.block.as_slice())
@@ -128,6 +138,7 @@ impl Blocks for Traced {
     }
 
     fn put(&mut self, n: u32, bytes: &[u8]) -> Result<(), DeviceFault> {
+        let n = self.on_device(n);
         self.note_block(" w", n);
         if self.write(n, bytes) {
             Ok(())

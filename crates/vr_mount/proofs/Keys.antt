@@ -17,7 +17,9 @@ use Rattle.vr_space.specs.Part.{place_length}
 use Rattle.vr_space.specs.Rosters.{Numbered}
 use Rattle.vr_space.specs.Numbered.{IsNumberPlace, number_of, numbered_way}
 use Rattle.vr_space.specs.Way.{found_on}
-use Rattle.vr_space.proofs.CallerLemmas.{NoneAt, none-record, content_item, found-place}
+use Rattle.vr_space.specs.Areas.{area_of, head_in, most_areas}
+use Rattle.vr_space.proofs.CallerLemmas.{NoneAt, content-each, content_item, found-place}
+use Rattle.vr_space.proofs.CallerLemmas.{none-record}
 
 -- each place has this many bytes
 abbrev AreKeys : ℕ → Content → Type 0
@@ -92,9 +94,11 @@ pub none_elsewhere : (shape : Shape) (image : Image) → Stands shape image → 
 none_elsewhere (KeyedShape part) image stands place other =
     let content = stands.0 in
     let keys : AreKeys part.key content =
-    subst (AreKeys part.key) (sym stands.1.0.records)
-    (keys-content part image (low_of (block_at image part.head))
-    (entries_of (block_at image part.head)) stands.1.0.intervals) in
+    subst (AreKeys part.key) (sym stands.1.records)
+    (content-each (AreKeys part.key) tt (keys-append part.key) part image
+    (λ at linked. keys-content (area_of part at) image (low_of (head_in part image at))
+    (entries_of (head_in part image at)) linked.stands.intervals)
+    most_areas part.first None stands.1.chain) in
     ap (option_and_then record_of)
     (sym (content_item (KeyedShape part) image content stands.1 place)
     ∙ none-record place content (none_of part.key content place keys other))

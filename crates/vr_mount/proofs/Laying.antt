@@ -31,9 +31,9 @@ some_is x y same = cc
 
 -- ---- a shape and its area
 
--- its blocks have the size that those of the volume have
+-- its areas are those of the volume
 abbrev pub IsSized : Geometry → Shape → Type 0
-IsSized geometry (KeyedShape part) = part.size ≡ geometry.size
+IsSized geometry (KeyedShape part) = part.geometry ≡ geometry
 IsSized geometry (NumberedShape part) = part.geometry ≡ geometry
 
 -- the first area of a shape is on the blocks of an area

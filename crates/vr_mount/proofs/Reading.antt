@@ -15,7 +15,7 @@ use Rattle.vr_space.specs.Room.{is_above}
 use Rattle.vr_space.specs.Known.{Known}
 use Rattle.vr_space.specs.Part.{IsOn, IsUnderWay, KeyedShape, Knows, NumberedShape, Shape, Stands}
 use Rattle.vr_space.specs.Part.{StandsFor, record_read}
-use Rattle.vr_space.specs.Split.{SplitNow}
+use Rattle.vr_space.specs.Split.{AreaSplit}
 use Rattle.vr_space.specs.UnderWay.{KeyedUnderWay}
 use Rattle.vr_space.proofs.CallerLemmas.{AllAbove, Rising, rising-sorted, stands_content}
 use Rattle.vr_space.proofs.CallerLemmas.{content_item, on-still, none-record, none-above, above-weaken}
@@ -268,7 +268,7 @@ knows_now shape known now knows = record { way = way_now shape; blocks = knows.m
   where
     way_now : (shape : Shape) → IsUnderWay shape known now
     way_now (KeyedShape part) =
-        subst (λ (split : Option SplitNow). KeyedUnderWay part split now) (sym knows.no_split) tt
+        subst (λ (split : Option AreaSplit). KeyedUnderWay part split now) (sym knows.no_split) tt
     way_now (NumberedShape part) = tt
 
 pub still_knows : (tells : Bool) (shape other : Shape) (known now : Known) (a b : Seen)

@@ -21,11 +21,11 @@ area_in entries part =
 
 -- the first block of a part's first area, and how many blocks of the area come after it
 abbrev pub first_block : Shape → ℕ
-first_block (KeyedShape part) = part.head
+first_block (KeyedShape part) = head_block part.geometry part.first
 first_block (NumberedShape part) = head_block part.geometry part.first
 
 abbrev pub area_length : Shape → ℕ
-area_length (KeyedShape part) = part.area
+area_length (KeyedShape part) = part.geometry.area
 area_length (NumberedShape part) = part.geometry.area
 
 -- the first area of a part is on blocks below this one

@@ -15,11 +15,11 @@ use crate::distinct::{Which, are_told_apart, laid_area};
 use std::alloc::Global;
 use vr_attach::layout_of;
 use vr_catalog::{CatEntry, Catalog, catalog_definition};
-use vr_space::Layout;
+use vr_space::KeyedLayout;
 use vr_types::{AreaNo, Geometry, OutOfMemory, PartNo, Space, space};
 
-/// Where the catalog's own part is: in area 0.
-pub fn catalog_layout(geometry: &Geometry) -> Layout
+/// Where the catalog's own part is: its first area is area 0.
+pub fn catalog_layout(geometry: &Geometry) -> KeyedLayout
     requires { IsAllowed geometry.now }
     ensures { result ≡ keyed_part geometry.now 0 0 definition_of_catalog }
 {
@@ -52,7 +52,8 @@ fn are_below(entries: &[CatEntry], areas: u32) -> bool
     entries.iter().all(|entry| is_below(entry, areas))
 }
 
-/// Whether each part that a catalog lays is in an area of the volume, and so on blocks of it.
+/// Whether the first area of each part that a catalog lays is one of the volume, and so on blocks of
+/// it.
 pub fn are_on(geometry: &Geometry, catalog: &Catalog) -> bool
     requires { IsDistinct nat_eq (0 ∷ parts_in catalog.now) }
     ensures { IsTrue result ↔ AreOn geometry.now catalog.now }

@@ -1,8 +1,8 @@
 -- A part of any kind as it is attached. The rules are this project's own.
 use Rattle.std.specs.Prelude.{◌≡◌, ℕ, [], None}
-use Rattle.vr_types.specs.Geometry.{area_count, head_block}
 use Rattle.vr_types.specs.Image.{Image}
 use Rattle.vr_types.specs.declared.geometry.Geometry.{Geometry}
+use Rattle.vr_space.specs.Areas.{KnowsAreas}
 use Rattle.vr_space.specs.Known.{Known}
 use Rattle.vr_space.specs.Part.{KeyedShape, NumberedShape, Shape}
 use Rattle.vr_space.specs.Numbered.{KnowsChain}
@@ -11,20 +11,18 @@ use Rattle.vr_attach.specs.declared.part_no.PartNo2.{PartNo2}
 use Rattle.vr_attach.specs.declared.part_no.PartNo2.TheVariants.{Damaged, Fault, Memory}
 use Rattle.vr_keyed.specs.Attached.{IsRuleShown}
 
--- What a part keeps in memory as it is attached: of a keyed one nothing, of another its chain, and
--- where its last item ends.
+-- What a part keeps in memory as it is attached: of a keyed one its areas, and where each ends; of
+-- another its chain, and where its last item ends.
 abbrev pub IsAttachedWith : Shape → Known → Image → Type 0
 IsAttachedWith (KeyedShape part) known image =
-    known ≡ record { split = None; met = []; areas = []; used = 0; tail = None }
+    (known.split ≡ None) × (known.met ≡ []) × KnowsAreas part known.areas known.ends image
 IsAttachedWith (NumberedShape part) known image =
     (known.split ≡ None) × (known.met ≡ []) × KnowsChain part known image
 
 -- The part is damaged: this block is the first of the walk that breaks a rule, and this is the
 -- number of the least rule that it breaks. A chain may not lead to an area of which Taken is true.
 abbrev pub IsAnyShown : Geometry → Shape → (ℕ → Type 0) → Image → ℕ → ℕ → Type 0
-IsAnyShown geometry (KeyedShape part) Taken image block rule = (area : ℕ)
-    × (part.head ≡ head_block geometry area)
-    × IsRuleShown part area (area_count geometry) image block rule
+IsAnyShown geometry (KeyedShape part) Taken image block rule = IsRuleShown part image block rule
 IsAnyShown geometry (NumberedShape part) Taken image block rule =
     IsChainShown part Taken image block rule
 

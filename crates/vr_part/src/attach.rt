@@ -71,7 +71,7 @@ pub fn attach_part<B: Blocks>(
 {
     if definition.kind == Kind::Keyed {
         let layout = layout_of(*geometry, part, area, definition);
-        let keyed = Keyed::attach_layout(alloc, blocks, layout, area, geometry.areas())?;
+        let keyed = Keyed::attach_layout(alloc, blocks, layout)?;
         return Ok(AnyPart::Keyed(keyed));
     }
     let layout = chain_layout_of(*geometry, part, area, definition);

@@ -18,16 +18,18 @@ use Rattle.vr_types.specs.Geometry.{head_block}
 use Rattle.vr_types.specs.Space.{is_owner}
 use Rattle.vr_types.specs.declared.geometry.Geometry.{Geometry}
 use Rattle.vr_types.specs.declared.unit.PartNo.{PartNo}
+use Rattle.vr_catalog.specs.Definition.{catalog_definition}
 use Rattle.vr_catalog.specs.declared.entry.CatEntry.{CatEntry}
-use Rattle.vr_attach.specs.Laid.{HasArea, catalog_shape, shape_in, shape_of}
+use Rattle.vr_attach.specs.Laid.{HasArea, catalog_shape, keyed_part, shape_in, shape_of}
+use Rattle.vr_keyed.specs.Owned.{split_of}
 use Rattle.vr_mount.specs.Areas.{AreFirstOwners, BeginsWith, IsLaidIn}
 use Rattle.vr_mount.proofs.Blocks.{one_area}
 use Rattle.vr_part.specs.Any.{known_any, shape_any}
 use Rattle.vr_part.specs.declared.any.AnyPart.{AnyPart}
 use Rattle.vr_part.specs.declared.any.AnyPart.TheVariants.{Keyed}
-use Rattle.vr_space.specs.Keyed.{Keyed as KeyedPart}
+use Rattle.vr_space.specs.Areas.{KeyedChain}
 use Rattle.vr_space.specs.Known.{Known}
-use Rattle.vr_space.specs.Part.{KeyedShape, OwnsChain, NumberedShape, Shape, owned_count, part_no}
+use Rattle.vr_space.specs.Part.{KeyedShape, OwnsChain, Shape, owned_count, part_no}
 use Rattle.vr_recover.specs.Found.{AreAdded, HasFirst, IsFirstAlone, MayAdd}
 use Rattle.vr_recover.specs.Opening.{AreOwnersBy, HasNoSplit, IsHeldBy, OwnsAreas, shapes_laid}
 use Rattle.vr_recover.specs.Undone.{HasPart}
@@ -56,12 +58,7 @@ in-or-not xs x = by (is_member nat_eq xs x) refl
 
 pub has-or-not : (geometry : Geometry) (shape : Shape) (known : Known) (area : ℕ)
     → HasArea geometry shape known area ⊎ (HasArea geometry shape known area → ⊥)
-has-or-not geometry (KeyedShape part) known area =
-    elim (eqb_tells part.head (head_block geometry area)) [
-      | inl same ↦ inl same.1
-      | inr differ ↦ inr differ.1
-    ]
-has-or-not geometry (NumberedShape part) known area = in-or-not known.areas area
+has-or-not geometry shape known area = in-or-not known.areas area
 
 -- an area begins with a block of its own
 pub head-is : (geometry : Geometry) (one other : ℕ)
@@ -249,10 +246,7 @@ module _ (geometry : Geometry) (entry : CatEntry) (it : AnyPart) (old new : List
 
   owns-still : (shape : Shape) (known : Known) → part_no shape ≢ entry.part
       → OwnsChain shape known old → OwnsChain shape known new
-  owns-still (KeyedShape part) known differs owns =
-      count-stays (record { 0 = part.part }) differs ∙ owns
-  owns-still (NumberedShape part) known differs owns =
-      count-stays (record { 0 = part.part }) differs ∙ owns
+  owns-still shape known differs owns = count-stays (part_no shape) differs ∙ owns
 
   module _ (entries : List CatEntry) (at : ℕ) (parts : List AnyPart) (may : MayAdd geometry entries)
       (added : AreAdded geometry entries at parts old) (there : slice_get entries at ≡ Some entry)
@@ -372,30 +366,51 @@ added-none geometry entries at parts owners entry there none added = record {
 
 -- ---- before the first entry, and after the last one
 
+-- The catalog's own part has the area that it begins with,
+own-first : (geometry : Geometry) (part : KeyedChain)
+    → part ≡ keyed_part geometry 0 0 catalog_definition → (a : ℕ)
+    → BeginsWith (head_block geometry a) (KeyedShape part) → Contains (part.first ∷ []) a
+own-first geometry part is = subst (λ (p : KeyedChain). (a : ℕ)
+    → BeginsWith (head_block geometry a) (KeyedShape p) → Contains (p.first ∷ []) a) (sym is)
+    (λ a begins. (0, omega arith, head-is geometry 0 a begins))
+
+-- and no other.
+own-begins : (geometry : Geometry) (part : KeyedChain)
+    → part ≡ keyed_part geometry 0 0 catalog_definition → (a : ℕ) → Contains (part.first ∷ []) a
+    → BeginsWith (head_block geometry a) (catalog_shape geometry)
+own-begins geometry part is a has =
+    ap (head_block geometry) (ap (λ (p : KeyedChain). p.first) (sym is) ∙ one-held part.first a has)
+  where
+    one-held : (first a : ℕ) → Contains (first ∷ []) a → first ≡ a
+    one-held first a (zero, below, found) = found
+    one-held first a (suc i, below, found) = absurd (omega (arith, below))
+
 module _ (geometry : Geometry) (entries : List CatEntry) (parts : List AnyPart)
     (owners : List (Option PartNo)) where
   pub added-first : IsFirstAlone geometry parts → AreFirstOwners geometry entries owners
       → AreAdded geometry entries 0 parts owners
   added-first first own = subst (λ (ps : List AnyPart). AreAdded geometry entries 0 ps owners)
       (sym first.is) (record {
-        shapes = ap (λ (p : KeyedPart). KeyedShape p ∷ []) first.attached.part_is;
-        split = All-cons HasNoSplit (Keyed first.own) [] first.attached.split (All-nil HasNoSplit);
+        shapes = ap (λ (p : KeyedChain). KeyedShape p ∷ []) first.attached.part_is;
+        split = All-cons HasNoSplit (Keyed first.own) []
+            (ap (split_of first.own.part) first.attached.split) (All-nil HasNoSplit);
         count = own.count;
-        firsts = All-cons (HasFirst geometry) (Keyed first.own) [] (λ a begins. begins)
+        firsts = All-cons (HasFirst geometry) (Keyed first.own) []
+            (own-first geometry first.own.part first.attached.part_is)
             (All-nil (HasFirst geometry));
         owned = All-cons (OwnsAreas geometry owners) (Keyed first.own) []
             (λ a has. own.owned (record { 0 = 0 }) a (record {
               shape = catalog_shape geometry;
               laid = refl;
-              begins = ap (λ (p : KeyedPart). p.head) (sym first.attached.part_is) ∙ has;
+              begins = own-begins geometry first.own.part first.attached.part_is a has;
             })
-            ∙ ap (λ (p : KeyedPart). Some (part_no (KeyedShape p))) (sym first.attached.part_is))
+            ∙ ap (λ (p : KeyedChain). Some (part_no (KeyedShape p))) (sym first.attached.part_is))
             (All-nil (OwnsAreas geometry owners));
         laid = own.owned;
         only = λ part a now. inl (own.only part a now);
         owns = All-cons (λ (part : AnyPart). OwnsChain (shape_any part) (known_any part) owners)
             (Keyed first.own) []
-            (ap (λ (p : KeyedPart). owned_count (record { 0 = p.part }) owners)
+            (ap (λ (p : KeyedChain). owned_count (part_no (KeyedShape p)) owners)
             first.attached.part_is
             ∙ own.alone (record { 0 = 0 }) 0 (record {
               shape = catalog_shape geometry;

@@ -14,10 +14,10 @@ use Rattle.vr_catalog.specs.Catalog.{entries_in}
 use Rattle.vr_catalog.specs.Definition.{catalog_definition}
 use Rattle.vr_catalog.specs.declared.entry.CatEntry.{CatEntry}
 use Rattle.vr_attach.specs.CatalogRules.{IsCatalog}
+use Rattle.vr_attach.specs.Damage.{IsDamagedIn}
 use Rattle.vr_attach.specs.Header.{header_block}
 use Rattle.vr_attach.specs.Laid.{AreApart, catalog_shape, keyed_part, shape_by, shape_in}
-use Rattle.vr_attach.proofs.CallerLemmas.{owned-apart}
-use Rattle.vr_attach.proofs.Walks.{damaged_none as part_damaged}
+use Rattle.vr_attach.proofs.CallerLemmas.{damaged-alone, owned-apart}
 use Rattle.vr_history.specs.State.{BeforeImage}
 use Rattle.vr_log.specs.Content.{Content as LogContent}
 use Rattle.vr_log.specs.Spells.{Spells}
@@ -81,6 +81,10 @@ module _ (geometry : Geometry) (number : ℕ) (image : Image) (recovered : ℕ �
   pub catalog-stands : StandsFor (catalog_shape geometry) image (is.contents 0)
   catalog-stands = is.stands.laid 0 (catalog_shape geometry) refl
 
+  -- the volume has an area, the catalog's
+  some-area : 0 < area_count geometry
+  some-area = (is.inside 0 (catalog_shape geometry) refl).0.first
+
   pub catalog-rules : IsCatalog geometry (catalog_by images (is.contents 0))
   catalog-rules = subst (IsCatalog geometry) catalog-same is.stands.catalog
 
@@ -100,15 +104,18 @@ module _ (geometry : Geometry) (number : ℕ) (image : Image) (recovered : ℕ �
     pub are-on : AreOn geometry entries
     are-on part shape laid = ends shape (is.inside part shape (is-laid part shape laid))
       where
+        there : (own : Geometry) (first : ℕ) → own ≡ geometry → first < area_count own
+            → head_block own first + own.area < geometry.blocks
+        there own first same below =
+            subst (λ (g : Geometry). head_block own first + own.area < g.blocks) same
+            (area-on own first below)
+
         ends : (shape : Shape) → IsInside geometry shape → EndsBefore geometry.blocks shape
-        ends (KeyedShape part) inside = inside.0
-        ends (NumberedShape part) inside = subst
-            (λ (g : Geometry). head_block part.geometry part.first + part.geometry.area < g.blocks)
-            inside.1
-            (area-on part.geometry part.first inside.0.first)
+        ends (KeyedShape part) inside = there part.geometry part.first inside.1 inside.0.first
+        ends (NumberedShape part) inside = there part.geometry part.first inside.1 inside.0.first
 
     pub are-apart : AreApart (shape_in geometry entries)
-    are-apart = owned-apart geometry entries is.stands.owners image
+    are-apart = owned-apart geometry entries is.stands.owners image some-area
         (λ part shape laid. is.stands.within part shape (is-laid part shape laid))
 
     pub area-none : (block rule : ℕ) → IsAreaNo geometry entries block rule → ⊥
@@ -189,10 +196,10 @@ module _ (geometry : Geometry) (number : ℕ) (image : Image) (recovered : ℕ �
   pub mount-none : (block rule : ℕ) (now : Seen) → now.cur ≡ image
       → IsMountShown geometry images now block rule → ⊥
   mount-none block rule now same (AtCatalog shown) =
-      part_damaged (keyed_part geometry 0 0 catalog_definition) 0 (area_count geometry) image block
-      shown.rule (subst (λ (i : Image). Rattle.vr_attach.specs.Damage.IsDamagedAt
-      (keyed_part geometry 0 0 catalog_definition) 0 (area_count geometry) i block shown.rule) same
-      shown.damaged) (is.contents 0, catalog-stands)
+      let part = keyed_part geometry 0 0 catalog_definition in
+      damaged-alone part image block shown.rule
+      (subst (λ (i : Image). IsDamagedIn part i block shown.rule) same shown.damaged)
+      (is.contents 0, catalog-stands)
   mount-none block rule now same (AtImages stands shown) = shown.damaged own-fits
   mount-none block rule now same (Misspelled shown) =
       shown.damaged (is.contents 0)
@@ -207,7 +214,7 @@ module _ (geometry : Geometry) (number : ℕ) (image : Image) (recovered : ℕ �
       let are = subst (λ (i : Image). AreEntriesOf geometry images i entries) same
       shown.are.entries_are in
       let one = shown.shown in
-      any-none geometry entries is.stands.owners image
+      any-none geometry entries is.stands.owners image some-area
       (λ part shape here. is.stands.within part shape (is-laid entries are part shape here))
       one.part one.shape one.laid (part-stands entries are one.part one.shape one.laid) block rule
       (subst (λ (i : Image). IsAnyShown geometry one.shape

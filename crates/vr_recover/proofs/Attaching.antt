@@ -26,7 +26,7 @@ use Rattle.vr_mount.specs.Areas.{BeginsWith, IsBelow}
 use Rattle.vr_part.specs.Any.{known_any, shape_any}
 use Rattle.vr_part.specs.Attached.{IsAnyShown, IsAttachedWith, ShowsDamage}
 use Rattle.vr_part.specs.declared.any.AnyPart.{AnyPart}
-use Rattle.vr_space.specs.Keyed.{Keyed}
+use Rattle.vr_space.specs.Areas.{KeyedChain}
 use Rattle.vr_space.specs.Part.{KeyedShape, NumberedShape, Shape, Stands, StandsFor}
 use Rattle.vr_space.specs.Rosters.{Numbered}
 use Rattle.vr_recover.specs.Found.{AllStand, AreEntries, AreEntriesOf, AreKnown, AtAreas, AtPart}
@@ -127,7 +127,7 @@ module _ (geometry : Geometry) (entry : CatEntry) (area : ℕ) (definition : Def
   pub entry-shape : IsLaidShape geometry entry area
   entry-shape = by definition.kind (lays.shape geometry)
     where
-      no-keyed : (x : Keyed) (y : Numbered) → KeyedShape x ≡ NumberedShape y → ⊥
+      no-keyed : (x : KeyedChain) (y : Numbered) → KeyedShape x ≡ NumberedShape y → ⊥
       no-keyed x y equal = cc
 
       numbered-is : (x y : Numbered) → NumberedShape x ≡ NumberedShape y → x ≡ y

@@ -1,6 +1,6 @@
 -- The catalog's records as a list, with before-images put back in it: what it has is what the content
 -- has that the blocks stand for.
-use Rattle.std.proofs.Common.{◌≡◌, ◌∙◌, ℕ, suc, ◌+◌, arith, Bool, true, false, cond, List, [], ◌∷◌, ◌++◌, map}
+use Rattle.std.proofs.Common.{◌≡◌, ◌∙◌, ℕ, zero, suc, ◌+◌, arith, Bool, true, false, cond, List, [], ◌∷◌, ◌++◌, map}
 use Rattle.std.proofs.Common.{Option, Some, None, refl, sym, ap, subst, set, insert, bytes_eq}
 use Rattle.std.proofs.Common.{get_or}
 use Rattle.std.specs.Prelude.{All, IfSome, filter, not}
@@ -20,10 +20,13 @@ use Rattle.vr_history.specs.State.{BeforeImage}
 use Rattle.vr_log.specs.declared.record.LogRecord.{LogRecord}
 use Rattle.vr_mount.specs.Records.{bytes_of}
 use Rattle.vr_seqset.specs.Entry.{Entry}
-use Rattle.vr_space.specs.Keyed.{Keyed, content_from, entries_of, entry_block, items_of, placed}
-use Rattle.vr_space.specs.Keyed.{low_of, range_of, records_of}
+use Rattle.vr_seqset.specs.Reading.{record_in}
+use Rattle.vr_space.specs.Areas.{KeyedChain, area_of, content_after, content_in, head_in, most_areas}
+use Rattle.vr_space.specs.Keyed.{Keyed, content_from, entries_of, entry_block, items_of, key_of}
+use Rattle.vr_space.specs.Keyed.{low_of, placed, range_of, records_of}
 use Rattle.vr_space.specs.Part.{StandsFor}
 use Rattle.vr_space.specs.Room.{Range, is_in}
+use Rattle.vr_space.specs.Rosters.{after_next}
 use Rattle.vr_volume.specs.PutBack.{put_back, standing}
 use Rattle.vr_recover.specs.Images.{HasName, IsNamed, name_in, named}
 use Rattle.vr_recover.specs.Undone.{FitsPart}
@@ -75,29 +78,45 @@ own-filter range ((place, Withdrawn length) ∷ content) own =
     by true further = further
     by false further = further
 
+-- so has each of an area, whose key is the name
+module _ (part : Keyed) (image : Image) (names : (bytes : List ℕ) → name_in bytes ≡ key_of part bytes)
+  where
+    own-placed : (items : List ci.Item) → AreOwn (map (placed part) items)
+    own-placed [] = tt
+    own-placed (item ∷ items) = (names item.bytes, own-placed items)
+
+    pub own-from : (low : Option (List ℕ)) (entries : List Entry)
+        → AreOwn (content_from part image low entries)
+    own-from low [] = tt
+    own-from low (entry ∷ entries) =
+        let block = block_at image (entry_block part entry) in
+        own-append (filter (λ (one : Placed). is_in (range_of low entry) one.0)
+        (records_of part block)) (content_from part image (Some entry.high) entries)
+        (own-filter (range_of low entry) (records_of part block) (own-placed (items_of block)))
+        (own-from (Some entry.high) entries)
+
 module _ (geometry : Geometry) (image : Image) where
-  abbrev part : Keyed
-  part = keyed_part geometry 0 0 catalog_definition
+  abbrev catalog : KeyedChain
+  catalog = keyed_part geometry 0 0 catalog_definition
 
-  own-placed : (items : List ci.Item) → AreOwn (map (placed part) items)
-  own-placed [] = tt
-  own-placed (item ∷ items) = (refl, own-placed items)
-
-  own-from : (low : Option (List ℕ)) (entries : List Entry)
-      → AreOwn (content_from part image low entries)
-  own-from low [] = tt
-  own-from low (entry ∷ entries) =
-      let block = block_at image (entry_block part entry) in
-      own-append (filter (λ (one : Placed). is_in (range_of low entry) one.0)
-      (records_of part block)) (content_from part image (Some entry.high) entries)
-      (own-filter (range_of low entry) (records_of part block) (own-placed (items_of block)))
-      (own-from (Some entry.high) entries)
+  own-after : (k area : ℕ) → AreOwn (content_after catalog image k area)
+  own-after zero area = tt
+  own-after (suc k) area = own-append (content_in catalog image area)
+      (after_next [] (content_after catalog image k) (record_in (head_in catalog image area)).next)
+      (own-from (area_of catalog area) image (λ bytes. refl)
+      (low_of (head_in catalog image area)) (entries_of (head_in catalog image area)))
+      (by_next (record_in (head_in catalog image area)).next (λ further. own-after k further))
+    where
+      by_next : (next : Option ℕ) → ((further : ℕ) → AreOwn (content_after catalog image k further))
+          → AreOwn (after_next [] (content_after catalog image k) next)
+      by_next None more = tt
+      by_next (Some further) more = more further
 
   -- whatever the catalog's blocks stand for has each record at its name
   pub catalog-named : (content : Content) → StandsFor (catalog_shape geometry) image content
       → standing content ≡ named (bytes_of content)
-  catalog-named content stands = own-named content (subst AreOwn (sym stands.0.records)
-      (own-from (low_of (block_at image part.head)) (entries_of (block_at image part.head))))
+  catalog-named content stands = own-named content (subst AreOwn (sym stands.records)
+      (own-after most_areas catalog.first))
 
 -- ---- one record put back
 

@@ -38,8 +38,8 @@ use Rattle.vr_recover.specs.Recovered.{AreBackOf, IsWhole, KeepsAll, item_back, 
 use Rattle.vr_volume.specs.Volume.{Recovers, shapes_by}
 use Rattle.vr_volume.proofs.CallerLemmas.{shape-stands}
 use Rattle.vr_volume.proofs.Calls.{stays-part}
-use Rattle.vr_mount.proofs.CallerLemmas.{AreSame, OwnParts, area-on, first_at, keyed-same}
-use Rattle.vr_mount.proofs.CallerLemmas.{stands-same, stays-same, two-areas}
+use Rattle.vr_mount.proofs.CallerLemmas.{AreSame, OwnParts, area-on, first_at, keyed-there}
+use Rattle.vr_mount.proofs.CallerLemmas.{stands-same, stays-same}
 use Rattle.vr_mount.proofs.Telling.{mapped_all}
 use Rattle.vr_recover.specs.Found.{AreEntriesOf, AreKnown, IsFound, IsPartReady, IsPlanned}
 use Rattle.vr_recover.specs.Found.{IsUndoable, MayAdd}
@@ -61,7 +61,12 @@ use Rattle.vr_recover.proofs.Wholes.{recovers-items}
 attached-stays : (shape : Shape) (owners : Owners) (known : Known) (a b : Seen)
     → StaysPart shape owners a b → IsSound shape owners a → Left a a.cur
     → IsAttachedWith shape known a.cur → IsAttachedWith shape known b.cur
-attached-stays (KeyedShape part) owners known a b stays sound left attached = attached
+attached-stays (KeyedShape part) owners known a b stays sound left attached = (
+  attached.0,
+  attached.1,
+  (knows-stays a b (KeyedShape part) owners known stays sound left
+      (attached-knows (KeyedShape part) known a attached)).blocks.0,
+)
 attached-stays (NumberedShape part) owners known a b stays sound left attached = (
   attached.0,
   attached.1,
@@ -110,10 +115,10 @@ module _ (geometry : Geometry) (content : LogContent) (a b : Seen) (allowed : Is
       → AreEntriesOf geometry (images_of content.records) a.cur entries
       → AreEntriesOf geometry (images_of content.records) b.cur entries
   entries-still entries are one stands = are one
-      (keyed-same (keyed_part geometry 0 0 catalog_definition) b.cur a.cur
-      (λ n here. sym (off-now n
+      (keyed-there (keyed_part geometry 0 0 catalog_definition) b.cur a.cur
+      (λ area below n here. sym (off-now n
       (λ logged. omega (arith, here.0, logged.1))
-      (omega (arith, here.1, area-on geometry 0 (omega (arith, two-areas geometry allowed))))))
+      (omega (arith, here.1, area-on geometry area below))))
       one stands)
 
   -- the parts stay in the areas that are theirs, and know as much

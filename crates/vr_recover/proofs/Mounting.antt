@@ -13,7 +13,7 @@ use Rattle.vr_mount.specs.Listing.{AreRecords}
 use Rattle.vr_mount.specs.Records.{bytes_of}
 use Rattle.vr_part.specs.Any.{shape_any}
 use Rattle.vr_part.specs.declared.any.AnyPart.{AnyPart}
-use Rattle.vr_space.specs.Keyed.{Keyed as KeyedPart}
+use Rattle.vr_space.specs.Areas.{KeyedChain}
 use Rattle.vr_space.specs.Part.{KeyedShape, Stands, StandsFor}
 use Rattle.vr_volume.specs.PutBack.{put_back}
 use Rattle.vr_recover.specs.Found.{AreEntriesBack, AreEntriesBy, AreEntriesOf, AtImages}
@@ -31,7 +31,7 @@ pub own-is : (geometry : Geometry) (parts : List AnyPart) (part : AnyPart)
     → shape_any part ≡ catalog_shape geometry
 own-is geometry parts part first is =
     ap shape_any (is ∙ ap (λ (ps : List AnyPart). get_or ps 0 part) first.is)
-    ∙ ap (λ (own : KeyedPart). KeyedShape own) first.attached.part_is
+    ∙ ap (λ (own : KeyedChain). KeyedShape own) first.attached.part_is
 
 -- ---- records, with before-images put back in them
 

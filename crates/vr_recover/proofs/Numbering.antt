@@ -1,5 +1,5 @@
--- Entry-sequenced and relative parts that a catalog lays may be so: their areas are there, and a
--- record has room in an interval.
+-- Parts that a catalog lays may be so: their first areas are there, and a record has room in an
+-- interval.
 use Rattle.std.proofs.Common.{◌≡◌, ⊎_elim, inl, inr, ℕ, ◌+◌, ◌<◌, ◌≤◌, Bool, true, false, List, []}
 use Rattle.std.proofs.Common.{◌∷◌, Option, Some, None, refl, sym, ap, subst, ◌∙◌, arith, get_or, ◌==◌}
 use Rattle.std.proofs.Common.{IsTrue, ◌&&◌}
@@ -9,7 +9,7 @@ use Rattle.std.proofs.lemmas.Bool.{cases_lt, lt-ltb, true≢false}
 use Rattle.std.proofs.lemmas.Bool.Decides.{Decides-eqb, eqb_tells}
 use Rattle.vr_types.specs.Content.{Content}
 use Rattle.vr_types.specs.Content.Item.{Standing}
-use Rattle.vr_types.specs.Geometry.{IsAllowed, area_count, head_block}
+use Rattle.vr_types.specs.Geometry.{IsAllowed}
 use Rattle.vr_types.specs.declared.geometry.Geometry.{Geometry}
 use Rattle.vr_types.specs.declared.unit.AreaNo.{AreaNo}
 use Rattle.vr_types.specs.declared.unit.Kind.{Kind}
@@ -23,108 +23,73 @@ use Rattle.vr_catalog.specs.declared.entry.EntryKind.TheVariants.{Cluster, Alter
 use Rattle.vr_attach.specs.CatalogRules.{has_sizes_by, related_in}
 use Rattle.vr_attach.specs.Laid.{IsInside, catalog_shape, shape_by_kind, shape_from, shape_in, shape_of}
 use Rattle.vr_log.specs.LogNow.{IsOf}
-use Rattle.vr_mount.specs.Areas.{EndsBefore}
 use Rattle.vr_mount.specs.Records.{bytes_of}
-use Rattle.vr_mount.proofs.Blocks.{area_there}
-use Rattle.vr_mount.proofs.CallerLemmas.{IsNumberedIf, laid-inside, on_blocks}
+use Rattle.vr_mount.proofs.CallerLemmas.{IsFit, laid-inside, on_blocks}
 use Rattle.vr_mount.proofs.Telling.{found_place}
-use Rattle.vr_space.specs.Part.{IsOn, NumberedShape, Shape}
-use Rattle.vr_space.specs.Rosters.{Numbered}
+use Rattle.vr_space.specs.Part.{IsOn, Shape}
 use Rattle.vr_types.specs.Seen.{Seen}
+use Rattle.vr_types.proofs.CallerLemmas.{block_size_least}
 use Rattle.vr_recover.specs.Found.{AreEntriesBy, HasLength, MayAdd}
 use Rattle.vr_recover.specs.Unserved.{IsPlain}
 use Rattle.vr_recover.proofs.Shapes.{laid-cases}
 
--- What the definition of such a part says of it.
-record IsDefined (geometry : Geometry) (part : Numbered) : Type 0 where
-  geometry_is : part.geometry ≡ geometry
-  some : 0 < part.most
-  fits : part.most + 7 ≤ geometry.size
+-- what the definition of a part says of its records, whichever area it is laid from
+fit-kind : (geometry : Geometry) (number area : ℕ) (definition : Definition) (kind : Kind)
+    → 0 < definition.maximum → definition.maximum + 7 ≤ geometry.size
+    → IfSome (shape_by_kind geometry number area definition kind) (IsFit geometry)
+fit-kind geometry number area definition kinds.Keyed some fits = fits
+fit-kind geometry number area definition kinds.Entry some fits = (some, fits)
+fit-kind geometry number area definition kinds.Relative some fits = (some, fits)
 
-numbered-is : (x y : Numbered) → Some (NumberedShape x) ≡ Some (NumberedShape y) → x ≡ y
-numbered-is x y same = cc
+fit-area : (geometry : Geometry) (number : ℕ) (area : Option AreaNo) (definition : Definition)
+    → 0 < definition.maximum → definition.maximum + 7 ≤ geometry.size
+    → IfSome (shape_from geometry number area definition) (IsFit geometry)
+fit-area geometry number None definition some fits = tt
+fit-area geometry number (Some area) definition some fits =
+    fit-kind geometry number area.0 definition definition.kind some fits
 
-by-kind : (geometry : Geometry) (number area : ℕ) (definition : Definition) (kind : Kind)
-    (part : Numbered) → 0 < definition.maximum → definition.maximum + 7 ≤ geometry.size
-    → shape_by_kind geometry number area definition kind ≡ Some (NumberedShape part)
-    → IsDefined geometry part
-by-kind geometry number area definition kinds.Keyed part some fits is = absurd cc
-by-kind geometry number area definition kinds.Entry part some fits is =
-    subst (IsDefined geometry) (numbered-is _ part is)
-    (record { geometry_is = refl; some = some; fits = fits })
-by-kind geometry number area definition kinds.Relative part some fits is =
-    subst (IsDefined geometry) (numbered-is _ part is)
-    (record { geometry_is = refl; some = some; fits = fits })
-
-by-area : (geometry : Geometry) (number : ℕ) (area : Option AreaNo) (definition : Definition)
-    (part : Numbered) → 0 < definition.maximum → definition.maximum + 7 ≤ geometry.size
-    → shape_from geometry number area definition ≡ Some (NumberedShape part)
-    → IsDefined geometry part
-by-area geometry number None definition part some fits is = absurd cc
-by-area geometry number (Some area) definition part some fits is =
-    by-kind geometry number area.0 definition definition.kind part some fits is
-
-by-definition : (geometry : Geometry) (number : ℕ) (area : Option AreaNo)
-    (definition : Option Definition) (part : Numbered)
-    → IfSome definition (λ (d : Definition). 0 < d.maximum)
+fit-definition : (geometry : Geometry) (number : ℕ) (area : Option AreaNo)
+    (definition : Option Definition) → IfSome definition (λ (d : Definition). 0 < d.maximum)
     → IfSome definition (λ (d : Definition). d.maximum + 7 ≤ geometry.size)
-    → option_and_then (shape_from geometry number area) definition ≡ Some (NumberedShape part)
-    → IsDefined geometry part
-by-definition geometry number area None part some fits is = absurd cc
-by-definition geometry number area (Some definition) part some fits is =
-    by-area geometry number area definition part some fits is
+    → IfSome (option_and_then (shape_from geometry number area) definition) (IsFit geometry)
+fit-definition geometry number area None some fits = tt
+fit-definition geometry number area (Some definition) some fits =
+    fit-area geometry number area definition some fits
 
 module _ (geometry : Geometry) (entries : List CatEntry) (allowed : IsAllowed geometry)
     (may : MayAdd geometry entries) where
-  entry-defined : (part : ℕ) (entry : CatEntry) (numbered : Numbered)
-      → entry_with_part entries part ≡ Some entry
-      → shape_of geometry entry ≡ Some (NumberedShape numbered) → IsDefined geometry numbered
-  entry-defined part entry numbered found laid =
+  entry-fits : (part : ℕ) (entry : CatEntry) (shape : Shape)
+      → entry_with_part entries part ≡ Some entry → shape_of geometry entry ≡ Some shape
+      → IsFit geometry shape
+  entry-fits part entry shape found laid =
       let place = found_place (λ (one : CatEntry). one.part.0 == part) entries entry found in
-      by-definition geometry entry.part.0 entry.first_area
-      (cluster_definition entry.entry_kind entry) numbered
+      subst (λ (o : Option Shape). IfSome o (IsFit geometry)) laid
+      (fit-definition geometry entry.part.0 entry.first_area
+      (cluster_definition entry.entry_kind entry)
       (subst HasLength place.2 (may.lengths place.0 entry place.1))
-      (subst (IsPlain geometry) place.2 (may.plain place.0 entry place.1)) laid
+      (subst (IsPlain geometry) place.2 (may.plain place.0 entry place.1)))
 
-  defined : (part : ℕ) (numbered : Numbered)
-      → shape_in geometry entries part ≡ Some (NumberedShape numbered)
-      → IsDefined geometry numbered
-  defined part numbered laid = ⊎_elim
-      (λ zero. absurd (no-keyed zero.1))
-      (λ found. entry-defined part found.0 numbered found.1 found.2)
-      (laid-cases geometry entries may.distinct part (NumberedShape numbered) laid)
-    where
-      no-keyed : catalog_shape geometry ≡ NumberedShape numbered → ⊥
-      no-keyed same = cc
+  catalog-fits : IsFit geometry (catalog_shape geometry)
+  catalog-fits = omega (arith, block_size_least geometry.size allowed.size)
 
-  -- an entry-sequenced or relative part that is laid may be so
-  pub numbered-laid : (part : ℕ) (shape : Shape) → shape_in geometry entries part ≡ Some shape
-      → IsNumberedIf shape
-  numbered-laid part shape laid numbered is =
-      let is-laid : shape_in geometry entries part ≡ Some (NumberedShape numbered) =
-      laid ∙ ap Some is in
-      let of = defined part numbered is-laid in
-      let ends : EndsBefore geometry.blocks (NumberedShape numbered) =
-      may.on part (NumberedShape numbered) is-laid in
-      record {
-        allowed = subst IsAllowed (sym of.geometry_is) allowed;
-        first = subst (λ (g : Geometry). numbered.first < area_count g) (sym of.geometry_is)
-            (area_there geometry.blocks geometry.log geometry.area numbered.first
-            (subst (λ (g : Geometry). head_block g numbered.first + g.area < geometry.blocks)
-            of.geometry_is ends));
-        some = of.some;
-        fits = subst (λ (g : Geometry). numbered.most + 7 ≤ g.size) (sym of.geometry_is) of.fits;
-      }
+  -- the records of each part that is laid have room
+  laid-fits : (part : ℕ) (shape : Shape) → shape_in geometry entries part ≡ Some shape
+      → IsFit geometry shape
+  laid-fits part shape laid = ⊎_elim
+      (λ catalog. subst (IsFit geometry) catalog.1 catalog-fits)
+      (λ found. entry-fits part found.0 shape found.1 found.2)
+      (laid-cases geometry entries may.distinct part shape laid)
 
+  -- so each may be so
   pub inside-of : (part : ℕ) (shape : Shape) → shape_in geometry entries part ≡ Some shape
       → IsInside geometry shape
-  inside-of part shape laid = laid-inside geometry entries may.on part shape laid
-      (numbered-laid part shape laid)
+  inside-of part shape laid =
+      laid-inside geometry entries allowed may.on part shape laid (laid-fits part shape laid)
 
   pub on-of : (now : Seen) → IsOf geometry now → (part : ℕ) (shape : Shape)
       → shape_in geometry entries part ≡ Some shape → IsOn shape now
-  on-of now of part shape laid = on_blocks geometry entries now of may.on part shape laid
-      (numbered-laid part shape laid)
+  on-of now of part shape laid = on_blocks geometry entries now of allowed may.on part shape laid
+      (laid-fits part shape laid)
 
 -- ---- how long records are
 

@@ -109,8 +109,7 @@ module _ (a b : Seen) (count : b.count ≡ a.count) (size : b.size ≡ a.size) (
   part-before : (geometry : Geometry) (images : List BeforeImage) (block rule : ℕ)
       → IsPartShown geometry images b block rule → IsPartShown geometry images a block rule
   part-before geometry images block rule (OfCatalog shown) = OfCatalog (subst (λ (i : Image).
-      IsRuleShown (keyed_part geometry 0 0 catalog_definition) 0 (area_count geometry) i block rule)
-      cur shown)
+      IsRuleShown (keyed_part geometry 0 0 catalog_definition) i block rule) cur shown)
   part-before geometry images block rule (OfEntry content stands shown) = OfEntry content
       (stands-before geometry content stands)
       (entry-then geometry (entries_in (catalog_by images content)) b a block rule cur shown)
@@ -408,22 +407,14 @@ owned-still geometry before parts owners shapes areas own = record {
     has-was : (one other : Shape) (here there : Known) (area : ℕ) → one ≡ other
         → here.areas ≡ there.areas → HasArea geometry other there area
         → HasArea geometry one here area
-    has-was one other here there area same kept has = subst
-        (λ (s : Shape). HasArea geometry s here area) (sym same) (by other has)
-      where
-        by : (s : Shape) → HasArea geometry s there area → HasArea geometry s here area
-        by (KeyedShape part) has = has
-        by (NumberedShape part) has =
-            subst (λ (list : List ℕ). Contains list area) (sym kept) has
+    has-was one other here there area same kept has =
+        subst (λ (list : List ℕ). Contains list area) (sym kept) has
 
     owns-was : (one other : Shape) (here there : Known) → one ≡ other
         → here.areas ≡ there.areas → OwnsChain one here owners → OwnsChain other there owners
-    owns-was one other here there same kept owns = by other
-        (subst (λ (s : Shape). OwnsChain s here owners) same owns)
-      where
-        by : (s : Shape) → OwnsChain s here owners → OwnsChain s there owners
-        by (KeyedShape part) owns = owns
-        by (NumberedShape part) owns = owns ∙ ap (λ (list : List ℕ). length list) kept
+    owns-was one other here there same kept owns =
+        subst (λ (s : Shape). OwnsChain s here owners) same owns
+        ∙ ap (λ (list : List ℕ). length list) kept
 
     owned-at : (k : ℕ) (one : AnyPart) → slice_get before k ≡ Some one
         → OwnsAreas geometry owners one

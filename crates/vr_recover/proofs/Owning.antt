@@ -32,7 +32,8 @@ known-know parts now known k d below =
 reaches-has : (geometry : Geometry) (shape : Shape) (known : Known) (now : Seen) (area : ℕ)
     → Knows shape known now → ReachesArea geometry shape now.cur area
     → HasArea geometry shape known area
-reaches-has geometry (KeyedShape part) known now area knows reaches = reaches
+reaches-has geometry (KeyedShape part) known now area knows reaches = subst
+    (λ (areas : List ℕ). Contains areas area) (sym knows.blocks.0.areas_are) reaches
 reaches-has geometry (NumberedShape part) known now area knows reaches = subst
     (λ (areas : List ℕ). Contains areas area) (sym knows.blocks.chain.areas)
     reaches
@@ -40,7 +41,8 @@ reaches-has geometry (NumberedShape part) known now area knows reaches = subst
 has-reaches : (geometry : Geometry) (shape : Shape) (known : Known) (now : Seen) (area : ℕ)
     → Knows shape known now → HasArea geometry shape known area
     → ReachesArea geometry shape now.cur area
-has-reaches geometry (KeyedShape part) known now area knows has = has
+has-reaches geometry (KeyedShape part) known now area knows has = subst
+    (λ (areas : List ℕ). Contains areas area) knows.blocks.0.areas_are has
 has-reaches geometry (NumberedShape part) known now area knows has = subst
     (λ (areas : List ℕ). Contains areas area) knows.blocks.chain.areas has
 

@@ -18,11 +18,12 @@ use Rattle.vr_types.specs.declared.unit.PartNo.{PartNo}
 use Rattle.vr_types.specs.declared.unit.Unit.{Unit as UnitOfRecovery}
 use Rattle.vr_space.specs.Owners.{Owners}
 use Rattle.vr_seqset.specs.Entry.{Entry}
+use Rattle.vr_space.specs.Areas.{KeyedChain, area_for, head_in}
 use Rattle.vr_space.specs.Keyed.{entry_in}
 use Rattle.vr_space.specs.Known.{Known}
 use Rattle.vr_space.specs.Numbered.{left_in}
 use Rattle.vr_space.specs.Room.{Lengths, Range}
-use Rattle.vr_space.specs.Split.{SplitNow, stage_in}
+use Rattle.vr_space.specs.Split.{AreaSplit, keyed_stage, stage_by, stage_in}
 use Rattle.vr_space.specs.Part.{CanSet, DueMore, IsFirm, IsSound, KeyedShape, NumberedShape}
 use Rattle.vr_space.specs.Part.{SetsOne, Shape, item_of, left_by, part_no, stage_of}
 use Rattle.vr_space.proofs.CallerLemmas.{can-set-kept, firm-due, forced-firm, left-none}
@@ -56,12 +57,17 @@ no-stage-in : (found : Option (Range × Entry)) → stage_in None found ≡ None
 no-stage-in None = refl
 no-stage-in (Some at) = refl
 
+no-stage-by : (part : KeyedChain) (image : Image) (place : List ℕ) (area : Option ℕ)
+    → stage_by part None image place area ≡ None
+no-stage-by part image place None = refl
+no-stage-by part image place (Some area) = no-stage-in (entry_in (head_in part image area) place)
+
 -- with no split under way no stage comes before a change
 no-stage : (shape : Shape) (known : Known) (image : Image) (place : List ℕ)
     → known.split ≡ None → stage_of shape known image place ≡ None
 no-stage (KeyedShape part) known image place none =
-    let found = entry_in (block_at image part.head) place in
-    ap (λ (split : Option SplitNow). stage_in split found) none ∙ no-stage-in found
+    ap (λ (split : Option AreaSplit). keyed_stage part split image place) none
+    ∙ no-stage-by part image place (area_for part image place)
 no-stage (NumberedShape part) known image place none = refl
 
 -- a record may be put back for which room of its length is kept, and any may be taken away

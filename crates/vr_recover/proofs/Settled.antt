@@ -1,5 +1,5 @@
 -- Where a crash leaves what is read alone, a volume that recovers is safe.
-use Rattle.std.proofs.Common.{◌≡◌, ◌<◌, ℕ, Bool, true, false, List, [], ◌∷◌}
+use Rattle.std.proofs.Common.{◌≡◌, ◌<◌, ℕ, zero, suc, Bool, true, false, List, [], ◌∷◌}
 use Rattle.std.proofs.Common.{length, refl, sym, ap, subst, ◌∙◌, arith, Option, Some, None, All}
 use Rattle.std.proofs.Common.{⊎_elim}
 use Rattle.std.specs.Prelude.{IfSome, cond, nat_eq, max}
@@ -17,15 +17,22 @@ use Rattle.vr_types.specs.Image.{Block, Image, block_at}
 use Rattle.vr_types.specs.Seen.{Seen}
 use Rattle.vr_types.specs.declared.geometry.Geometry.{Geometry}
 use Rattle.vr_seqset.specs.Entry.{Entry}
+use Rattle.vr_seqset.specs.Reading.{record_in}
 use Rattle.vr_attach.specs.Owning.{IsPastLog}
 use Rattle.vr_attach.proofs.CallerLemmas.{inside-on}
 use Rattle.vr_space.specs.Owners.{Owners}
 use Rattle.vr_space.specs.Room.{HaveRoom, Lengths, lengthen_by, with_length, with_lengths}
 use Rattle.vr_space.specs.Way.{Found, IsWithin, MayFind, Reads, Way, found_on}
-use Rattle.vr_space.specs.Keyed.{AreWhole, EachMayLeave, HaveRooms, HoldRanges, HoldsRange, IsHead}
-use Rattle.vr_space.specs.Keyed.{IsKeyedSound, IsWhole, Keyed, entries_of, entry_block, lengths_of}
+use Rattle.vr_space.specs.AreaCalls.{HasRoomHere, IsAreaOn}
+use Rattle.vr_space.specs.Areas.{ChainHasRoom, ChainKeepsRoom, EachAfter, IsFollowed, IsOwnedArea}
+use Rattle.vr_space.specs.Areas.{IsQuietArea, KeyedChain, Links, LinksIn, area_of, end_of, head_in}
+use Rattle.vr_space.specs.Areas.{head_of, most_areas}
+use Rattle.vr_space.specs.Keyed.{EachMayLeave, HaveRooms, HoldRanges, HoldsRange, IsHead}
+use Rattle.vr_space.specs.Keyed.{IsKeyedSound, KeepsRoom, Keyed, entries_of, entry_block, lengths_of}
 use Rattle.vr_space.specs.Keyed.{low_of, range_of}
-use Rattle.vr_space.specs.Met.{IsMet}
+use Rattle.vr_space.specs.Met.{IsChainMet, Met}
+use Rattle.vr_space.specs.Split.{AreaSplit}
+use Rattle.vr_space.specs.UnderWay.{KeyedUnderWay}
 use Rattle.vr_space.specs.Part.{HasKeptRoom, HasRoom, IsAtRest, IsOn, IsPlaceOf, IsRecordOf}
 use Rattle.vr_space.specs.Part.{IsSound, KeyedShape, Knows, MayHold, NumberedShape, Shape}
 use Rattle.vr_space.specs.Part.{StandsFor, StaysIn, item_of, part_no, way_to}
@@ -33,9 +40,10 @@ use Rattle.vr_space.specs.Rosters.{IsInArea, IsOf as IsOfImage, IsOwnArea, Numbe
 use Rattle.vr_space.specs.Known.{Known}
 use Rattle.vr_space.specs.Numbered.{IsFilled, IsNumberedAtRest, IsNumberedOn, IsRestingArea}
 use Rattle.vr_space.specs.Numbered.{KeepsNumbered, NumberedStaysIn}
-use Rattle.vr_space.proofs.CallerLemmas.{AreIn, IsPartBlock, area-owned, chain-less}
-use Rattle.vr_space.proofs.CallerLemmas.{first-owned, head-in, rest-sound, roster-inside}
-use Rattle.vr_space.proofs.CallerLemmas.{numbered-less, way-within}
+use Rattle.vr_space.proofs.CallerLemmas.{AreIn, IsLinkedArea, IsPartBlock, area-on, area-owned}
+use Rattle.vr_space.proofs.CallerLemmas.{chain-less, each-after-both, each-after-less, first-owned}
+use Rattle.vr_space.proofs.CallerLemmas.{head-in, links-in-each, numbered-less, rest-sound}
+use Rattle.vr_space.proofs.CallerLemmas.{roster-inside, way-within}
 use Rattle.vr_history.specs.Committed.{kept_or}
 use Rattle.vr_history.specs.State.{BeforeImage}
 use Rattle.vr_log.specs.Content.{Content as LogContent}
@@ -58,12 +66,19 @@ use Rattle.vr_recover.specs.Undone.{alike}
 use Rattle.vr_recover.proofs.Wholes.{contents-ascend}
 use Rattle.vr_part.specs.Attached.{IsAttachedWith}
 
--- ---- a part
+-- ---- a keyed part
 
-module _ (part : Keyed) (now : Seen) (on : IsOn (KeyedShape part) now)
+-- One area, whose blocks are there, and of which a crash leaves what is read alone.
+module _ (part : Keyed) (now : Seen) (on : IsAreaOn part now)
     (forced : AllForced now.count now.cur now.may) where
+  abbrev top : Block
+  top = block_at now.cur part.head
+
   here : (n : ℕ) (block : Block) → n < now.count → now.may n block → block ≡ block_at now.cur n
   here n block below may = forced n block below may
+
+  pub head-is : (block : Block) → now.may part.head block → block ≡ top
+  head-is block may = here part.head block (omega (arith, on.0)) may
 
   hold-left : (low : Option (List ℕ)) (entries : List Entry) → AreIn part.area entries
       → HoldRanges part now.cur low entries → EachMayLeave part now low entries (HoldsRange part)
@@ -86,38 +101,84 @@ module _ (part : Keyed) (now : Seen) (on : IsOn (KeyedShape part) now)
     rooms-left kept (Some entry.high) entries inside.1 rooms.1,
   )
 
-  module _ (content : Content) (stands : StandsFor (KeyedShape part) now.cur content) where
-    top-in : AreIn part.area (entries_of (block_at now.cur part.head))
-    top-in = head-in part (block_at now.cur part.head) stands.0.head
+  pub area-sound : IsHead part top → HoldRanges part now.cur (low_of top) (entries_of top)
+      → IsKeyedSound part now
+  area-sound head hold = record {
+    area = on.0;
+    size = on.1;
+    heads = λ block may. subst (IsHead part) (sym (head-is block may)) head;
+    intervals = λ block may.
+        subst (λ (t : Block). EachMayLeave part now (low_of t) (entries_of t) (HoldsRange part))
+        (sym (head-is block may))
+        (hold-left (low_of top) (entries_of top) (head-in part top head) hold);
+  }
 
-    top-is : (top : Block) → now.may part.head top → top ≡ block_at now.cur part.head
-    top-is top may = here part.head top (omega (arith, on.0)) may
+  pub area-room : (kept : Lengths) → All (λ (entry : List ℕ × ℕ). length entry.0 ≡ part.key) kept
+      → IsHead part top → HaveRooms part kept now.cur (low_of top) (entries_of top)
+      → KeepsRoom part kept now
+  area-room kept places head rooms = record {
+    places = places;
+    each = λ block may. subst (λ (t : Block). EachMayLeave part now (low_of t) (entries_of t)
+        (λ range at. HaveRoom part.size (lengths_of part kept range at)))
+        (sym (head-is block may))
+        (rooms-left kept (low_of top) (entries_of top) (head-in part top head) rooms);
+  }
 
-    pub part-sound : IsKeyedSound part now
-    part-sound = record {
-      area = on.0;
-      size = on.1;
-      heads = λ top may. subst (IsHead part) (sym (top-is top may)) stands.0.head;
-      intervals = λ top may.
-          subst (λ (t : Block). EachMayLeave part now (low_of t) (entries_of t) (HoldsRange part))
-          (sym (top-is top may))
-          (hold-left (low_of (block_at now.cur part.head))
-          (entries_of (block_at now.cur part.head)) top-in stands.0.intervals);
-    }
+-- A chain of such areas.
+module _ (part : KeyedChain) (owners : Owners) (now : Seen) (on : IsOn (KeyedShape part) now)
+    (forced : AllForced now.count now.cur now.may) where
+  one-head : (area : ℕ) → area < area_count part.geometry → (top : Block)
+      → now.may (head_of part area) top → top ≡ head_in part now.cur area
+  one-head area below = head-is (area_of part area) now (area-on part now on area below) forced
 
-    pub part-whole : AreWhole part now
-    part-whole top may = subst (IsWhole part) (sym (top-is top may)) stands.1
+  rests-after : (k area : ℕ) (low : Option (List ℕ)) → LinksIn part now.cur k area low
+      → EachAfter part (IsOwnedArea part owners) (IsOfImage now.cur) k area
+      → Links part (IsQuietArea part owners now) now k area low
+  rests-after zero area low chain own = absurd chain
+  rests-after (suc k) area low chain own = (
+    record { own = own.0; one_head = one-head area chain.there },
+    record {
+      sound = area-sound (area_of part area) now (area-on part now on area chain.there) forced
+          chain.head chain.intervals;
+      begins = λ top may. ap low_of (one-head area chain.there top may) ∙ chain.begins;
+      next = λ top may.
+          subst (λ (t : Block). IsFollowed part Further t (record_in t).next)
+          (sym (one-head area chain.there top may))
+          (by_next (record_in here).next chain.next (own.1 here refl)
+          (λ further bound goes mine. rests-after k further bound goes mine));
+    },
+  )
+    where
+      here : Block
+      here = head_in part now.cur area
 
-    pub part-room : (kept : Lengths) → All (λ (entry : List ℕ × ℕ). length entry.0 ≡ part.key) kept
-        → HasRoom (KeyedShape part) kept now.cur → HasKeptRoom (KeyedShape part) kept now
-    part-room kept places rooms = record {
-      places = places;
-      each = λ top may. subst (λ (t : Block). EachMayLeave part now (low_of t) (entries_of t)
-          (λ range block. HaveRoom part.size (lengths_of part kept range block)))
-          (sym (top-is top may))
-          (rooms-left kept (low_of (block_at now.cur part.head))
-          (entries_of (block_at now.cur part.head)) top-in rooms);
-    }
+      Further : ℕ → Option (List ℕ) → Type 0
+      Further = Links part (IsQuietArea part owners now) now k
+
+      Own : ℕ → Type 0
+      Own = EachAfter part (IsOwnedArea part owners) (IsOfImage now.cur) k
+
+      by_next : (next : Option ℕ) → IsFollowed part (LinksIn part now.cur k) here next
+          → IfSome next Own
+          → ((further : ℕ) (bound : Option (List ℕ)) → LinksIn part now.cur k further bound
+          → Own further → Further further bound)
+          → IsFollowed part Further here next
+      by_next None goes mine more = goes
+      by_next (Some further) goes mine more = more further (end_of here) goes mine
+
+  rooms-after : (kept : Lengths)
+      → All (λ (entry : List ℕ × ℕ). length entry.0 ≡ part.key) kept
+      → LinksIn part now.cur most_areas part.first None → ChainHasRoom part kept now.cur
+      → ChainKeepsRoom part kept now
+  rooms-after kept places chain rooms = each-after-less part
+      (λ area. IsLinkedArea part now.cur area × HasRoomHere (area_of part area) kept now.cur)
+      (λ area. KeepsRoom (area_of part area) kept now) (IsOfImage now.cur) now.may
+      (λ area is. area-room (area_of part area) now (area-on part now on area is.0.there) forced
+      kept places is.0.stands.head is.1)
+      (λ area is. one-head area is.0.there) most_areas part.first
+      (each-after-both part (IsLinkedArea part now.cur)
+      (λ area. HasRoomHere (area_of part area) kept now.cur) (IsOfImage now.cur) most_areas
+      part.first (links-in-each part now.cur most_areas part.first None chain) rooms)
 
 -- what may be found is what is read
 found-here : (now : Seen) (region : ℕ → Type 0) → ((n : ℕ) → region n → n < now.count)
@@ -139,7 +200,7 @@ item-here shape owners now forced sound place found held =
 
 -- ---- parts of any shape
 
--- A part of chained areas, of whose blocks a crash leaves what is read alone.
+-- An entry-sequenced or relative part, of whose blocks a crash leaves what is read alone.
 module _ (part : Numbered) (owners : Owners) (now : Seen) (on : IsNumberedOn part now)
     (forced : AllForced now.count now.cur now.may) (stays : NumberedStaysIn part owners now.cur)
   where
@@ -169,14 +230,10 @@ module _ (part : Numbered) (owners : Owners) (now : Seen) (on : IsNumberedOn par
 pub forced-rests : (shape : Shape) (owners : Owners) (now : Seen) → IsOn shape now
     → AllForced now.count now.cur now.may → (content : Content) → StandsFor shape now.cur content
     → StaysIn shape owners now.cur → IsAtRest shape owners now
-forced-rests (KeyedShape part) owners now on forced content stands stays = (
-  record {
-    sound = part-sound part now on forced content stands;
-    one_head = λ top may. forced part.head top (omega (arith, on.0)) may;
-  },
-  part-whole part now on forced content stands,
-  stays,
-)
+forced-rests (KeyedShape part) owners now on forced content stands stays = record {
+  on = on;
+  chain = rests-after part owners now on forced most_areas part.first None stands.chain stays;
+}
 forced-rests (NumberedShape part) owners now on forced content stands stays =
     chain-rest part owners now on forced stays
 
@@ -187,23 +244,27 @@ forced-room : (shape : Shape) (owners : Owners) (now : Seen) → IsOn shape now
     → All (λ (entry : List ℕ × ℕ). IsPlaceOf shape entry.0) kept
     → HasRoom shape kept now.cur → HasKeptRoom shape kept now
 forced-room (KeyedShape part) owners now on forced content stands stays kept places room =
-    part-room part now on forced content stands kept places room
+    rooms-after part owners now on forced kept places stands.chain room
 forced-room (NumberedShape part) owners now on forced content stands stays kept places room =
     chain-room part owners now on forced stays kept room
 
 -- and knows its blocks as it is attached.
 pub attached-knows : (shape : Shape) (known : Known) (now : Seen)
     → IsAttachedWith shape known now.cur → Knows shape known now
-attached-knows (KeyedShape part) known now attached =
-    subst (λ (k : Known). Knows (KeyedShape part) k now) (sym attached)
-    (record { way = tt; blocks = All-nil (IsMet part now.cur) })
+attached-knows (KeyedShape part) known now attached = record {
+  way = subst (λ (split : Option AreaSplit). KeyedUnderWay part split now) (sym attached.0) tt;
+  blocks = (
+    attached.2,
+    subst (λ (met : List Met). All (IsChainMet part now.cur) met) (sym attached.1)
+        (All-nil (IsChainMet part now.cur)),
+  );
+}
 attached-knows (NumberedShape part) known now attached =
     record { way = tt; blocks = attached.2 }
 
 attached-no-split : (shape : Shape) (known : Known) (image : Image)
     → IsAttachedWith shape known image → known.split ≡ None
-attached-no-split (KeyedShape part) known image attached =
-    ap (λ (k : Known). k.split) attached
+attached-no-split (KeyedShape part) known image attached = attached.0
 attached-no-split (NumberedShape part) known image attached = attached.0
 
 -- ---- what is kept

@@ -1,13 +1,12 @@
 -- What is shown of a part that stands for a content in blocks of its own: nothing. An area that is
 -- another part's is none of its own.
-use Rattle.std.proofs.Common.{◌≡◌, ◌∙◌, ℕ, List, Some, sym, ap, subst, arith}
+use Rattle.std.proofs.Common.{◌≡◌, ◌∙◌, ◌<◌, ℕ, List, Some, sym, ap, subst, arith}
 use Rattle.vr_types.specs.Geometry.{area_count, head_block}
 use Rattle.vr_types.specs.Image.{Image}
 use Rattle.vr_types.specs.declared.geometry.Geometry.{Geometry}
 use Rattle.vr_catalog.specs.declared.entry.CatEntry.{CatEntry}
 use Rattle.vr_attach.specs.Laid.{IsReachedElsewhere, shape_in}
-use Rattle.vr_attach.proofs.CallerLemmas.{laid-as, stays-owned, stays-reached}
-use Rattle.vr_attach.proofs.Walks.{damaged_none as part_damaged}
+use Rattle.vr_attach.proofs.CallerLemmas.{damaged-alone, laid-as, stays-owned, stays-reached}
 use Rattle.vr_mount.specs.Areas.{BeginsWith, IsLaidIn}
 use Rattle.vr_part.specs.Attached.{IsAnyShown}
 use Rattle.vr_chained.proofs.CallerLemmas.{damaged-nowhere}
@@ -32,7 +31,7 @@ head-inside geometry area (NumberedShape part) begins = record {
 }
 
 module _ (geometry : Geometry) (entries : List CatEntry) (owners : Owners) (image : Image)
-    (within : (part : ℕ) (shape : Shape) → shape_in geometry entries part ≡ Some shape
+    (some : 0 < area_count geometry) (within : (part : ℕ) (shape : Shape) → shape_in geometry entries part ≡ Some shape
     → StaysIn shape owners image) where
   number-of : (part : ℕ) (shape : Shape) → shape_in geometry entries part ≡ Some shape
       → (part_no shape).0 ≡ part
@@ -41,7 +40,9 @@ module _ (geometry : Geometry) (entries : List CatEntry) (owners : Owners) (imag
   first-owner : (part area : ℕ) (laid : IsLaidIn geometry entries part area)
       → owners (head_block geometry area) ≡ Some part
   first-owner part area laid =
-      stays-owned laid.shape owners image (within part laid.shape laid.laid)
+      stays-owned geometry laid.shape owners image some
+      (laid-as geometry entries part laid.shape laid.laid).areas
+      (within part laid.shape laid.laid)
       (head_block geometry area) (head-inside geometry area laid.shape laid.begins)
       ∙ ap Some (number-of part laid.shape laid.laid)
 
@@ -76,8 +77,7 @@ module _ (geometry : Geometry) (entries : List CatEntry) (owners : Owners) (imag
       → Stands shape image → (block rule : ℕ)
       → IsAnyShown geometry shape (IsTaken geometry entries image part) image block rule → ⊥
   any-none part (KeyedShape keyed) laid stands block rule shown =
-      part_damaged keyed shown.0 (area_count geometry) image block shown.2.rule shown.2.damaged
-      stands
+      damaged-alone keyed image block shown.rule shown.damaged stands
   any-none part (NumberedShape numbered) laid stands block rule shown =
       damaged-nowhere numbered (IsTaken geometry entries image part) image owners block
       shown.rule shown.damaged (within part (NumberedShape numbered) laid)

@@ -101,14 +101,16 @@ module _ (part : Numbered) (image : Image) (Taken Other : ℕ → Type 0)
 has-reaches : (geometry : Geometry) (shape : Shape) (known : Known) (image : Image) (area : ℕ)
     → IsAttachedWith shape known image → HasArea geometry shape known area
     → ReachesArea geometry shape image area
-has-reaches geometry (KeyedShape part) known image area attached has = has
+has-reaches geometry (KeyedShape part) known image area attached has =
+    subst (λ (areas : List ℕ). Contains areas area) attached.2.areas_are has
 has-reaches geometry (NumberedShape part) known image area attached has =
     subst (λ (areas : List ℕ). Contains areas area) attached.2.chain.areas has
 
 reaches-has : (geometry : Geometry) (shape : Shape) (known : Known) (image : Image) (area : ℕ)
     → IsAttachedWith shape known image → ReachesArea geometry shape image area
     → HasArea geometry shape known area
-reaches-has geometry (KeyedShape part) known image area attached reaches = reaches
+reaches-has geometry (KeyedShape part) known image area attached reaches =
+    subst (λ (areas : List ℕ). Contains areas area) (sym attached.2.areas_are) reaches
 reaches-has geometry (NumberedShape part) known image area attached reaches =
     subst (λ (areas : List ℕ). Contains areas area) (sym attached.2.chain.areas) reaches
 

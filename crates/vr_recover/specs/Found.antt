@@ -237,8 +237,8 @@ pub record IsLaidShown (geometry : Geometry) (images : List BeforeImage) (now : 
 -- what is shown while the parts are attached
 pub data IsMountShown (geometry : Geometry) (images : List BeforeImage) (now : Seen)
     (block rule : ℕ) : Type 0 where
-  AtCatalog : IsRuleShown (keyed_part geometry 0 0 catalog_definition) 0 (area_count geometry)
-      now.cur block rule → IsMountShown geometry images now block rule
+  AtCatalog : IsRuleShown (keyed_part geometry 0 0 catalog_definition) now.cur block rule
+      → IsMountShown geometry images now block rule
   AtImages : Stands (catalog_shape geometry) now.cur → IsOwnBackNo geometry images block rule
       → IsMountShown geometry images now block rule
   Misspelled : IsCatalogShown geometry images now block rule

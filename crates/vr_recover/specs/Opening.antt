@@ -110,8 +110,8 @@ pub record IsEntryShown (geometry : Geometry) (entries : List CatEntry) (now : S
 -- these before-images are put back in it
 pub data IsPartShown (geometry : Geometry) (images : List BeforeImage) (now : Seen)
     (block rule : ℕ) : Type 0 where
-  OfCatalog : IsRuleShown (keyed_part geometry 0 0 catalog_definition) 0 (area_count geometry)
-      now.cur block rule → IsPartShown geometry images now block rule
+  OfCatalog : IsRuleShown (keyed_part geometry 0 0 catalog_definition) now.cur block rule
+      → IsPartShown geometry images now block rule
   OfEntry : (content : Content) → StandsFor (catalog_shape geometry) now.cur content
       → IsEntryShown geometry (entries_in (catalog_by images content)) now block rule
       → IsPartShown geometry images now block rule
@@ -224,8 +224,8 @@ pub record IsHeldBy (geometry : Geometry) (parts : List AnyPart) (part : PartNo)
     pub number : part_no (shape_any one) ≡ part
     pub has : HasArea geometry (shape_any one) (known_any one) area
 
--- Each area that a part has is owned by it, each owned area is one that its part has, and a part of
--- chained areas has as many as it owns.
+-- Each area that a part has is owned by it, each owned area is one that its part has, and a part has
+-- as many as it owns.
 pub record AreOwnersBy (geometry : Geometry) (parts : List AnyPart)
     (owners : List (Option PartNo)) : Type 0 where
   pub count : length owners ≡ area_count geometry

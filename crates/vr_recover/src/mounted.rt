@@ -3,7 +3,7 @@ ghost use Rattle.std.specs.Prelude.{◌≡◌, ◌∷◌, [], All, IsTrue, IfOk,
 ghost use Rattle.std.specs.Prelude.{nat_eq};
 ghost use Rattle.std.specs.List.{IsDistinct};
 ghost use Rattle.vr_types.specs.Blocks.{Keeps};
-ghost use Rattle.vr_types.specs.Geometry.{IsAllowed, area_count, head_block};
+ghost use Rattle.vr_types.specs.Geometry.{IsAllowed, head_block};
 ghost use Rattle.vr_attach.specs.Laid.{AreApart, catalog_shape, shape_in};
 ghost use Rattle.vr_attach.specs.Laid.{keyed_part as part_of};
 ghost use Rattle.vr_catalog.specs.Catalog.{parts_in};
@@ -162,13 +162,12 @@ fn attach_own<B: Blocks>(
     ensures stands { IsTrue B.tells → OnOk result
         (Stands (catalog_shape geometry.now) (B.seen blocks.old).cur) }
     ensures damaged { IsTrue B.tells → IfErr result (ShowsOnly (IsRuleShown
-        (part_of geometry.now 0 0 definition_of_catalog) 0 (area_count geometry.now)
-        (B.seen blocks.old).cur)) }
+        (part_of geometry.now 0 0 definition_of_catalog) (B.seen blocks.old).cur)) }
     ensures keeps { Keeps B.tells (B.seen blocks.old) (B.seen blocks.new) }
     ensures cause { HasOpenCause (B.faults blocks.old) (B.faults blocks.new) result }
 {
     let layout = catalog_layout(geometry);
-    let own = Keyed::attach_layout(alloc, blocks, layout, 0, geometry.areas())?;
+    let own = Keyed::attach_layout(alloc, blocks, layout)?;
     Ok(own)
 }
 
@@ -188,8 +187,7 @@ fn read_records<B: Blocks>(
     ensures records { IsTrue B.tells → IfOk result (λ records.
         AreRecords (catalog_shape geometry.now) (B.seen blocks.old).cur records.items) }
     ensures damaged { IsTrue B.tells → IfErr result (ShowsOnly (IsRuleShown
-        (part_of geometry.now 0 0 definition_of_catalog) 0 (area_count geometry.now)
-        (B.seen blocks.old).cur)) }
+        (part_of geometry.now 0 0 definition_of_catalog) (B.seen blocks.old).cur)) }
     ensures keeps { Keeps B.tells (B.seen blocks.old) (B.seen blocks.new) }
     ensures cause { HasOpenCause (B.faults blocks.old) (B.faults blocks.new) result }
 {

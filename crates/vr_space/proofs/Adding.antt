@@ -1,6 +1,6 @@
 -- What calls of a part add to what its places may hold, one after another, and what a force leaves.
 use Rattle.std.proofs.Common.{◌≡◌, ◌⊎◌, inl, inr, ⊎_elim, ◌<◌, ℕ, Bool, IsTrue, true, false, List}
-use Rattle.std.proofs.Common.{[], Option, Some, None, refl, sym, ap, subst, ◌∙◌, arith, length}
+use Rattle.std.proofs.Common.{[], Option, Some, None, refl, sym, ap, subst, ◌∙◌, length}
 use Rattle.std.proofs.Common.{cond, nat_le}
 use Rattle.vr_types.specs.Content.{Content, Item, item_at}
 use Rattle.vr_types.specs.Geometry.{area_count}
@@ -15,9 +15,14 @@ use Rattle.vr_space.specs.declared.room.Room.{Room}
 use Rattle.vr_space.specs.declared.room.Room.TheVariants.{Ready, NoSpace, Stage}
 use Rattle.vr_space.specs.Room.{Lengths, length_at}
 use Rattle.vr_space.specs.Known.{Known}
-use Rattle.vr_space.specs.Split.{SplitNow, keyed_stage, keyed_fits, room_after, room_by}
-use Rattle.vr_space.specs.Split.{room_by_split, free_interval}
+use Rattle.vr_space.specs.Split.{AreaSplit, area_fits, area_stage, fits_by, free_interval}
+use Rattle.vr_space.specs.Split.{keyed_room_by, room_after, room_by, room_by_split, split_in}
+use Rattle.vr_space.specs.Split.{stage_by, stage_under}
 use Rattle.vr_space.specs.Keyed.{IsKeyedSound, Keyed, KeyedStandsFor, entries_of, low_of}
+use Rattle.vr_space.specs.AreaCalls.{item_here}
+use Rattle.vr_space.specs.Areas.{ChainStaysIn, IsChainSound, IsOwnedArea, KeyedChain, area_for}
+use Rattle.vr_space.specs.Areas.{area_of, content_after, head_of}
+use Rattle.vr_space.specs.Areas.{most_areas}
 use Rattle.vr_space.specs.Owners.{Owners}
 use Rattle.vr_space.specs.Part.{Shape, KeyedShape, NumberedShape, InPart, StandsFor, Stands}
 use Rattle.vr_space.specs.Part.{HasOnly, MayHold, MayAlsoHold, Nothing, AddsTo, IsSound, IsAtRest}
@@ -29,13 +34,15 @@ use Rattle.vr_space.specs.Numbered.{IsFilled, IsNumberedSound, NumberedStaysIn, 
 use Rattle.vr_space.specs.Numbered.{chain_room_by, has_interval, interval_of, items_from}
 use Rattle.vr_space.specs.Numbered.{numbered_fits, start_of}
 use Rattle.vr_space.proofs.Chains.{chain-less}
-use Rattle.vr_space.proofs.Due.{due-fewer, due-firm, way-due}
-use Rattle.vr_space.proofs.PartBlocks.{IsPartBlock, area-owned, holds-less, on-less, rest-stays}
-use Rattle.vr_space.proofs.PartBlocks.{sound-less, stays-keeps, way-within}
+use Rattle.vr_space.proofs.Due.{due-fewer, due-firm}
+use Rattle.vr_space.proofs.LinkedContent.{chain-item}
+use Rattle.vr_space.proofs.Links.{each-after-image, links-each, links-image}
+use Rattle.vr_space.proofs.PartBlocks.{IsPartBlock, area-owned, chain-on-less, holds-less, on-less}
+use Rattle.vr_space.proofs.PartBlocks.{rest-stays, sound-less, stays-keeps, way-within}
 use Rattle.vr_space.proofs.NumberedReads.{numbered-item}
 use Rattle.vr_space.proofs.Ways.{found-may}
 use Rattle.vr_space.proofs.KeyedContent.{area-content}
-use Rattle.vr_space.proofs.KeyedSound.{IsBlock, head-ascends, keyed-image, keyed-within}
+use Rattle.vr_space.proofs.KeyedSound.{IsBlock, head-ascends, head-block}
 
 -- ---- one after another
 
@@ -116,7 +123,7 @@ then-nothing shape owners A a b c first second =
 -- the content of an area has at each place the item that is there
 pub area-item : (part : Keyed) (image : Image) (content : Content)
     → KeyedStandsFor part image content → (place : List ℕ)
-    → item_at content place ≡ item_of (KeyedShape part) image place
+    → item_at content place ≡ item_here part image place
 area-item part image content stands place =
     let top : Block = block_at image part.head in
     ap (λ (c : Content). item_at c place) stands.records
@@ -128,9 +135,35 @@ pub content_item : (shape : Shape) (image : Image) (content : Content)
     → StandsFor shape image content → (place : List ℕ)
     → item_at content place ≡ item_of shape image place
 content_item (KeyedShape part) image content stands place =
-    area-item part image content stands.0 place
+    chain-item part image content stands place
 content_item (NumberedShape part) image content stands place =
     numbered-item part image content stands place
+
+keyed-stand : (part : KeyedChain) (owners : Owners) (now : Seen) → IsChainSound part owners now
+    → (image : Image) → IsImageOn (InPart (KeyedShape part) owners) now.count now.may image
+    → Stands (KeyedShape part) image × ChainStaysIn part owners image
+keyed-stand part owners now sound image left =
+    let each : (area : ℕ) → IsOwnedArea part owners area → (n : ℕ)
+    → IsBlock (area_of part area) now n → now.may n (block_at image n) =
+    λ area own n is. left.each n is.0 (own.owned n is.1) in (
+      (
+        content_after part image most_areas part.first,
+        record {
+          part_is = sound.on.part_is;
+          chain = links-image part (IsOwnedArea part owners) now image (λ area own. own.there) each
+              most_areas part.first None sound.chain;
+          records = refl;
+        },
+      ),
+      each-after-image part
+          (λ area. IsOwnedArea part owners area × IsKeyedSound (area_of part area) now)
+          (IsOwnedArea part owners) now.may image (λ area is. is.0)
+          (λ area is. each area is.0 (head_of part area)
+          (head-block (area_of part area) now is.1))
+          most_areas part.first
+          (links-each part (IsOwnedArea part owners) now most_areas part.first
+          None sound.chain),
+    )
 
 numbered-stand : (part : Numbered) (owners : Owners) (now : Seen) → IsNumberedSound part owners now
     → (image : Image) → IsImageOn (InPart (NumberedShape part) owners) now.count now.may image
@@ -161,8 +194,7 @@ sound-stands : (shape : Shape) (owners : Owners) (now : Seen) → IsSound shape 
     → (image : Image) → IsImageOn (InPart shape owners) now.count now.may image
     → Stands shape image × StaysIn shape owners image
 sound-stands (KeyedShape part) owners now sound image left =
-    let has = keyed-image part now owners sound image left in
-    ((has.content, has.stands), has.within)
+    keyed-stand part owners now sound image left
 sound-stands (NumberedShape part) owners now sound image left =
     numbered-stand part owners now sound image left
 
@@ -231,18 +263,6 @@ module _ (tells : Bool) (told : IsTrue tells) where
             ∙ ap (λ (image : Image). block_at image n) (call.content told),
       )) (same-keeps shape a b call place) due
 
-  -- the same of the places of an area of a keyed part
-  pub area-due-keeps : (part : Keyed) (a b : Seen) → Keeps tells a b → IsKeyedSound part a
-      → DueMore (KeyedShape part) [] a b
-  area-due-keeps part a b call sound listed place due within =
-      way-due (KeyedShape part) (IsBlock part a) listed listed place a b
-      (keyed-within part a sound place)
-      (λ n block is may. (
-        call.adds_none told n block is.0 may.0,
-        λ there. may.1 there
-            ∙ ap (λ (image : Image). block_at image n) (call.content told),
-      )) (same-keeps (KeyedShape part) a b call place) due
-
   -- a force of the blocks that something else might stand in
   pub forced-firm : (shape : Shape) (owners : Owners) (listed place : List ℕ) (a b : Seen)
       → Keeps tells a b
@@ -265,8 +285,8 @@ ready-by : (fits : Bool) (other : Room) → (other ≡ Ready → ⊥) → room_b
 ready-by true other never is = refl
 ready-by false other never is = absurd (never is)
 
-never-ready : (split : Option SplitNow) (free : Option ℕ) → room_by_split split free ≡ Ready → ⊥
-never-ready (Some split) free is = cc
+never-ready : (stage : Option StageKind) (free : Option ℕ) → room_by_split stage free ≡ Ready → ⊥
+never-ready (Some stage) free is = cc
 never-ready None (Some interval) is = cc
 never-ready None None is = cc
 
@@ -280,16 +300,26 @@ chain-ready false false need free is = absurd (by_enough (nat_le need free) is)
     by_enough true is = cc
     by_enough false is = cc
 
+keyed-ready : (part : KeyedChain) (split : Option AreaSplit) (image : Image) (kept : Lengths)
+    (place : List ℕ) (n : ℕ) (found : Option ℕ)
+    → keyed_room_by part split image kept place n found ≡ Ready
+    → (stage_by part split image place found ≡ None)
+    × IsTrue (fits_by part image kept place n found)
+keyed-ready part split image kept place n None is = absurd cc
+keyed-ready part split image kept place n (Some area) is =
+    let one = area_of part area in
+    let both = ready-after (area_stage one (split_in split area) image place) _ is in (
+      both.0,
+      ready-by (area_fits one image kept place n) _
+          (never-ready (stage_under split) (free_interval one (block_at image one.head))) both.1,
+    )
+
 -- a record that room is ready for may be set
 pub ready-can : (shape : Shape) (known : Known) (image : Image) (free : ℕ)
     (kept : Lengths) (place : List ℕ) (n : ℕ) → room_of shape known image free kept place n ≡ Ready
     → (stage_of shape known image place ≡ None) × IsTrue (fits_at shape known image kept place n)
 ready-can (KeyedShape part) known image free kept place n is =
-    let both = ready-after (keyed_stage part known.split image place) _ is in (
-      both.0,
-      ready-by (keyed_fits part image kept place n) _
-          (never-ready known.split (free_interval part (block_at image part.head))) both.1,
-    )
+    keyed-ready part known.split image kept place n (area_for part image place) is
 ready-can (NumberedShape part) known image free kept place n is = (
   refl,
   chain-ready (numbered_fits part known.tail image place n) (has_interval part image place)
@@ -309,6 +339,14 @@ no-stage-after : (stage : Option StageKind) (other : Room) (need left : ℕ)
 no-stage-after None other need left is = refl
 no-stage-after (Some stage) other need left is = absurd cc
 
+keyed-full : (part : KeyedChain) (split : Option AreaSplit) (image : Image) (kept : Lengths)
+    (place : List ℕ) (n : ℕ) (found : Option ℕ) (need left : ℕ)
+    → keyed_room_by part split image kept place n found ≡ NoSpace need left
+    → stage_by part split image place found ≡ None
+keyed-full part split image kept place n None need left is = refl
+keyed-full part split image kept place n (Some area) need left is =
+    no-stage-after (area_stage (area_of part area) (split_in split area) image place) _ need left is
+
 -- Where room is ready, or there is no space, no stage comes before the place.
 pub room-no-stage : (shape : Shape) (known : Known) (image : Image) (free : ℕ)
     (kept : Lengths) (place : List ℕ) (n need left : ℕ)
@@ -317,7 +355,8 @@ pub room-no-stage : (shape : Shape) (known : Known) (image : Image) (free : ℕ)
     → stage_of shape known image place ≡ None
 room-no-stage (KeyedShape part) known image free kept place n need left = ⊎_elim
     (λ ready. (ready-can (KeyedShape part) known image free kept place n ready).0)
-    (λ full. no-stage-after (keyed_stage part known.split image place) _ need left full)
+    (λ full. keyed-full part known.split image kept place n (area_for part image place) need left
+    full)
 room-no-stage (NumberedShape part) known image free kept place n need left = λ either. refl
 
 -- a record may be taken away there
@@ -354,7 +393,7 @@ sets-after shape at bytes a b c first second = record {
 
 pub on-still : (shape : Shape) (a b : Seen) → IsOn shape a
     → b.count ≡ a.count → b.size ≡ a.size → IsOn shape b
-on-still (KeyedShape part) a b on count size = (omega (arith, on.0, count), size ∙ on.1)
+on-still (KeyedShape part) a b on count size = chain-on-less part a b count size on
 on-still (NumberedShape part) a b on count size = on-less part a b count size on
 
 pub record-length : (shape : Shape) (place bytes : List ℕ)

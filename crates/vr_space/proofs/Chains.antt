@@ -16,7 +16,7 @@ use Rattle.vr_space.specs.Way.{Found, IsWithin, Way}
 -- ---- blocks of an area
 
 -- an area of the volume ends before the volume does
-area-ends : (blocks log long area : ℕ) → area < (blocks - 1 - log) / (long + 1)
+pub area-ends : (blocks log long area : ℕ) → area < (blocks - 1 - log) / (long + 1)
     → 1 + log + area * (long + 1) + long < blocks
 area-ends blocks log long area below = omega (
   arith,

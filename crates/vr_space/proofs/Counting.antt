@@ -1,22 +1,30 @@
 -- A record that stands where it is kept is counted once.
 use Rattle.std.proofs.Common.{◌≡◌, ◌≤◌, ℕ, Bool, true, false, List, [], ◌∷◌, Option, Some, None}
 use Rattle.std.proofs.Common.{refl, sym, ap, ◌∙◌, length, map, true≢false}
-use Rattle.std.specs.Prelude.{IfSome, cond}
+use Rattle.std.specs.Prelude.{Contains, IfSome, cond}
 use Rattle.std.specs.Ordering.{is_le}
 use Rattle.vr_types.specs.Content.{place_cmp}
+use Rattle.vr_types.specs.Geometry.{area_count}
 use Rattle.vr_types.specs.Image.{Block, Image, block_at}
 use Rattle.vr_seqset.specs.Entry.{Entry}
 use Rattle.vr_space.specs.Way.{found_on}
 use Rattle.vr_space.specs.Known.{Known}
 use Rattle.vr_types.specs.Content.Item.{Standing}
-use Rattle.vr_space.specs.Keyed.{HoldRanges, HoldsRange, Keyed, entries_of, entry_above}
+use Rattle.vr_space.specs.AreaCalls.{item_here}
+use Rattle.vr_space.specs.Areas.{KeyedChain, area_for, area_of, areas_in, head_in}
+use Rattle.vr_space.specs.Areas.{most_areas}
+use Rattle.vr_space.specs.Keyed.{HoldRanges, HoldsRange, IsHead, Keyed, entries_of, entry_above}
 use Rattle.vr_space.specs.Keyed.{entry_block, entry_for, entry_in, items_of, length_of}
 use Rattle.vr_space.specs.Keyed.{lengths_of, low_of, range_of, records_in, way_in}
 use Rattle.vr_space.specs.Part.{KeyedShape, NumberedShape, Shape, Stands, fits_at, item_of, room_of}
 use Rattle.vr_space.specs.Room.{Lengths, Range, have_room, is_above, is_in, with_length}
 use Rattle.vr_space.specs.Room.{with_lengths}
-use Rattle.vr_space.specs.Split.{fits_in, free_interval, keyed_stage, room_after, room_by}
-use Rattle.vr_space.specs.Split.{room_by_split}
+use Rattle.vr_space.specs.Split.{AreaSplit, area_fits, area_stage, fits_by, fits_in, free_interval}
+use Rattle.vr_space.specs.Split.{keyed_room_by, room_after, room_by, room_by_split, split_in}
+use Rattle.vr_space.specs.Split.{stage_under}
+use Rattle.vr_space.proofs.AreaEnds.{found-between}
+use Rattle.vr_space.proofs.LinkedContent.{IsLinkedArea, area-found, area-reached, found-area}
+use Rattle.vr_space.proofs.LinkedContent.{item_by, links-in-area}
 use Rattle.vr_space.proofs.Keeping.{HasLonger, holds-read, kept-out, kept-stands}
 use Rattle.vr_space.proofs.KeyedContent.{AscendFrom, leads-above}
 use Rattle.vr_space.proofs.KeyedSound.{head-ascends}
@@ -153,6 +161,77 @@ module _ (part : Keyed) (kept : Lengths) (place : List ℕ) (n : ℕ) (image : I
     fits-once m (Some found) counts =
         ap (λ (lengths : Lengths). have_room part.size (with_length lengths other m)) counts
 
+-- the same of an area, where the record stands if its place is one of its own
+pub area-fits-once : (part : Keyed) (image : Image) (kept : Lengths) (place bytes : List ℕ) (n : ℕ)
+    → IsHead part (block_at image part.head)
+    → HoldRanges part image (low_of (block_at image part.head))
+    (entries_of (block_at image part.head))
+    → ((at : Range × Entry) → entry_in (block_at image part.head) place ≡ Some at
+    → item_here part image place ≡ Some (Standing bytes))
+    → n ≤ length bytes → (other : List ℕ) (m : ℕ)
+    → area_fits part image (with_length kept place n) other m ≡ area_fits part image kept other m
+area-fits-once part image kept place bytes n head holds stands most other m =
+    let top : Block = block_at image part.head in
+    fits-once part kept place n image other m (entry_in top other)
+    (once-any part kept place n image other (low_of top) (entries_of top)
+    (head-ascends part top head) holds
+    (λ at leads. (
+      bytes,
+      sym (ap (λ (o : Option (Range × Entry)). found_on image (way_in part place o)) leads)
+          ∙ stands at leads,
+      most,
+    )))
+
+module _ (part : KeyedChain) (image : Image) (kept : Lengths) (place bytes : List ℕ) (n : ℕ)
+    (stands : Stands (KeyedShape part) image)
+    (is : item_of (KeyedShape part) image place ≡ Some (Standing bytes)) (most : n ≤ length bytes)
+  where
+    abbrev count : ℕ
+    count = most_areas
+
+    -- the place comes to the area where an entry of its head has it
+    here : (area : ℕ) → Contains (areas_in part image) area → (at : Range × Entry)
+        → entry_in (head_in part image area) place ≡ Some at
+        → item_here (area_of part area) image place ≡ Some (Standing bytes)
+    here area inside at leads =
+        let linked : IsLinkedArea part image area =
+        links-in-area part image count part.first None stands.1.chain area inside in
+        let between = found-between (area_of part area) (head_in part image area)
+        linked.stands.head place at leads in
+        sym (ap (item_by part image place) (area-reached part image place count part.first None
+        stands.1.chain area inside between.0 between.1))
+        ∙ sym (found-area part image place count part.first) ∙ is
+
+    by_area : (other : List ℕ) (m area : ℕ) → area_for part image other ≡ Some area
+        → area_fits (area_of part area) image (with_length kept place n) other m
+        ≡ area_fits (area_of part area) image kept other m
+    by_area other m area found =
+        let inside : Contains (areas_in part image) area =
+        (area-found part image other count part.first None stands.1.chain refl area found).inside in
+        let linked : IsLinkedArea part image area =
+        links-in-area part image count part.first None stands.1.chain area inside in
+        area-fits-once (area_of part area) image kept place bytes n linked.stands.head
+        linked.stands.intervals (here area inside) most other m
+
+    keyed-fits-once : (other : List ℕ) (m : ℕ) (found : Option ℕ)
+        → area_for part image other ≡ found
+        → fits_by part image (with_length kept place n) other m found
+        ≡ fits_by part image kept other m found
+    keyed-fits-once other m None found = refl
+    keyed-fits-once other m (Some area) found = by_area other m area found
+
+    keyed-room-once : (split : Option AreaSplit) (other : List ℕ) (m : ℕ) (found : Option ℕ)
+        → area_for part image other ≡ found
+        → keyed_room_by part split image (with_length kept place n) other m found
+        ≡ keyed_room_by part split image kept other m found
+    keyed-room-once split other m None found = refl
+    keyed-room-once split other m (Some area) found =
+        let one = area_of part area in
+        ap (λ (fits : Bool). room_after (area_stage one (split_in split area) image other)
+        (room_by fits (room_by_split (stage_under split)
+        (free_interval one (block_at image one.head)))))
+        (by_area other m area found)
+
 -- ---- the law
 
 -- A record that is kept and stands takes no room beside what stands.
@@ -162,15 +241,8 @@ pub kept_fits : (shape : Shape) (image : Image) (kept : Lengths) (place bytes : 
     → fits_at shape known image (with_length kept place n) other m
     ≡ fits_at shape known image kept other m
 kept_fits (KeyedShape part) image kept place bytes n stands is most known other m =
-    let top : Block = block_at image part.head in
-    fits-once part kept place n image other m (entry_in top other)
-    (once-any part kept place n image other (low_of top) (entries_of top)
-    (head-ascends part top stands.1.0.head) stands.1.0.intervals
-    (λ at leads. (
-      bytes,
-      sym (ap (λ (o : Option (Range × Entry)). found_on image (way_in part place o)) leads) ∙ is,
-      most,
-    )))
+    keyed-fits-once part image kept place bytes n stands is most other m
+    (area_for part image other) refl
 kept_fits (NumberedShape part) image kept place bytes n stands is most known other m = refl
 
 -- It stands in the way of no other record.
@@ -180,7 +252,6 @@ pub kept_room : (shape : Shape) (image : Image) (kept : Lengths) (place bytes : 
     → room_of shape known image free (with_length kept place n) other m
     ≡ room_of shape known image free kept other m
 kept_room (KeyedShape part) image kept place bytes n stands is most known free other m =
-    ap (λ (fits : Bool). room_after (keyed_stage part known.split image other) (room_by fits
-    (room_by_split known.split (free_interval part (block_at image part.head)))))
-    (kept_fits (KeyedShape part) image kept place bytes n stands is most known other m)
+    keyed-room-once part image kept place bytes n stands is most known.split other m
+    (area_for part image other) refl
 kept_room (NumberedShape part) image kept place bytes n stands is most known free other m = refl

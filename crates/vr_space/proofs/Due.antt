@@ -7,25 +7,37 @@ use Rattle.vr_types.specs.Seen.{Left, Seen}
 use Rattle.vr_space.specs.Owners.{Owners}
 use Rattle.vr_space.specs.Part.{DueMore, DueMoreAt, IsDueTo, IsFirm, IsSound, MayHold}
 use Rattle.vr_space.specs.Part.{SameRecords, Shape, item_of, way_to}
-use Rattle.vr_space.specs.Way.{IsWithin, MayOnceForced}
+use Rattle.vr_space.specs.Way.{IsWithin, MayFind, MayOnceForced, Way, found_on}
 use Rattle.vr_space.proofs.PartBlocks.{IsPartBlock, StaysPart, holds-less, way-within}
 use Rattle.vr_space.proofs.Ways.{find-more, found-same, within-less}
 
 -- ---- where less is left
 
--- What is due to some blocks is due to others by which a crash leaves no more of those of the way.
+-- What is due to some blocks on a way is due to others by which a crash leaves no more of those
+-- that it reads.
+pub on-way-due : (region : ℕ → Type 0) (listed left : List ℕ) (way : Way) (a b : Seen)
+    → IsWithin region a.may way
+    → ((n : ℕ) (block : Block) → region n → MayOnceForced left b n block
+    → MayOnceForced listed a n block)
+    → found_on b.cur way ≡ found_on a.cur way
+    → ((item : Option Item) → MayFind (MayOnceForced listed a) item way
+    → item ≡ found_on a.cur way)
+    → (item : Option Item) → MayFind (MayOnceForced left b) item way → item ≡ found_on b.cur way
+on-way-due region listed left way a b within less same due item holds = due item
+    (find-more region (MayOnceForced left b) (MayOnceForced listed a) item less way
+    (within-less region (MayOnceForced left b) a.may (λ n block is may. (less n block is may).0)
+    way within) holds)
+    ∙ sym same
+
+-- So it is of the way to a place.
 pub way-due : (shape : Shape) (region : ℕ → Type 0) (listed left place : List ℕ) (a b : Seen)
     → IsWithin region a.may (way_to shape place)
     → ((n : ℕ) (block : Block) → region n → MayOnceForced left b n block
     → MayOnceForced listed a n block)
     → item_of shape b.cur place ≡ item_of shape a.cur place
     → IsDueTo shape listed a place → IsDueTo shape left b place
-way-due shape region listed left place a b within less same due item holds = due item
-    (find-more region (MayOnceForced left b) (MayOnceForced listed a) item less
-    (way_to shape place)
-    (within-less region (MayOnceForced left b) a.may (λ n block is may. (less n block is may).0)
-    (way_to shape place) within) holds)
-    ∙ sym same
+way-due shape region listed left place a b =
+    on-way-due region listed left (way_to shape place) a b
 
 module _ (shape : Shape) (owners : Owners) (a : Seen) (sound : IsSound shape owners a) where
   -- what may be found where less is allowed than what is due to some blocks, was due to them

@@ -10,17 +10,23 @@ use Rattle.std.proofs.lemmas.List.Elements.{All-contains, All-from_recursion, Al
 use Rattle.std.proofs.lemmas.List.Elements.{recursion_from_All}
 use Rattle.std.proofs.lemmas.Map.Keys.{sorted_head, sorted_tail}
 use Rattle.vr_types.specs.Content.{Placed}
+use Rattle.vr_types.specs.Geometry.{area_count}
 use Rattle.vr_types.specs.Image.{Block}
 use Rattle.vr_types.specs.Seen.{Seen}
 use Rattle.vr_ci.specs.Interval as ci
 use Rattle.vr_seqset.specs.Entry.{Entry}
-use Rattle.vr_space.specs.Keyed.{EachMayLeave, HoldsRange, Keyed, entries_of, items_of, key_of}
+use Rattle.vr_space.specs.Areas.{area_of}
+use Rattle.vr_space.specs.Areas.{most_areas}
+use Rattle.vr_space.specs.Keyed.{EachMayLeave, HoldsRange, IsKeyedSound, KeepsRoom, Keyed}
+use Rattle.vr_space.specs.Keyed.{entries_of, items_of, key_of}
 use Rattle.vr_space.specs.Keyed.{length_of, lengths_of, low_of, placed, range_of, records_in}
 use Rattle.vr_space.specs.Owners.{Owners}
 use Rattle.vr_space.specs.Part.{HasKeptRoom, IsSound, KeyedShape, NumberedShape, Shape}
 use Rattle.vr_space.specs.Numbered.{HasKeptPlace, KeepsNumbered}
 use Rattle.vr_space.specs.Rosters.{Numbered}
+use Rattle.vr_space.proofs.Links.{each-after-less}
 use Rattle.vr_space.proofs.NumberedRooms.{any-length}
+use Rattle.vr_space.proofs.Rooms.{IsRoomyArea, roomy-each}
 use Rattle.vr_space.specs.Room.{HaveRoom}
 use Rattle.std.specs.Ordering.{ordering_reverse}
 use Rattle.std.specs.declared.cmp.Ordering.{Ordering}
@@ -365,15 +371,24 @@ numbered-fewer part may fewer kept false is less among room =
     All-weaker (Contains kept) (HasKeptPlace part may)
     (λ entry there. All-contains (HasKeptPlace part may) kept entry room there) fewer among
 
--- Where less is kept there is room too.
-pub fewer-room : (shape : Shape) (owners : Owners) (fewer kept : Lengths) (now : Seen)
-    → Under fewer kept → MayKeepLess shape fewer kept
-    → IsSound shape owners now → HasKeptRoom shape kept now → HasKeptRoom shape fewer now
-fewer-room (KeyedShape part) owners fewer kept now less among (sound, whole, owned) room = record {
+-- an area has room where less is kept
+pub area-fewer : (part : Keyed) (fewer kept : Lengths) (now : Seen) → Under fewer kept
+    → IsKeyedSound part now → KeepsRoom part kept now → KeepsRoom part fewer now
+area-fewer part fewer kept now less sound room = record {
   places = places-fewer (λ (entry : List ℕ × ℕ). length entry.0 ≡ part.key)
       (λ first entry same is. ap length same ∙ is) fewer kept less room.places;
   each = λ top may. each-fewer part fewer kept now (low_of top) (entries_of top) less
       (sound.intervals top may) (room.each top may);
 }
+
+-- Where less is kept there is room too.
+pub fewer-room : (shape : Shape) (owners : Owners) (fewer kept : Lengths) (now : Seen)
+    → Under fewer kept → MayKeepLess shape fewer kept
+    → IsSound shape owners now → HasKeptRoom shape kept now → HasKeptRoom shape fewer now
+fewer-room (KeyedShape part) owners fewer kept now less among sound room = each-after-less part
+    (IsRoomyArea part owners kept now) (λ area. KeepsRoom (area_of part area) fewer now) now.may
+    now.may (λ area is. area-fewer (area_of part area) fewer kept now less is.0.1 is.1)
+    (λ area is top may. may) most_areas part.first
+    (roomy-each part owners kept now sound room)
 fewer-room (NumberedShape part) owners fewer kept now less among sound room =
     numbered-fewer part now.may fewer kept part.relative refl less among room

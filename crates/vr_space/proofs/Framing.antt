@@ -1,24 +1,37 @@
 -- What a part keeps while others put: what rests on its own blocks alone.
 use Rattle.std.proofs.Common.{◌≡◌, ⊎_elim, inl, inr, ◌<◌, ℕ, Bool, IsTrue, List, Option, Some}
 use Rattle.std.proofs.Common.{None, refl, sym, ap, subst, ◌∙◌, arith, length}
+use Rattle.std.specs.Prelude.{Contains}
 use Rattle.std.proofs.lemmas.List.Elements.{All-weaker}
 use Rattle.vr_types.specs.Blocks.{Keeps, Puts}
 use Rattle.vr_types.specs.Image.{Block, block_at}
 use Rattle.vr_types.specs.Seen.{Left, Seen}
 use Rattle.vr_types.specs.declared.unit.PartNo.{PartNo}
+use Rattle.vr_types.specs.Geometry.{area_count}
 use Rattle.vr_seqset.specs.Entry.{Entry}
-use Rattle.vr_space.specs.Keyed.{InArea, IsHead, IsOwned, Keyed, entry_block, entry_in}
+use Rattle.vr_space.specs.Areas.{EachAfter, IsChainSound, IsOwnedArea, KeyedChain, area_for, area_of}
+use Rattle.vr_space.specs.Areas.{areas_in, head_in, head_of}
+use Rattle.vr_space.specs.Areas.{most_areas}
+use Rattle.vr_space.specs.Keyed.{HasEnds, InArea, IsHead, IsKeyedSound, Keyed, entry_block, entry_in}
 use Rattle.vr_space.specs.Known.{Known}
-use Rattle.vr_space.specs.Met.{IsMet}
+use Rattle.vr_space.specs.Met.{IsChainMet, Met}
 use Rattle.vr_space.specs.Owners.{Owners}
 use Rattle.vr_space.specs.Part.{AreMet, CanSet, HasKeptRoom, HasRoomFor, InPart, IsSound}
 use Rattle.vr_space.specs.Part.{IsUnderWay, KeyedShape, Knows, MayGrow, NumberedShape, Shape}
 use Rattle.vr_space.specs.Part.{fits_at, part_no}
 use Rattle.vr_space.specs.Room.{Lengths, Range}
-use Rattle.vr_space.specs.Split.{fits_in, keyed_fits, stage_in}
+use Rattle.vr_space.specs.Rosters.{IsOf}
+use Rattle.vr_space.specs.Split.{AreaSplit, area_fits, fits_by, fits_in, keyed_fits, keyed_stage}
+use Rattle.vr_space.specs.Split.{split_in, stage_by, stage_in}
+use Rattle.vr_space.specs.UnderWay.{KeyedUnderWay}
+use Rattle.vr_space.proofs.Ends.{same-ends}
+use Rattle.vr_space.proofs.LinkedContent.{area-found}
+use Rattle.vr_space.proofs.Links.{area-each, each-after-image, each-after-less, links-each}
+use Rattle.vr_space.proofs.Links.{links-image}
+use Rattle.vr_space.proofs.NumberedKnown.{numbered-fits-same, numbered-known}
 use Rattle.vr_space.proofs.PartBlocks.{StaysPart, stays-keeps, stays-puts}
 use Rattle.vr_space.proofs.Rooms.{room-less}
-use Rattle.vr_space.proofs.NumberedKnown.{numbered-fits-same, numbered-known}
+use Rattle.vr_space.proofs.SameEnds.{HasSameEnds, area-kept, areas-kept, knows-kept}
 use Rattle.vr_space.proofs.UnderWay.{found-in, met-stays, way-stays}
 
 -- the blocks of a keyed part's area do
@@ -28,14 +41,96 @@ record StaysArea (part : Keyed) (a b : Seen) : Type 0 where
   same : (n : ℕ) → InArea part n → block_at b.cur n ≡ block_at a.cur n
   fewer : (n : ℕ) (block : Block) → n < a.count → InArea part n → b.may n block → a.may n block
 
-area-stays : (part : Keyed) (owners : Owners) (a b : Seen) → IsOwned part owners
-    → StaysPart (KeyedShape part) owners a b → StaysArea part a b
-area-stays part owners a b owned stays = record {
+area-stays : (part : KeyedChain) (owners : Owners) (a b : Seen) (area : ℕ)
+    → IsOwnedArea part owners area → StaysPart (KeyedShape part) owners a b
+    → StaysArea (area_of part area) a b
+area-stays part owners a b area own stays = record {
   count = stays.count;
   size = stays.size;
-  same = λ n inside. stays.same n (owned n inside);
-  fewer = λ n block below inside. stays.fewer n block below (owned n inside);
+  same = λ n inside. stays.same n (own.owned n inside);
+  fewer = λ n block below inside. stays.fewer n block below (own.owned n inside);
 }
+
+-- an area of the part's own is in order, and as it was
+record IsStill (part : KeyedChain) (a b : Seen) (area : ℕ) : Type 0 where
+  sound : IsKeyedSound (area_of part area) a
+  stays : StaysArea (area_of part area) a b
+  head : IsHead (area_of part area) (head_in part a.cur area)
+  same : head_in part b.cur area ≡ head_in part a.cur area
+
+module _ (part : KeyedChain) (owners : Owners) (a b : Seen)
+    (stays : StaysPart (KeyedShape part) owners a b) (chain : IsChainSound part owners a)
+    (left : Left a a.cur) where
+  each-still : EachAfter part (IsStill part a b) (IsOf a.cur) most_areas part.first
+  each-still = each-after-image part
+      (λ area. IsOwnedArea part owners area × IsKeyedSound (area_of part area) a)
+      (IsStill part a b) a.may a.cur
+      (λ area is. record {
+        sound = is.1;
+        stays = area-stays part owners a b area is.0 stays;
+        head = is.1.heads (head_in part a.cur area) (top-may area is.1);
+        same = stays.same (head_of part area)
+            (is.0.owned (head_of part area) (omega arith, omega arith));
+      })
+      (λ area is. top-may area is.1) most_areas part.first
+      (links-each part (IsOwnedArea part owners) a most_areas part.first None
+      chain.chain)
+    where
+      top-may : (area : ℕ) → IsKeyedSound (area_of part area) a
+          → a.may (head_of part area) (head_in part a.cur area)
+      top-may area sound = left.each (head_of part area) (omega (arith, sound.area))
+
+  each-same : EachAfter part (HasSameEnds part a.cur b.cur) (IsOf a.cur)
+      most_areas part.first
+  each-same = each-after-less part (IsStill part a b) (HasSameEnds part a.cur b.cur) (IsOf a.cur)
+      (IsOf a.cur)
+      (λ area is. subst (HasEnds (head_in part a.cur area)) (sym is.same)
+      (same-ends (head_in part a.cur area)))
+      (λ area is top same. same) most_areas part.first each-still
+
+  -- so the chain has the areas that it had,
+  areas-stay : areas_in part b.cur ≡ areas_in part a.cur
+  areas-stay = areas-kept part a.cur b.cur most_areas part.first each-same
+
+  -- a place comes to the same one,
+  area-stay : (place : List ℕ) → area_for part b.cur place ≡ area_for part a.cur place
+  area-stay place = area-kept part a.cur b.cur place most_areas part.first each-same
+
+  -- and each is as it was.
+  area-still : (area : ℕ) → Contains (areas_in part a.cur) area → IsStill part a b area
+  area-still area = area-each part (IsStill part a b) a.cur most_areas part.first
+      area each-still
+
+  found-still : (place : List ℕ) (area : ℕ) → area_for part a.cur place ≡ Some area
+      → IsStill part a b area
+  found-still place area found = area-still area
+      (area-found part a.cur place most_areas part.first None
+      (links-image part (IsOwnedArea part owners) a a.cur (λ at own. own.there)
+      (λ at own n is. left.each n is.0) most_areas part.first None chain.chain)
+      refl area found).inside
+
+  chain-under : (split : Option AreaSplit) → KeyedUnderWay part split a
+      → KeyedUnderWay part split b
+  chain-under None way = tt
+  chain-under (Some split) way =
+      let still : IsStill part a b split.area = area-still split.area way.0 in (
+        subst (λ (areas : List ℕ). Contains areas split.area) (sym areas-stay) way.0,
+        way-stays (area_of part split.area) (Some split.split) a b still.sound left
+            (λ now some n block named. record {
+              cur = still.stays.same n block.1;
+              less = λ bytes may. still.stays.fewer n bytes block.0 block.1 may;
+            }) way.1,
+      )
+
+  chain-met : (one : Met) → IsChainMet part a.cur one → IsChainMet part b.cur one
+  chain-met one is =
+      let still : IsStill part a b is.area = found-still one.place is.area is.there in
+      record {
+        area = is.area;
+        there = area-stay one.place ∙ is.there;
+        is_met = met-stays (area_of part is.area) a.cur b.cur one still.head still.same
+            (λ inside. still.stays.same one.number inside) is.is_met;
+      }
 
 module _ (a b : Seen) where
   pub room-stays : (shape : Shape) (owners : Owners) (kept : Lengths)
@@ -47,25 +142,19 @@ module _ (a b : Seen) where
   -- a split under way stays so,
   under-stays : (shape : Shape) (owners : Owners) (known : Known) → StaysPart shape owners a b
       → IsSound shape owners a → Left a a.cur → IsUnderWay shape known a → IsUnderWay shape known b
-  under-stays (KeyedShape part) owners known part-stays (sound, whole, owned) left way =
-      let stays = area-stays part owners a b owned part-stays in
-      way-stays part known.split a b sound left
-      (λ now some n block named. record {
-        cur = stays.same n block.1;
-        less = λ bytes may. stays.fewer n bytes block.0 block.1 may;
-      }) way
+  under-stays (KeyedShape part) owners known stays sound left way =
+      chain-under part owners a b stays sound left known.split way
   under-stays (NumberedShape part) owners known stays sound left way = tt
 
   -- the blocks that were met as they were,
   met-known : (shape : Shape) (owners : Owners) (known : Known) → StaysPart shape owners a b
       → IsSound shape owners a → Left a a.cur → AreMet shape known a.cur → AreMet shape known b.cur
-  met-known (KeyedShape part) owners known part-stays (sound, whole, owned) left met =
-      let stays = area-stays part owners a b owned part-stays in
-      All-weaker (IsMet part a.cur) (IsMet part b.cur)
-      (λ one is. met-stays part a.cur b.cur one
-      (sound.heads _ (left.each part.head (omega (arith, sound.area))))
-      (stays.same part.head (omega arith, omega arith))
-      (λ inside. stays.same one.number inside) is) known.met met
+  met-known (KeyedShape part) owners known stays sound left met = (
+    knows-kept part a.cur b.cur known.areas known.ends
+        (each-same part owners a b stays sound left) met.0,
+    All-weaker (IsChainMet part a.cur) (IsChainMet part b.cur)
+        (chain-met part owners a b stays sound left) known.met met.1,
+  )
   met-known (NumberedShape part) owners known stays sound left met =
       numbered-known part owners a b stays sound left known met
 
@@ -92,7 +181,7 @@ module _ (a b : Seen) where
 
   fits-same : (part : Keyed) (kept : Lengths) (place : List ℕ) (n : ℕ)
       → StaysArea part a b → IsHead part (block_at a.cur part.head)
-      → keyed_fits part b.cur kept place n ≡ keyed_fits part a.cur kept place n
+      → area_fits part b.cur kept place n ≡ area_fits part a.cur kept place n
   fits-same part kept place n stays head =
       ap (λ (top : Block). fits_in part b.cur kept place n (entry_in top place))
       (stays.same part.head (omega arith, omega arith))
@@ -100,6 +189,35 @@ module _ (a b : Seen) where
       (entry_in (block_at a.cur part.head) place)
       (λ at is. let below = found-in part (block_at a.cur part.head) place at head is in
       (omega arith, omega (arith, below)))
+
+  chain-fits-same : (part : KeyedChain) (owners : Owners)
+      → StaysPart (KeyedShape part) owners a b → IsChainSound part owners a → Left a a.cur
+      → (kept : Lengths) (place : List ℕ) (n : ℕ)
+      → keyed_fits part b.cur kept place n ≡ keyed_fits part a.cur kept place n
+  chain-fits-same part owners stays sound left kept place n =
+      ap (fits_by part b.cur kept place n) (area-stay part owners a b stays sound left place)
+      ∙ by_area (area_for part a.cur place) refl
+    where
+      by_area : (found : Option ℕ) → area_for part a.cur place ≡ found
+          → fits_by part b.cur kept place n found ≡ fits_by part a.cur kept place n found
+      by_area None is = refl
+      by_area (Some area) is =
+          let still = found-still part owners a b stays sound left place area is in
+          fits-same (area_of part area) kept place n still.stays still.head
+
+  chain-stage-same : (part : KeyedChain) (owners : Owners)
+      → StaysPart (KeyedShape part) owners a b → IsChainSound part owners a → Left a a.cur
+      → (split : Option AreaSplit) (place : List ℕ)
+      → keyed_stage part split b.cur place ≡ keyed_stage part split a.cur place
+  chain-stage-same part owners stays sound left split place =
+      ap (stage_by part split b.cur place) (area-stay part owners a b stays sound left place)
+      ∙ by_area (area_for part a.cur place) refl
+    where
+      by_area : (found : Option ℕ) → area_for part a.cur place ≡ found
+          → stage_by part split b.cur place found ≡ stage_by part split a.cur place found
+      by_area None is = refl
+      by_area (Some area) is = ap (λ (top : Block). stage_in (split_in split area)
+          (entry_in top place)) (found-still part owners a b stays sound left place area is).same
 
   -- what fits in the same way has room
   room-for : (shape : Shape) (known : Known) (kept : Lengths) (place : List ℕ)
@@ -117,16 +235,11 @@ module _ (a b : Seen) where
       (item : Option (List ℕ)) → StaysPart shape owners a b
       → IsSound shape owners a → Left a a.cur → CanSet shape known a.cur kept place item
       → CanSet shape known b.cur kept place item
-  can-stays (KeyedShape part) owners known kept place item part-stays (sound, whole, owned) left
-      can =
-      let stays = area-stays part owners a b owned part-stays in record {
-        no_stage = ap
-            (λ (top : Block). stage_in known.split (entry_in top place))
-            (stays.same part.head (omega arith, omega arith)) ∙ can.no_stage;
-        room = room-for (KeyedShape part) known kept place item
-            (λ n. fits-same part kept place n stays
-            (sound.heads _ (left.each part.head (omega (arith, sound.area))))) can.room;
-      }
+  can-stays (KeyedShape part) owners known kept place item stays sound left can = record {
+    no_stage = chain-stage-same part owners stays sound left known.split place ∙ can.no_stage;
+    room = room-for (KeyedShape part) known kept place item
+        (λ n. chain-fits-same part owners stays sound left kept place n) can.room;
+  }
   can-stays (NumberedShape part) owners known kept place item stays sound left can = record {
     no_stage = refl;
     room = room-for (NumberedShape part) known kept place item
@@ -168,8 +281,8 @@ one-owner here there owners n is also = some-same (sym is ∙ also)
     some-same : {one other : ℕ} → Some one ≡ Some other → one ≡ other
     some-same same = cc
 
--- a keyed part of one area claims none
-pub grows-none : (part : Keyed) (areas : List (Option PartNo)) (owners : Owners)
+-- a keyed part claims none
+pub grows-none : (part : KeyedChain) (areas : List (Option PartNo)) (owners : Owners)
     → MayGrow (KeyedShape part) areas owners owners
 grows-none part areas owners =
     record {

@@ -1,10 +1,10 @@
 -- Which stages come before a record: of a keyed part those of a split of one interval, which take
 -- no area, of the others the one that makes their chain longer.
 use Rattle.std.proofs.Common.{◌≡◌, ◌≤◌, ◌⊎◌, inl, inr, ⊎_elim, ℕ, Bool, true, false, List, Option}
-use Rattle.std.proofs.Common.{Some, None, refl, subst, if◌then◌else◌, ◌||◌, nat_eq, nat_le}
+use Rattle.std.proofs.Common.{Some, None, ap, refl, subst, ◌∙◌, if◌then◌else◌, ◌||◌, nat_eq, nat_le}
 use Rattle.std.specs.Prelude.{slice_index}
 use Rattle.std.proofs.lemmas.Bool.{leb-true}
-use Rattle.vr_types.specs.Image.{Image, block_at}
+use Rattle.vr_types.specs.Image.{Image}
 use Rattle.vr_types.specs.Seen.{Seen}
 use Rattle.vr_types.specs.declared.unit.PartNo.{PartNo}
 use Rattle.vr_types.specs.declared.unit.StageKind.{StageKind}
@@ -20,8 +20,10 @@ use Rattle.vr_space.specs.Known.{Known}
 use Rattle.vr_space.specs.Numbered.{areas_short, chain_room_by, has_interval, interval_of}
 use Rattle.vr_space.specs.Numbered.{numbered_fits}
 use Rattle.vr_space.specs.Rosters.{Numbered}
-use Rattle.vr_space.specs.Split.{IsIntervalStage, SplitNow, free_interval, keyed_fits, room_after}
-use Rattle.vr_space.specs.Split.{room_by, room_by_split, stage_in}
+use Rattle.vr_space.specs.Areas.{KeyedChain, area_for, area_of, head_in}
+use Rattle.vr_space.specs.Split.{AreaSplit, IsIntervalStage, SplitNow, area_fits, area_stage}
+use Rattle.vr_space.specs.Split.{free_interval, keyed_room_by, room_after, room_by, room_by_split}
+use Rattle.vr_space.specs.Split.{split_in, stage_in, stage_under}
 use Rattle.vr_space.specs.UnderWay.{IsReadyFor, KeyedUnderWay}
 use Rattle.vr_space.specs.declared.room.Room.{Room}
 use Rattle.vr_space.specs.declared.room.Room.TheVariants.{NoSpace, Stage}
@@ -41,30 +43,47 @@ stage-ready part split now Extend ready = absurd ready
 stage-ready part split now Undo ready = absurd ready
 stage-ready part split now Force ready = absurd ready
 
--- the stage that is next is that of the split
-stage-in : (part : Keyed) (split : Option SplitNow) (now : Seen) (found : Option (Range × Entry))
-    (kind : StageKind) → KeyedUnderWay part split now → stage_in split found ≡ Some kind
-    → IsIntervalStage kind
-stage-in part split now None kind way is = absurd cc
-stage-in part None now (Some found) kind way is = absurd cc
-stage-in part (Some split) now (Some found) kind way is =
+-- and so is that of a part
+stage-under : (part : KeyedChain) (split : Option AreaSplit) (now : Seen) (kind : StageKind)
+    → KeyedUnderWay part split now → stage_under split ≡ Some kind → IsIntervalStage kind
+stage-under part None now kind way is = absurd cc
+stage-under part (Some split) now kind way is =
+    let it : split.split.stage ≡ kind = cc in
+    subst IsIntervalStage it
+    (stage-ready (area_of part split.area) split.split now split.split.stage way.1)
+
+-- the stage that is next in an area is that of the split there
+stage-here : (split : Option SplitNow) (found : Option (Range × Entry)) (kind : StageKind)
+    → stage_in split found ≡ Some kind → (now : SplitNow) × (split ≡ Some now)
+    × (now.stage ≡ kind)
+stage-here split None kind is = absurd cc
+stage-here None (Some found) kind is = absurd cc
+stage-here (Some split) (Some found) kind is =
     by_test (nat_eq (slice_index found.1.intervals 0) split.old
     || nat_eq (slice_index found.1.intervals 0) split.into) is
   where
     by_test : (test : Bool) → (if test then Some split.stage else None) ≡ Some kind
-        → IsIntervalStage kind
-    by_test true same = let it : split.stage ≡ kind = cc in
-        subst IsIntervalStage it (stage-ready part split now split.stage way)
+        → (now : SplitNow) × (Some split ≡ Some now) × (now.stage ≡ kind)
+    by_test true same = let it : split.stage ≡ kind = cc in (split, refl, it)
     by_test false same = absurd cc
 
-by-split : (part : Keyed) (split : Option SplitNow) (now : Seen) (free : Option ℕ)
-    (kind : StageKind) → KeyedUnderWay part split now → room_by_split split free ≡ Stage kind
-    → IsIntervalStage kind
-by-split part (Some split) now free kind way is = let it : split.stage ≡ kind = cc in
-    subst IsIntervalStage it (stage-ready part split now split.stage way)
-by-split part None now (Some free) kind way is = let it : CiCopy ≡ kind = cc in
-    subst IsIntervalStage it tt
-by-split part None now None kind way is = absurd cc
+-- which is the part's
+split-under : (split : Option AreaSplit) (area : ℕ) (now : SplitNow)
+    → split_in split area ≡ Some now → stage_under split ≡ Some now.stage
+split-under None area now is = absurd cc
+split-under (Some split) area now is = by_test (nat_eq split.area area) is
+  where
+    by_test : (test : Bool) → (if test then Some split.split else None) ≡ Some now
+        → Some split.split.stage ≡ Some now.stage
+    by_test true same = let it : split.split ≡ now = cc in
+        ap (λ (one : SplitNow). Some one.stage) it
+    by_test false same = absurd cc
+
+by-split : (stage : Option StageKind) (free : Option ℕ) (kind : StageKind)
+    → room_by_split stage free ≡ Stage kind → (stage ≡ Some kind) ⊎ (CiCopy ≡ kind)
+by-split (Some stage) free kind is = let it : stage ≡ kind = cc in inl (ap Some it)
+by-split None (Some free) kind is = let it : CiCopy ≡ kind = cc in inr it
+by-split None None kind is = absurd cc
 
 by-room : (stage : Option StageKind) (fits : Bool) (other : Room) (kind : StageKind)
     → room_after stage (room_by fits other) ≡ Stage kind
@@ -72,6 +91,25 @@ by-room : (stage : Option StageKind) (fits : Bool) (other : Room) (kind : StageK
 by-room (Some stage) fits other kind is = let it : stage ≡ kind = cc in inl cc
 by-room None true other kind is = absurd cc
 by-room None false other kind is = inr is
+
+keyed-stage : (part : KeyedChain) (split : Option AreaSplit) (now : Seen) (image : Image)
+    (kept : Lengths) (place : List ℕ) (n : ℕ) (found : Option ℕ) (kind : StageKind)
+    → KeyedUnderWay part split now
+    → keyed_room_by part split image kept place n found ≡ Stage kind → IsIntervalStage kind
+keyed-stage part split now image kept place n None kind way is = absurd cc
+keyed-stage part split now image kept place n (Some area) kind way is = ⊎_elim
+    (λ staged.
+    let here = stage-here (split_in split area) (entry_in (head_in part image area) place) kind
+    staged in
+    stage-under part split now kind way (split-under split area here.0 here.1 ∙ ap Some here.2))
+    (λ splits. ⊎_elim (λ next. stage-under part split now kind way next)
+    (λ first. subst IsIntervalStage first tt)
+    (by-split (stage_under split) (free_interval one (head_in part image area)) kind splits))
+    (by-room (area_stage one (split_in split area) image place) (area_fits one image kept place n)
+    (room_by_split (stage_under split) (free_interval one (head_in part image area))) kind is)
+  where
+    one : Keyed
+    one = area_of part area
 
 -- the chain lacks the interval, which areas enough are free for
 pub record IsChainStage (used : Bool) (need free : ℕ) (kind : StageKind) : Type 0 where
@@ -107,14 +145,8 @@ pub room-stage : (shape : Shape) (known : Known) (now : Seen) (image : Image)
     (free : ℕ) (kept : Lengths) (place : List ℕ) (n : ℕ) (kind : StageKind)
     → IsUnderWay shape known now → room_of shape known image free kept place n ≡ Stage kind
     → IsStageOf shape kind
-room-stage (KeyedShape part) known now image free kept place n kind way is = ⊎_elim
-    (λ staged. stage-in part known.split now
-    (entry_in (block_at image part.head) place) kind way staged)
-    (λ splits. by-split part known.split now (free_interval part (block_at image part.head)) kind
-    way splits)
-    (by-room (stage_in known.split (entry_in (block_at image part.head) place))
-    (keyed_fits part image kept place n)
-    (room_by_split known.split (free_interval part (block_at image part.head))) kind is)
+room-stage (KeyedShape part) known now image free kept place n kind way is =
+    keyed-stage part known.split now image kept place n (area_for part image place) kind way is
 room-stage (NumberedShape part) known now image free kept place n kind way is =
     (stage-lacks part known image free kept place n kind is).stage
 

@@ -1,5 +1,5 @@
 -- Room once a record is kept that stands: it takes no more.
-use Rattle.std.proofs.Common.{◌≡◌, ◌≤◌, ℕ, Bool, true, false, cond, List, []}
+use Rattle.std.proofs.Common.{◌≡◌, ◌≤◌, ℕ, zero, suc, IfSome, Bool, true, false, cond, List, []}
 use Rattle.std.proofs.Common.{◌∷◌, map}
 use Rattle.std.proofs.Common.{Option, Some, None, refl, sym, ap, subst, ◌∙◌, arith, length}
 use Rattle.std.specs.Prelude.{max, nat_le}
@@ -15,13 +15,18 @@ use Rattle.std.proofs.lemmas.Map.Keys.{sorted_head, sorted_tail}
 use Rattle.std.specs.Cmp.{tied_itself}
 use Rattle.vr_types.specs.Content.{Item, Placed, found_by, place_cmp, item_at}
 use Rattle.vr_types.specs.Content.Item.{Standing}
+use Rattle.vr_types.specs.Geometry.{area_count}
 use Rattle.vr_types.specs.Image.{Block}
 use Rattle.vr_types.specs.Seen.{Seen}
 use Rattle.vr_types.proofs.CallerLemmas.{same_place}
 use Rattle.vr_ci.specs.Interval as ci
 use Rattle.vr_seqset.specs.Entry.{Entry}
-use Rattle.vr_space.specs.Keyed.{EachMayLeave, HoldsRange, Keyed}
-use Rattle.vr_space.specs.Keyed.{entries_of}
+use Rattle.vr_seqset.specs.Reading.{record_in}
+use Rattle.vr_space.specs.Keyed.{EachMayLeave, HoldsRange, IsKeyedSound, Keyed, KeepsRoom}
+use Rattle.vr_space.specs.Keyed.{entries_of, entry_in, way_under}
+use Rattle.vr_space.specs.Areas.{EachAfter, IsFollowed, IsOwnedArea, KeyedChain, Links, area_of}
+use Rattle.vr_space.specs.Areas.{areas_way, end_of, head_of, reaches, way_past}
+use Rattle.vr_space.specs.Areas.{most_areas}
 use Rattle.vr_space.specs.Keyed.{entry_above, entry_block, entry_for, items_of, key_of, length_of}
 use Rattle.vr_space.specs.Keyed.{lengths_of, low_of, placed, range_of, records_in, records_of}
 use Rattle.vr_space.specs.Owners.{Owners}
@@ -30,11 +35,12 @@ use Rattle.vr_space.specs.Part.{NumberedShape, Shape}
 use Rattle.vr_space.specs.Room.{HaveRoom, Lengths, Range, is_in, lengthen_by, lengths_in}
 use Rattle.vr_space.specs.Room.{with_length, with_lengths}
 use Rattle.vr_space.specs.Numbered.{HasKeptPlace, IsFilled, IsKeptLength}
-use Rattle.vr_space.specs.Rosters.{IsOwnArea}
-use Rattle.vr_space.specs.Way.{MayFind}
+use Rattle.vr_space.specs.Rosters.{IsOwnArea, after_next}
+use Rattle.vr_space.specs.Way.{Found, MayFind, Way}
 use Rattle.vr_space.specs.Keyed.{way_in}
 use Rattle.vr_space.specs.Room.{is_above}
 use Rattle.vr_types.specs.Seen.{Only}
+use Rattle.vr_space.proofs.AreaEnds.{above-past, found-between, past-low}
 use Rattle.vr_space.proofs.KeyedContent.{AscendFrom, leads-above}
 use Rattle.vr_space.proofs.KeyedSound.{head-ascends}
 use Rattle.vr_space.proofs.NumberedRooms.{IsKeptItem, finds-place}
@@ -463,6 +469,91 @@ kept-item : (relative : Bool) (n : ℕ) (bytes : List ℕ)
 kept-item true n bytes is = λ none. some-none (Standing bytes) none
 kept-item false n bytes is = ap (λ (m : ℕ). Some m) (sym is)
 
+-- a record of at least this length
+abbrev pub IsLonger : ℕ → Option Item → Type 0
+IsLonger n item = (bytes : List ℕ) × (item ≡ Some (Standing bytes)) × (n ≤ length bytes)
+
+-- It may be kept in an area where each head that leads to an interval of the place finds it there,
+pub keep-here : (part : Keyed) (kept : Lengths) (place : List ℕ) (n : ℕ) (now : Seen)
+    → length place ≡ part.key → IsKeyedSound part now → KeepsRoom part kept now
+    → ((top : Block) → now.may part.head top → (at : Range × Entry)
+    → entry_in top place ≡ Some at → (item : Option Item)
+    → MayFind now.may item (way_under part place top) → IsLonger n item)
+    → KeepsRoom part (with_length kept place n) now
+keep-here part kept place n now long sound room stands = record {
+  places = places-kept (λ (entry : List ℕ × ℕ). length entry.0 ≡ part.key) kept place n long
+      room.places;
+  each = λ top may. each-any part kept place n now (low_of top) (entries_of top)
+      (head-ascends part top (sound.heads top may))
+      (λ at leads block block-may. stands top may at leads (item_at (records_of part block) place)
+      (subst (λ (found : Option (Range × Entry)). MayFind now.may
+      (item_at (records_of part block) place) (way_in part place found)) (sym leads)
+      (block, block-may, refl)))
+      (sound.intervals top may) (room.each top may);
+}
+
+-- and in a chain where each way that comes to the place does.
+keep-links : (part : KeyedChain) (Own : ℕ → Type 0) (kept : Lengths) (place : List ℕ) (n : ℕ)
+    (now : Seen) → length place ≡ part.key → (k area : ℕ) (low : Option (List ℕ))
+    → Links part Own now k area low
+    → EachAfter part (λ at. KeepsRoom (area_of part at) kept now) now.may k area
+    → (is_above low place ≡ true → (item : Option Item)
+    → MayFind now.may item (areas_way part place k area) → IsLonger n item)
+    → EachAfter part (λ at. KeepsRoom (area_of part at) (with_length kept place n) now) now.may k
+    area
+keep-links part Own kept place n now long zero area low chain room stands = tt
+keep-links part Own kept place n now long (suc k) area low chain room stands = (
+  keep-here one kept place n now long chain.1.sound room.0
+      (λ top may at leads item finds.
+      let between = found-between one top (chain.1.sound.heads top may) place at leads in
+      stands (subst (λ (bound : Option (List ℕ)). is_above bound place ≡ true)
+      (chain.1.begins top may) between.0) item
+      (top, may, by_reach top item true between.1 finds)),
+  λ top may. by_next top may (record_in top).next refl (chain.1.next top may) (room.1 top may)
+      (λ further bound goes all past. keep-links part Own kept place n now long k further bound goes
+      all past),
+)
+  where
+    one : Keyed
+    one = area_of part area
+
+    after : Option ℕ → Way
+    after next = after_next (Found None) (areas_way part place k) next
+
+    by_reach : (top : Block) (item : Option Item) (test : Bool) → reaches top place ≡ test
+        → MayFind now.may item (cond test (way_under one place top) (after (record_in top).next))
+        → MayFind now.may item (way_past part place area (areas_way part place k) top)
+    by_reach top item test is finds = subst (λ (b : Bool). MayFind now.may item
+        (cond b (way_under one place top) (after (record_in top).next))) (sym is) finds
+
+    Room : ℕ → Type 0
+    Room = EachAfter part (λ at. KeepsRoom (area_of part at) kept now) now.may k
+
+    Longer : ℕ → Type 0
+    Longer = EachAfter part (λ at. KeepsRoom (area_of part at) (with_length kept place n) now)
+        now.may k
+
+    by_next : (top : Block) → now.may (head_of part area) top → (next : Option ℕ)
+        → (record_in top).next ≡ next → IsFollowed part (Links part Own now k) top next
+        → IfSome next Room
+        → ((further : ℕ) (bound : Option (List ℕ)) → Links part Own now k further bound
+        → Room further
+        → (is_above bound place ≡ true → (item : Option Item)
+        → MayFind now.may item (areas_way part place k further) → IsLonger n item)
+        → Longer further)
+        → IfSome next Longer
+    by_next top may None is last all more = tt
+    by_next top may (Some further) is goes all more = more further (end_of top) goes all
+        (λ above item finds. stands
+        (subst (λ (bound : Option (List ℕ)). is_above bound place ≡ true)
+        (chain.1.begins top may)
+        (past-low one top (chain.1.sound.heads top may) place above)) item (
+          top,
+          may,
+          by_reach top item false (above-past (end_of top) place above)
+              (subst (λ (next : Option ℕ). MayFind now.may item (after next)) (sym is) finds),
+        ))
+
 -- The record that a crash leaves at a place may be kept, where it is the only one.
 pub keep-room : (shape : Shape) (owners : Owners) (kept : Lengths) (place : List ℕ) (n : ℕ)
     (now : Seen)
@@ -470,21 +561,10 @@ pub keep-room : (shape : Shape) (owners : Owners) (kept : Lengths) (place : List
     → ((item : Option Item) → MayHold shape now.may place item
     → (bytes : List ℕ) × (item ≡ Some (Standing bytes)) × MayGoBack shape (length bytes) n)
     → HasKeptRoom shape (with_length kept place n) now
-keep-room (KeyedShape part) owners kept place n now long (sound, whole, owned) room stands =
-    record {
-      places = places-kept (λ (entry : List ℕ × ℕ). length entry.0 ≡ part.key) kept place n long
-          room.places;
-      each = λ top may. each-any part kept place n now (low_of top) (entries_of top)
-          (head-ascends part top (sound.heads top may))
-          (λ at leads block block-may. stands (item_at (records_of part block) place) (
-            top,
-            may,
-            subst (λ (found : Option (Range × Entry)). MayFind now.may
-                (item_at (records_of part block) place) (way_in part place found)) (sym leads)
-                (block, block-may, refl),
-          ))
-          (sound.intervals top may) (room.each top may);
-    }
+keep-room (KeyedShape part) owners kept place n now long sound room stands =
+    let count = most_areas in
+    keep-links part (IsOwnedArea part owners) kept place n now long count part.first None sound.chain
+    room (λ above. stands)
 keep-room (NumberedShape part) owners kept place n now numbered sound room stands =
     places-kept (HasKeptPlace part now.may) kept place n
     (finds-place part (IsOwnArea part owners) (IsFilled part) now.may place n numbered sound.chain

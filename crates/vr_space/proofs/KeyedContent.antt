@@ -9,7 +9,7 @@ use Rattle.vr_seqset.specs.Entry.{Entry}
 use Rattle.vr_space.specs.Way.{found_on}
 use Rattle.vr_space.specs.Room.{Range, is_above}
 use Rattle.vr_space.specs.Keyed.{Keyed, entry_block, records_of, records_in, range_of, content_from}
-use Rattle.vr_space.specs.Keyed.{IsWhole, entries_of, entry_above, entry_for, entry_in, low_of}
+use Rattle.vr_space.specs.Keyed.{entry_above, entry_for}
 use Rattle.vr_space.specs.Keyed.{way_in}
 use Rattle.vr_space.proofs.Places.{AllAbove, record-left, record-right, record-filter, none-filter}
 use Rattle.vr_space.proofs.Places.{above-append, above-weaken, above-filter, none-above, in-both}
@@ -95,18 +95,6 @@ pub leads-above : (low : Option (List ℕ)) (entries : List Entry) (place : List
     → is_above low place ≡ true → entry_above low entries place ≡ entry_for low entries place
 leads-above low entries place above =
     ap (λ (b : Bool). cond b (entry_for low entries place) None) above
-
--- in the head of a part of one area each place is
-pub whole-low : (part : Keyed) (top : Block) → IsWhole part top → low_of top ≡ None
-whole-low part top whole =
-    ap (λ (b : Bool). cond b None (Some (Rattle.vr_seqset.specs.Reading.record_in top).low))
-    whole.first
-
-pub whole-entry : (part : Keyed) (top : Block) (place : List ℕ) → IsWhole part top
-    → entry_in top place ≡ entry_for None (entries_of top) place
-whole-entry part top place whole =
-    ap (λ (low : Option (List ℕ)). entry_above low (entries_of top) place)
-    (whole-low part top whole)
 
 -- the content's item at a place is the one that the way over the area leads to
 pub area-content : (part : Keyed) (image : Image) (low : Option (List ℕ)) (entries : List Entry)

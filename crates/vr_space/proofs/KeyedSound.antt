@@ -1,7 +1,7 @@
--- A keyed part of which everything that a crash may leave is in order: each image stands for a
--- content, and each place of it has something that it may hold.
+-- An area of a keyed part of which everything that a crash may leave is in order: each image has it
+-- in order, and each place of it has something that it may hold.
 use Rattle.std.proofs.Common.{◌≡◌, ◌<◌, ◌≤◌, ◌+◌, ◌-◌, ◌/◌, ℕ, Bool, true, false, List, [], ◌∷◌}
-use Rattle.std.proofs.Common.{◌++◌, length, map, Option, Some, None, refl, sym, ap, subst, ◌∙◌}
+use Rattle.std.proofs.Common.{◌++◌, length, map, Option, Some, None, refl, ap, ◌∙◌}
 use Rattle.std.proofs.Common.{arith, All}
 use Rattle.std.specs.Prelude.{cond, IfSome, min, slice_index}
 use Rattle.std.specs.List.{flat_map}
@@ -9,7 +9,7 @@ use Rattle.std.specs.List.Sorted.{IsStrictlySortedBy}
 use Rattle.std.specs.Ordering.{is_le, is_lt}
 use Rattle.std.proofs.lemmas.List.Elements.{All-head, All-tail}
 use Rattle.std.proofs.lemmas.Map.Keys.{sorted_head, sorted_tail}
-use Rattle.vr_types.specs.Content.{Item, place_cmp}
+use Rattle.vr_types.specs.Content.{place_cmp}
 use Rattle.vr_types.specs.Image.{Block, Image, block_at}
 use Rattle.vr_types.specs.Seen.{Seen}
 use Rattle.vr_types.specs.Regions.{IsImageOn}
@@ -18,16 +18,15 @@ use Rattle.vr_seqset.specs.Numbers.{intervals_used}
 use Rattle.vr_seqset.specs.SequenceSet.{SequenceSet, bounds_of}
 use Rattle.vr_seqset.specs.Reading.{record_in}
 use Rattle.vr_seqset.proofs.ListLemmas.{All-left, All-right}
-use Rattle.vr_space.specs.Way.{MayFind, IsWithin}
+use Rattle.vr_space.specs.Way.{IsWithin}
 use Rattle.vr_space.specs.Room.{Range, is_above}
 use Rattle.vr_space.specs.Keyed.{Keyed, IsHead, HoldsRange, HoldRanges, EachMayLeave, IsKeyedSound}
 use Rattle.vr_space.specs.Keyed.{entries_of, entry_above, entry_block, entry_for, entry_in, low_in}
-use Rattle.vr_space.specs.Keyed.{AreWhole, InArea, content_from, keyed_way, low_of, range_of}
-use Rattle.vr_space.specs.Keyed.{way_in}
-use Rattle.vr_space.specs.Owners.{Owners}
-use Rattle.vr_space.specs.Part.{KeyedShape, InPart, IsSound, HasOnly, MayHold}
+use Rattle.vr_space.specs.Keyed.{InArea, area_way, low_of, range_of, way_in}
+use Rattle.vr_space.specs.AreaCalls.{HasHere, MayHoldHere}
+use Rattle.vr_space.proofs.Ends.{same-ends}
+use Rattle.vr_space.proofs.KeyedContent.{AscendFrom}
 use Rattle.vr_space.proofs.Ways.{found-may}
-use Rattle.vr_space.proofs.KeyedContent.{AscendFrom, area-content}
 
 -- ---- what a head says
 
@@ -150,7 +149,7 @@ module _ (part : Keyed) (now : Seen) where
       ((omega (arith, area, is), (omega arith, omega (arith, is))), λ block may. tt)
 
   pub keyed-within : IsKeyedSound part now → (place : List ℕ)
-      → IsWithin IsBlock now.may (keyed_way part place)
+      → IsWithin IsBlock now.may (area_way part place)
   keyed-within sound place = (
     (omega (arith, sound.area), (omega arith, omega arith)),
     λ top may. way-within place (entry_in top place) sound.area
@@ -171,34 +170,29 @@ module _ (part : Keyed) (now : Seen) where
     ranges-held image (Some entry.high) entries each area all.1 left.1,
   )
 
-  pub keyed-image : (owners : Owners) → IsSound (KeyedShape part) owners now → (image : Image)
-      → IsImageOn (InPart (KeyedShape part) owners) now.count now.may image
-      → HasOnly (KeyedShape part) owners (MayHold (KeyedShape part) now.may) image
-  keyed-image owners (sound, whole, owned) image left =
+  -- its head is such a block
+  pub head-block : IsKeyedSound part now → IsBlock part.head
+  head-block sound = (omega (arith, sound.area), (omega arith, omega arith))
+
+  -- what an image has of the area, with the ends of its head and what each place may hold
+  pub keyed-image : IsKeyedSound part now → (image : Image)
+      → IsImageOn (InArea part) now.count now.may image
+      → HasHere part now (MayHoldHere part now.may) image
+  keyed-image sound image left =
       let each : (n : ℕ) → IsBlock n → now.may n (block_at image n) =
-      λ n is. left.each n is.0 (owned n is.1) in
+      λ n is. left.each n is.0 is.1 in
       let top : Block = block_at image part.head in
-      let may : now.may part.head top =
-      each part.head (omega (arith, sound.area), (omega arith, omega arith)) in
+      let may : now.may part.head top = each part.head (head-block sound) in
       let head : IsHead part top = sound.heads top may in
       record {
-        content = content_from part image (low_of top) (entries_of top);
-        stands = (
-          record {
-            head = head;
-            intervals = ranges-held image (low_of top) (entries_of top) each sound.area
-                (head-in part top head) (sound.intervals top may);
-            records = refl;
-          },
-          whole top may,
-        );
-        within = owned;
-        each = λ place. subst
-            (λ (item : Option Item). MayFind now.may item (keyed_way part place))
-            (sym (area-content part image (low_of top) (entries_of top) place
-            (head-ascends part top head)))
-            (found-may IsBlock now.may image each (keyed_way part place)
-            (keyed-within sound place));
+        head = head;
+        intervals = ranges-held image (low_of top) (entries_of top) each sound.area
+            (head-in part top head) (sound.intervals top may);
+        before = top;
+        allowed = may;
+        ends = same-ends top;
+        each = λ place. found-may IsBlock now.may image each (area_way part place)
+            (keyed-within sound place);
       }
 
 -- what a call leaves that adds nothing to the area's blocks
@@ -229,10 +223,3 @@ keyed-less part old new count size less sound =
           (entries_of top) less sound.area (head-in part top (sound.heads top (before top may)))
           (sound.intervals top (before top may));
     }
-
--- and heads stay whole
-pub whole-less : (part : Keyed) (old new : Seen)
-    → ((n : ℕ) (block : Block) → IsBlock part old n → new.may n block → old.may n block)
-    → IsKeyedSound part old → AreWhole part old → AreWhole part new
-whole-less part old new less sound whole = λ top may.
-    whole top (less part.head top (omega (arith, sound.area), (omega arith, omega arith)) may)

@@ -8,16 +8,20 @@ use Rattle.std.specs.declared.cmp.Ordering.TheVariants.{Less, Equal, Greater}
 use Rattle.std.proofs.lemmas.List.{length-drop, length-take-le}
 use Rattle.std.proofs.lemmas.List.Elements.{All-head, All-tail}
 use Rattle.vr_types.specs.Content.{Content, Item, Placed, found_by, item_at, place_cmp, record_of}
+use Rattle.vr_types.specs.Geometry.{area_count}
 use Rattle.vr_types.specs.Image.{Image, block_at}
 use Rattle.vr_types.proofs.CallerLemmas.{same_place}
 use Rattle.vr_ci.specs.Interval as ci
 use Rattle.vr_seqset.specs.Entry.{Entry}
 use Rattle.vr_space.specs.Room.{Range, is_in}
+use Rattle.vr_space.specs.Areas.{ChainStandsFor, KeyedChain, area_of, content_after, head_in}
+use Rattle.vr_space.specs.Areas.{most_areas}
 use Rattle.vr_space.specs.Keyed.{HoldRanges, IsKept, Keyed, content_from, entries_of, entry_block}
 use Rattle.vr_space.specs.Keyed.{items_of, key_of, low_of, placed, range_of, records_in}
 use Rattle.vr_space.specs.Part.{IsPlaceOf, KeyedShape, NumberedShape, Shape, Stands, item_of}
 use Rattle.vr_space.specs.Part.{record_read}
 use Rattle.vr_space.proofs.Adding.{content_item}
+use Rattle.vr_space.proofs.LinkedContent.{content-each}
 use Rattle.vr_space.proofs.NumberedReads.{found-place}
 
 -- the place is as long as the keys
@@ -64,6 +68,16 @@ content-keys part image low (entry ∷ entries) hold =
     hold.0.kept)
     (content-keys part image (Some entry.high) entries hold.1)
 
+chain-keys : (part : KeyedChain) (image : Image) → {content : Content}
+    → ChainStandsFor part image content
+    → AllByRecursion (HasKey part.key)
+    (content_after part image most_areas part.first)
+chain-keys part image stands = content-each (AllByRecursion (HasKey part.key)) tt
+    (keys-both part.key) part image
+    (λ area is. content-keys (area_of part area) image (low_of (head_in part image area))
+    (entries_of (head_in part image area)) is.stands.intervals)
+    most_areas part.first None stands.chain
+
 -- what stands at a place of a content has the length of its keys
 found-key : (key : ℕ) (content : Content) (place : List ℕ) → AllByRecursion (HasKey key) content
     → (item : Item) → item_at content place ≡ Some item → length place ≡ key
@@ -90,11 +104,9 @@ read-place (KeyedShape part) image place stands some =
     by_item None is =
         absurd (some (ap (λ (item : Option Item). option_and_then record_of item) is))
     by_item (Some item) is =
-        let low = low_of (block_at image part.head) in
-        let entries = entries_of (block_at image part.head) in
-        found-key part.key (content_from part image low entries) place
-        (content-keys part image low entries stands.1.0.intervals) item
-        (sym (ap (λ (content : Content). item_at content place) stands.1.0.records)
+        found-key part.key (content_after part image most_areas part.first) place
+        (chain-keys part image stands.1) item
+        (sym (ap (λ (content : Content). item_at content place) stands.1.records)
         ∙ content_item (KeyedShape part) image stands.0 stands.1 place ∙ is)
 read-place (NumberedShape part) image place stands some =
     found-place part image place

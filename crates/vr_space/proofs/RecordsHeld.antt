@@ -1,5 +1,5 @@
 -- The items of a part's content: each is a record that may stand at its place.
-use Rattle.std.proofs.Common.{◌≡◌, ℕ, List, [], ◌∷◌, ◌++◌, Option, Some, refl, ap, ◌∙◌, map}
+use Rattle.std.proofs.Common.{◌≡◌, ℕ, List, [], ◌∷◌, ◌++◌, Option, Some, None, refl, ap, ◌∙◌, map}
 use Rattle.std.proofs.Common.{◌+◌, arith, subst, sym}
 use Rattle.std.specs.Prelude.{filter, cond, All, Bool, true, false}
 use Rattle.std.specs.declared.cmp.Ordering.{Ordering}
@@ -12,30 +12,33 @@ use Rattle.vr_types.proofs.CallerLemmas.{same_place}
 use Rattle.vr_ci.specs.Interval as ci
 use Rattle.vr_seqset.specs.Entry.{Entry}
 use Rattle.vr_space.specs.Room.{Range, is_in}
-use Rattle.vr_space.specs.Keyed.{HoldRanges, IsKept, Keyed, content_from, entries_of, entry_block}
+use Rattle.vr_space.specs.Areas.{ChainStandsFor, KeyedChain, area_of, head_in}
+use Rattle.vr_space.specs.Areas.{most_areas}
+use Rattle.vr_space.specs.Keyed.{HoldRanges, IsKept, IsValid, content_from, entries_of, entry_block}
 use Rattle.vr_space.specs.Keyed.{items_of, low_of, placed, range_of, records_in}
 use Rattle.vr_space.specs.Numbered.{start_of}
 use Rattle.vr_space.specs.Part.{IsRecordOf, KeyedShape, NumberedShape, Shape, StandsFor}
+use Rattle.vr_space.proofs.LinkedContent.{content-each}
 use Rattle.vr_space.proofs.Numbers.{numbers-below, span_up}
 use Rattle.vr_space.proofs.NumberedReads.{numbered-record, stands-numbered}
 
 -- a record that may stand at this place
-abbrev IsRecordAt : Keyed → Placed → Type 0
+abbrev IsRecordAt : KeyedChain → Placed → Type 0
 IsRecordAt part entry =
     (bytes : List ℕ) × (entry.1 ≡ Standing bytes) × IsRecordOf (KeyedShape part) entry.0 bytes
 
 -- each item is one
-abbrev AreRecords : Keyed → Content → Type 0
+abbrev AreRecords : KeyedChain → Content → Type 0
 AreRecords part [] = Unit {0}
 AreRecords part (entry ∷ content) = IsRecordAt part entry × AreRecords part content
 
-append-records : (part : Keyed) (one other : Content) → AreRecords part one
+append-records : (part : KeyedChain) (one other : Content) → AreRecords part one
     → AreRecords part other → AreRecords part (one ++ other)
 append-records part [] other first second = second
 append-records part (entry ∷ one) other first second =
     (first.0, append-records part one other first.1 second)
 
-filter-records : (part : Keyed) (range : Range) (content : Content) → AreRecords part content
+filter-records : (part : KeyedChain) (range : Range) (content : Content) → AreRecords part content
     → AreRecords part (filter (λ (entry : Placed). is_in range entry.0) content)
 filter-records part range [] all = tt
 filter-records part range (entry ∷ content) all =
@@ -48,31 +51,40 @@ filter-records part range (entry ∷ content) all =
     by_test true further = (all.0, further)
     by_test false further = further
 
-placed-records : (part : Keyed) (items : List ci.Item) → All (IsKept part) items
-    → AreRecords part (map (placed part) items)
-placed-records part [] kept = tt
-placed-records part (item ∷ items) kept = (
-  (item.bytes, refl, ((All-head (IsKept part) item items kept).valid, refl)),
-  placed-records part items (All-tail (IsKept part) item items kept),
-)
+-- of whichever area
+placed-records : (part : KeyedChain) (area : ℕ) (items : List ci.Item)
+    → All (IsKept (area_of part area)) items
+    → AreRecords part (map (placed (area_of part area)) items)
+placed-records part area [] kept = tt
+placed-records part area (item ∷ items) kept =
+    let valid : IsValid (area_of part area) item.bytes =
+    (All-head (IsKept (area_of part area)) item items kept).valid in (
+      (item.bytes, refl, (record { least = valid.least; most = valid.most }, refl)),
+      placed-records part area items (All-tail (IsKept (area_of part area)) item items kept),
+    )
 
-from-records : (part : Keyed) (image : Image) (low : Option (List ℕ)) (entries : List Entry)
-    → HoldRanges part image low entries → AreRecords part (content_from part image low entries)
-from-records part image low [] hold = tt
-from-records part image low (entry ∷ entries) hold = append-records part
-    (records_in part (range_of low entry) (block_at image (entry_block part entry)))
-    (content_from part image (Some entry.high) entries)
+from-records : (part : KeyedChain) (area : ℕ) (image : Image) (low : Option (List ℕ))
+    (entries : List Entry) → HoldRanges (area_of part area) image low entries
+    → AreRecords part (content_from (area_of part area) image low entries)
+from-records part area image low [] hold = tt
+from-records part area image low (entry ∷ entries) hold =
+    let one = area_of part area in
+    let block = block_at image (entry_block one entry) in
+    append-records part (records_in one (range_of low entry) block)
+    (content_from one image (Some entry.high) entries)
     (filter-records part (range_of low entry) _
-    (placed-records part (items_of (block_at image (entry_block part entry))) hold.0.kept))
-    (from-records part image (Some entry.high) entries hold.1)
+    (placed-records part area (items_of block) hold.0.kept))
+    (from-records part area image (Some entry.high) entries hold.1)
 
-content-records : (part : Keyed) (image : Image) (content : Content)
-    → StandsFor (KeyedShape part) image content → AreRecords part content
-content-records part image content stands = subst (AreRecords part) (sym stands.0.records)
-    (from-records part image (low_of (block_at image part.head))
-    (entries_of (block_at image part.head)) stands.0.intervals)
+content-records : (part : KeyedChain) (image : Image) (content : Content)
+    → ChainStandsFor part image content → AreRecords part content
+content-records part image content stands = subst (AreRecords part) (sym stands.records)
+    (content-each (AreRecords part) tt (append-records part) part image
+    (λ area is. from-records part area image (low_of (head_in part image area))
+    (entries_of (head_in part image area)) is.stands.intervals)
+    most_areas part.first None stands.chain)
 
-read-record : (part : Keyed) (content : Content) (place bytes : List ℕ) → AreRecords part content
+read-record : (part : KeyedChain) (content : Content) (place bytes : List ℕ) → AreRecords part content
     → item_at content place ≡ Some (Standing bytes) → IsRecordOf (KeyedShape part) place bytes
 read-record part [] place bytes all is = absurd (cc)
 read-record part (entry ∷ content) place bytes all is =

@@ -1,6 +1,6 @@
 -- The places of a content that blocks stand for ascend.
 use Rattle.std.proofs.Common.{◌≡◌, ℕ, Bool, true, false, List, [], ◌∷◌, ◌++◌, map, Option, Some}
-use Rattle.std.proofs.Common.{refl, sym, ap, subst, ◌∙◌, true≢false, suc, arith}
+use Rattle.std.proofs.Common.{None, refl, sym, ap, subst, ◌∙◌, true≢false, zero, suc, arith, length}
 use Rattle.std.proofs.Common.{◌+◌, ◌^◌, ◌<◌, ◌≤◌}
 use Rattle.std.specs.Prelude.{filter, cond}
 use Rattle.std.specs.List.{AllByRecursion}
@@ -20,13 +20,19 @@ use Rattle.vr_types.specs.Image.{Block, Image, block_at}
 use Rattle.vr_types.proofs.CallerLemmas.{same_place}
 use Rattle.vr_ci.specs.Interval as ci
 use Rattle.vr_seqset.specs.Entry.{Entry}
+use Rattle.vr_seqset.specs.Reading.{record_in}
 use Rattle.vr_space.specs.Room.{Range, is_in, is_above}
 use Rattle.vr_space.specs.Keyed.{Keyed, HoldRanges, entry_block, entries_of, items_of, key_of}
 use Rattle.vr_space.specs.Keyed.{placed, records_of, records_in, range_of, content_from}
-use Rattle.vr_space.specs.Keyed.{low_of}
+use Rattle.vr_space.specs.Keyed.{last_high, low_of}
+use Rattle.vr_space.specs.Areas.{IsFollowed, KeyedChain, LinksIn, area_of, content_after, end_of}
+use Rattle.vr_space.specs.Areas.{head_in}
+use Rattle.vr_space.specs.Areas.{most_areas}
 use Rattle.vr_space.specs.Numbered.{start_of}
 use Rattle.vr_space.specs.Part.{Shape, KeyedShape, NumberedShape, StandsFor}
-use Rattle.vr_space.specs.Rosters.{Numbered}
+use Rattle.vr_space.specs.Rosters.{Numbered, after_next}
+use Rattle.vr_space.proofs.AreaEnds.{end-above, has-end}
+use Rattle.vr_space.proofs.LinkedContent.{content-each, linked-content-above}
 use Rattle.vr_space.proofs.Places.{AllAbove, above-more, in-most, lt_from_test}
 use Rattle.vr_space.proofs.KeyedContent.{AscendFrom, content-above}
 use Rattle.vr_space.proofs.KeyedSound.{head-ascends}
@@ -128,6 +134,21 @@ above-most place high (entry ∷ ys) most all = (
       most all.1,
 )
 
+most-both : (high : List ℕ) (xs ys : Content) → AllMost high xs → AllMost high ys
+    → AllMost high (xs ++ ys)
+most-both high [] ys left right = right
+most-both high (entry ∷ xs) ys left right = (left.0, most-both high xs ys left.1 right)
+
+-- what is at most a place is at most one above it
+most-more : (high more : List ℕ) (xs : Content) → is_above (Some high) more ≡ true
+    → AllMost high xs → AllMost more xs
+most-more high more [] up all = tt
+most-more high more (entry ∷ xs) up all = (
+  ap is_le (lt_from_test (place_cmp entry.0 more)
+      (most-above (place_cmp entry.0 high) entry.0 high more refl all.0 up)),
+  most-more high more xs up all.1,
+)
+
 above-both : (low : Option (List ℕ)) (xs ys : Content) → AllAbove low xs → AllAbove low ys
     → AllAbove low (xs ++ ys)
 above-both low [] ys left right = right
@@ -196,6 +217,74 @@ content-lengths part image low (entry ∷ entries) =
     (placed-lengths part (range_of low entry) (items_of (block_at image (entry_block part entry))))
     (content-lengths part image (Some entry.high) entries)
 
+-- ---- area by area
+
+-- each place of an area is at most the end of its last range
+content-most : (part : Keyed) (image : Image) (low : Option (List ℕ)) (entries : List Entry)
+    (high : List ℕ) → AscendFrom low entries → last_high entries ≡ Some high
+    → AllMost high (content_from part image low entries)
+content-most part image low [] high ascend is = tt
+content-most part image low (entry ∷ []) high ascend is =
+    let same : entry.high ≡ high = cc in
+    subst (λ (end : List ℕ). AllMost end (content_from part image low (entry ∷ []))) same
+    (most-both entry.high
+    (records_in part (range_of low entry) (block_at image (entry_block part entry))) []
+    (most-filtered (range_of low entry)
+    (records_of part (block_at image (entry_block part entry)))) tt)
+content-most part image low (entry ∷ other ∷ entries) high ascend is =
+    let block = block_at image (entry_block part entry) in
+    let up : is_above (Some entry.high) high ≡ true =
+    end-above (Some entry.high) (other ∷ entries) high ascend.1 is in
+    most-both high (records_in part (range_of low entry) block)
+    (content_from part image (Some entry.high) (other ∷ entries))
+    (most-more entry.high high (records_in part (range_of low entry) block) up
+    (most-filtered (range_of low entry) (records_of part block)))
+    (content-most part image (Some entry.high) (other ∷ entries) high ascend.1 is)
+
+area-rises : (part : Keyed) (image : Image) (low : Option (List ℕ)) (entries : List Entry)
+    (rest : Content) → 0 < length entries → AscendFrom low entries
+    → HoldRanges part image low entries → Rising rest → AllAbove (last_high entries) rest
+    → Rising (content_from part image low entries ++ rest)
+area-rises part image low entries rest some ascend hold rises above =
+    by_end (last_high entries) refl above
+  where
+    by_end : (end : Option (List ℕ)) → last_high entries ≡ end → AllAbove end rest
+        → Rising (content_from part image low entries ++ rest)
+    by_end None is past = absurd (has-end entries some is)
+    by_end (Some high) is past = rising-append high (content_from part image low entries) rest
+        (content-rises part image low entries ascend hold) rises
+        (content-most part image low entries high ascend is) past
+
+-- the places of a chain rise
+chain-rises : (part : KeyedChain) (image : Image) (k area : ℕ) (low : Option (List ℕ))
+    → LinksIn part image k area low → Rising (content_after part image k area)
+chain-rises part image zero area low chain = absurd chain
+chain-rises part image (suc k) area low chain =
+    let top : Block = head_in part image area in
+    let one = area_of part area in
+    let rest = after_next [] (content_after part image k) (record_in top).next in
+    area-rises one image (low_of top) (entries_of top) rest chain.head.spelled.some
+    (head-ascends one top chain.head) chain.intervals
+    (rest-rises (record_in top).next chain.next
+    (λ further bound goes. chain-rises part image k further bound goes))
+    (rest-above (record_in top).next chain.next)
+  where
+    rest-rises : (next : Option ℕ)
+        → IsFollowed part (LinksIn part image k) (head_in part image area) next
+        → ((further : ℕ) (bound : Option (List ℕ)) → LinksIn part image k further bound
+        → Rising (content_after part image k further))
+        → Rising (after_next [] (content_after part image k) next)
+    rest-rises None last more = tt
+    rest-rises (Some further) goes more = more further (end_of (head_in part image area)) goes
+
+    rest-above : (next : Option ℕ)
+        → IsFollowed part (LinksIn part image k) (head_in part image area) next
+        → AllAbove (end_of (head_in part image area))
+        (after_next [] (content_after part image k) next)
+    rest-above None last = tt
+    rest-above (Some further) goes = linked-content-above part image k further
+        (end_of (head_in part image area)) goes
+
 -- ---- by numbers
 
 items-above : (part : Numbered) (number from to : ℕ) (content : Content) → number < from
@@ -237,13 +326,13 @@ items-lengths part from to ((place, item) ∷ content) (number, is, least, below
 pub stands_content : (shape : Shape) (image : Image) (content : Content)
     → StandsFor shape image content → IsContent content
 stands_content (KeyedShape part) image content stands =
-    let top : Block = block_at image part.head in
-    subst IsContent (sym stands.0.records) (record {
-      ascends = sorted-rising _
-          (content-rises part image (low_of top) (entries_of top)
-          (head-ascends part top stands.0.head) stands.0.intervals);
+    let count = most_areas in
+    subst IsContent (sym stands.records) (record {
+      ascends = sorted-rising _ (chain-rises part image count part.first None stands.chain);
       lengths = All-from_recursion HasLength _
-          (content-lengths part image (low_of top) (entries_of top));
+          (content-each (AllByRecursion HasLength) tt lengths-both part image
+          (λ area is. content-lengths (area_of part area) image (low_of (head_in part image area))
+          (entries_of (head_in part image area))) count part.first None stands.chain);
     })
 stands_content (NumberedShape part) image content stands =
     let start = start_of part in
@@ -259,6 +348,5 @@ stands_content (NumberedShape part) image content stands =
 -- and one content at most
 pub one_content : (shape : Shape) (image : Image) (one other : Content) → StandsFor shape image one
     → StandsFor shape image other → one ≡ other
-one_content (KeyedShape part) image one other first second =
-    first.0.records ∙ sym second.0.records
+one_content (KeyedShape part) image one other first second = first.records ∙ sym second.records
 one_content (NumberedShape part) image one other first second = first.records ∙ sym second.records

@@ -1,16 +1,19 @@
 -- What stands at a place, and what a call leaves there: of keyed and relative parts, of which
 -- nothing is withdrawn, a record, or nothing.
 use Rattle.std.proofs.Common.{◌≡◌, List, ℕ, Bool, true, false, [], ◌∷◌, Option, Some, None, refl}
-use Rattle.std.proofs.Common.{ap, map}
+use Rattle.std.proofs.Common.{ap, map, subst, sym}
 use Rattle.std.specs.Prelude.{option_and_then}
 use Rattle.std.specs.Option.{option_map}
 use Rattle.std.specs.declared.cmp.Ordering.{Ordering}
 use Rattle.std.specs.declared.cmp.Ordering.TheVariants.{Less, Equal, Greater}
 use Rattle.vr_types.specs.Content.{Item, found_by, item_at, place_cmp, record_of}
 use Rattle.vr_types.specs.Content.Item.{Standing}
+use Rattle.vr_types.specs.Geometry.{area_count}
 use Rattle.vr_types.specs.Image.{Image, block_at}
 use Rattle.vr_ci.specs.Interval as ci
 use Rattle.vr_seqset.specs.Entry.{Entry}
+use Rattle.vr_space.specs.Areas.{KeyedChain, area_for, area_of, head_in}
+use Rattle.vr_space.specs.Areas.{most_areas}
 use Rattle.vr_space.specs.Keyed.{Keyed, entry_block, entry_in, items_of, placed}
 use Rattle.vr_space.specs.Keyed.{way_in}
 use Rattle.vr_space.specs.Numbered.{left_in}
@@ -18,6 +21,7 @@ use Rattle.vr_space.specs.Part.{KeyedShape, NumberedShape, Shape, WithdrawsNone,
 use Rattle.vr_space.specs.Part.{record_read}
 use Rattle.vr_space.specs.Room.{Range}
 use Rattle.vr_space.specs.Way.{found_on}
+use Rattle.vr_space.proofs.LinkedContent.{found-area, item_by}
 use Rattle.vr_space.proofs.NumberedReads.{slot-stands}
 
 -- an item is a record that stands, or there is none
@@ -43,11 +47,18 @@ way-stands part image place None = refl
 way-stands part image place (Some at) =
     items-stand part (items_of (block_at image (entry_block part at.1))) place
 
+area-stands : (part : KeyedChain) (image : Image) (place : List ℕ) (found : Option ℕ)
+    → IsRecord (item_by part image place found)
+area-stands part image place None = refl
+area-stands part image place (Some area) =
+    way-stands (area_of part area) image place (entry_in (head_in part image area) place)
+
 -- what is at a place is the record that is read there
 pub item-read : (shape : Shape) (image : Image) (place : List ℕ) → WithdrawsNone shape
     → item_of shape image place ≡ option_map Standing (record_read shape image place)
-item-read (KeyedShape part) image place none =
-    way-stands part image place (entry_in (block_at image part.head) place)
+item-read (KeyedShape part) image place none = subst IsRecord
+    (sym (found-area part image place most_areas part.first))
+    (area-stands part image place (area_for part image place))
 item-read (NumberedShape part) image place relative = slot-stands part image place relative
 
 -- and what a call leaves there is the record that it gives

@@ -18,7 +18,7 @@ use Rattle.vr_space.specs.Room.{Range}
 use Rattle.vr_space.specs.Keyed.{Keyed, IsHead, HoldsRange, IsKeyedSound, entries_of, entry_in}
 use Rattle.vr_space.specs.Keyed.{InArea, low_of, records_in}
 use Rattle.vr_space.specs.Split.{SplitNow, free_from, free_interval}
-use Rattle.vr_space.specs.UnderWay.{IsBegun, IsCopied, IsSwitched, IsReadyFor, KeyedUnderWay}
+use Rattle.vr_space.specs.UnderWay.{IsBegun, IsCopied, IsSwitched, IsReadyFor, AreaUnderWay}
 use Rattle.vr_space.specs.UnderWay.{interval_block, above_cut}
 use Rattle.vr_space.specs.Met.{Met, IsMet}
 use Rattle.vr_space.proofs.KeyedSound.{IsBlock, entry-in-above, head-in}
@@ -154,7 +154,7 @@ module _ (part : Keyed) (split : SplitNow) (a b : Seen) where
 pub way-stays : (part : Keyed) (split : Option SplitNow) (a b : Seen) → IsKeyedSound part a
     → Left a a.cur
     → ((now : SplitNow) → split ≡ Some now → AllStay part now a b)
-    → KeyedUnderWay part split a → KeyedUnderWay part split b
+    → AreaUnderWay part split a → AreaUnderWay part split b
 way-stays part None a b sound left stay is = tt
 way-stays part (Some split) a b sound left stay is =
     ready-stays part split a b split.stage sound left (stay split refl) is
@@ -180,7 +180,7 @@ module _ (tells : Bool) (told : IsTrue tells) where
       → Puts tells n bytes a b → IsKeyedSound part a → Left a a.cur
       → ((now : SplitNow) → split ≡ Some now → (m : ℕ) → InArea part m
       → IsSplitBlock part now m → m ≢ n)
-      → KeyedUnderWay part split a → KeyedUnderWay part split b
+      → AreaUnderWay part split a → AreaUnderWay part split b
   way-puts part split n bytes a b call sound left apart is =
       way-stays part split a b sound left
       (λ now some m block named.

@@ -1,11 +1,11 @@
 -- The blocks of one area of a keyed part: its head, which is a sequence-set record of one entry or
 -- more, and its control intervals (DFSMS Using Data Sets, key-sequenced data sets). A part is a
--- chain of such areas; nothing here asks that this one is the first or the last of its chain but
--- `IsWhole`. Which content the blocks stand for, and what a crash may leave of them, are this
+-- chain of such areas (`Areas.antt`); nothing here asks that this one is the first or the last of
+-- its chain. Which content the blocks stand for, and what a crash may leave of them, are this
 -- project's own rules.
 use Rattle.std.specs.Prelude.{◌≡◌, ℕ, ◌+◌, ◌<◌, ◌≤◌, true, false, IsTrue, List, [], ◌∷◌, ◌++◌}
 use Rattle.std.specs.Prelude.{length, take, drop, map, filter, All, Option, Some, None, slice_index}
-use Rattle.std.specs.Prelude.{replicate, if◌then◌else◌}
+use Rattle.std.specs.Prelude.{if◌then◌else◌}
 use Rattle.std.specs.List.{flat_map, last_or}
 use Rattle.std.specs.List.Sorted.{IsStrictlySortedBy}
 use Rattle.std.specs.Ordering.{is_le}
@@ -27,9 +27,9 @@ use Rattle.vr_space.specs.Way.{Way, Found, Reads}
 use Rattle.vr_space.specs.Room.{Lengths, Range, is_above, is_in, lengths_in, with_lengths}
 use Rattle.vr_space.specs.Room.{HaveRoom}
 
--- Where a keyed part is, and what its records are: the number of the part, the block of its head,
--- how many intervals an area has, the bytes of a block; the length and offset of the key, and the
--- longest record.
+-- Where an area of a keyed part is, and what its records are: the number of the part, the block of
+-- its head, how many intervals an area has, the bytes of a block; the length and offset of the key,
+-- and the longest record.
 pub record Keyed : Type 0 where
   pub part : ℕ
   pub head : ℕ
@@ -101,14 +101,6 @@ pub record IsHead (part : Keyed) (top : Block) : Type 0 where
   pub index : (record_in top).top ≡ 0
   pub index_area : (record_in top).index_area ≡ None
   pub single : All (λ (entry : Entry). length entry.intervals ≡ 1) (entries_of top)
-
--- It is the head of a part of one area: the first and the last of its chain, and its last range
--- goes up to the greatest key.
-pub record IsWhole (part : Keyed) (top : Block) : Type 0 where
-  pub first : (record_in top).first ≡ true
-  pub next : (record_in top).next ≡ None
-  pub last : (before : List Entry) (entry : Entry) → entries_of top ≡ before ++ entry ∷ []
-      → entry.high ≡ replicate part.key 255
 
 -- The head has the ends of another: its place in the chain, and where its ranges begin and end.
 pub record HasEnds (old new : Block) : Type 0 where
@@ -196,8 +188,8 @@ abbrev pub way_under : Keyed → List ℕ → Block → Way
 way_under part place top = way_in part place (entry_in top place)
 
 -- over the head and one interval
-abbrev pub keyed_way : Keyed → List ℕ → Way
-keyed_way part place = Reads part.head (way_under part place)
+abbrev pub area_way : Keyed → List ℕ → Way
+area_way part place = Reads part.head (way_under part place)
 
 -- ---- what a crash may leave
 
@@ -223,12 +215,8 @@ pub record IsKeyedAtRest (part : Keyed) (now : Seen) : Type 0 where
   pub sound : IsKeyedSound part now
   pub one_head : Only now part.head (λ top. top ≡ block_at now.cur part.head)
 
--- It leaves heads of a part of one area alone.
-abbrev pub AreWhole : Keyed → Seen → Type 0
-AreWhole part now = Only now part.head (IsWhole part)
-
--- Each head that a crash may leave has the ends of one that it might have left before. So whole
--- heads stay whole.
+-- Each head that a crash may leave has the ends of one that it might have left before. So the chain
+-- goes on as it did.
 abbrev pub KeepsEnds : Keyed → Seen → Seen → Type 0
 KeepsEnds part old new = (top : Block) → new.may part.head top
     → (before : Block) × old.may part.head before × HasEnds before top

@@ -4,10 +4,12 @@ pub mod Lent
 pub mod Whence
 pub mod Owners
 pub mod Keyed
+pub mod Rosters
+pub mod Areas
+pub mod AreaCalls
 pub mod Split
 pub mod UnderWay
 pub mod Met
-pub mod Rosters
 pub mod Slots
 pub mod Entries
 pub mod Known

@@ -1,12 +1,12 @@
 -- A part of a volume on its blocks: what they stand for, which items each place may hold in the
 -- images that a crash may leave, and what a call adds to that. The rules are this project's own.
-use Rattle.std.specs.Prelude.{◌≡◌, ◌≢◌, ◌⊎◌, ◌<◌, ◌≤◌, ◌+◌, ℕ, Bool, List, Option, Some, None, All}
+use Rattle.std.specs.Prelude.{◌≡◌, ◌≢◌, ◌⊎◌, ◌≤◌, ◌+◌, ℕ, Bool, List, Option, Some, None, All}
 use Rattle.std.specs.Prelude.{◌++◌, ◌∷◌, [], Contains, filter, length, option_and_then}
 use Rattle.std.specs.Option.{option_map}
 use Rattle.vr_types.specs.Content.{Content, Item, item_at, record_of}
 use Rattle.vr_types.specs.Content.Item.{Standing}
 use Rattle.vr_types.specs.Geometry.{area_count}
-use Rattle.vr_types.specs.Image.{Block, Image, block_at}
+use Rattle.vr_types.specs.Image.{Block, Image}
 use Rattle.vr_types.specs.Seen.{Seen}
 use Rattle.vr_types.specs.Regions.{Touches}
 use Rattle.vr_space.specs.Way.{Way, found_on, MayFind, MayOnceForced}
@@ -27,11 +27,12 @@ use Rattle.vr_space.specs.Room.{Lengths, length_at}
 use Rattle.vr_space.specs.Known.{Known}
 use Rattle.vr_space.specs.Split.{IsIntervalStage, keyed_room, keyed_stage, keyed_fits}
 use Rattle.vr_space.specs.UnderWay.{KeyedUnderWay}
-use Rattle.vr_space.specs.Met.{IsMet}
+use Rattle.vr_space.specs.Met.{IsChainMet}
 use Rattle.vr_space.specs.Owners.{Owners}
-use Rattle.vr_space.specs.Keyed.{AreWhole, InArea, IsOwned, IsWhole, Keyed, keyed_way}
-use Rattle.vr_space.specs.Keyed.{KeyedStandsFor, IsKeyedSound, IsKeyedAtRest, KeepsRoom, HaveRooms}
-use Rattle.vr_space.specs.Keyed.{IsValid, entries_of, key_of, low_of}
+use Rattle.vr_space.specs.Keyed.{InArea, IsValid, key_of}
+use Rattle.vr_space.specs.Areas.{ChainHasRoom, ChainKeepsRoom, ChainStandsFor, ChainStaysIn}
+use Rattle.vr_space.specs.Areas.{IsChainAtRest, IsChainOn, IsChainSound, KeyedChain, area_of}
+use Rattle.vr_space.specs.Areas.{KnowsAreas, chain_way}
 use Rattle.vr_space.specs.Rosters.{IsInArea, IsOf, Numbered}
 use Rattle.vr_space.specs.Numbered.{IsKeptLength, IsNumberPlace, IsNumberedAtRest, IsNumberedLength}
 use Rattle.vr_space.specs.Numbered.{IsNumberedOn, IsNumberedRecord, IsNumberedSound, KeepsNumbered}
@@ -40,7 +41,7 @@ use Rattle.vr_space.specs.Numbered.{left_in, numbered_fits, numbered_room, numbe
 
 -- Where a part is on its blocks and how they are spelled, by its kind.
 pub data Shape : Type 0 where
-  KeyedShape : Keyed → Shape
+  KeyedShape : KeyedChain → Shape
   NumberedShape : Numbered → Shape
 
 -- its number
@@ -50,7 +51,7 @@ part_no (NumberedShape part) = record { 0 = part.part }
 
 -- the blocks that it is on are there, with their size
 abbrev pub IsOn : Shape → Seen → Type 0
-IsOn (KeyedShape part) now = (part.head + part.area < now.count) × (now.size ≡ part.size)
+IsOn (KeyedShape part) now = IsChainOn part now
 IsOn (NumberedShape part) now = IsNumberedOn part now
 
 -- how long its places are at most
@@ -65,7 +66,7 @@ IsLengthOf (NumberedShape part) n = IsNumberedLength part.relative part.most n
 
 -- the blocks of its first area
 abbrev pub InFirstArea : Shape → ℕ → Type 0
-InFirstArea (KeyedShape part) n = InArea part n
+InFirstArea (KeyedShape part) n = InArea (area_of part part.first) n
 InFirstArea (NumberedShape part) n = IsInArea part part.first n
 
 -- the blocks that are its own
@@ -79,14 +80,13 @@ IsPlaceOf (NumberedShape part) place = IsNumberPlace part place
 
 -- a record that may stand at the place
 abbrev pub IsRecordOf : Shape → List ℕ → List ℕ → Type 0
-IsRecordOf (KeyedShape part) place bytes = IsValid part bytes × (key_of part bytes ≡ place)
+IsRecordOf (KeyedShape part) place bytes =
+    IsValid (area_of part part.first) bytes × (key_of (area_of part part.first) bytes ≡ place)
 IsRecordOf (NumberedShape part) place bytes = IsNumberedRecord part place bytes
 
--- The blocks of the image stand for the content. A keyed part has one area today, whose head is the
--- first and the last of its chain.
+-- the blocks of the image stand for the content
 abbrev pub StandsFor : Shape → Image → Content → Type 0
-StandsFor (KeyedShape part) image content =
-    KeyedStandsFor part image content × IsWhole part (block_at image part.head)
+StandsFor (KeyedShape part) image content = ChainStandsFor part image content
 StandsFor (NumberedShape part) image content = NumberedStandsFor part image content
 
 -- they stand for some content
@@ -95,20 +95,18 @@ Stands shape image = (content : Content) × StandsFor shape image content
 
 -- how a reader gets to a place
 abbrev pub way_to : Shape → List ℕ → Way
-way_to (KeyedShape part) place = keyed_way part place
+way_to (KeyedShape part) place = chain_way part place
 way_to (NumberedShape part) place = numbered_way part place
 
 -- every content that a crash may leave of a block is in order, and leads to blocks of the part
 -- alone
 abbrev pub IsSound : Shape → Owners → Seen → Type 0
-IsSound (KeyedShape part) owners now =
-    IsKeyedSound part now × AreWhole part now × IsOwned part owners
+IsSound (KeyedShape part) owners now = IsChainSound part owners now
 IsSound (NumberedShape part) owners now = IsNumberedSound part owners now
 
 -- and blocks that say where others are have one content
 abbrev pub IsAtRest : Shape → Owners → Seen → Type 0
-IsAtRest (KeyedShape part) owners now =
-    IsKeyedAtRest part now × AreWhole part now × IsOwned part owners
+IsAtRest (KeyedShape part) owners now = IsChainAtRest part owners now
 IsAtRest (NumberedShape part) owners now = IsNumberedAtRest part owners now
 
 -- the same, whichever blocks are the part's
@@ -117,19 +115,17 @@ IsQuiet shape now = (owners : Owners) × IsAtRest shape owners now
 
 -- the image leads to blocks of the part alone
 abbrev pub StaysIn : Shape → Owners → Image → Type 0
-StaysIn (KeyedShape part) owners image = IsOwned part owners
+StaysIn (KeyedShape part) owners image = ChainStaysIn part owners image
 StaysIn (NumberedShape part) owners image = NumberedStaysIn part owners image
 
 -- whatever a crash leaves of an interval, what is kept for its places has room beside it
 abbrev pub HasKeptRoom : Shape → Lengths → Seen → Type 0
-HasKeptRoom (KeyedShape part) kept now = KeepsRoom part kept now
+HasKeptRoom (KeyedShape part) kept now = ChainKeepsRoom part kept now
 HasKeptRoom (NumberedShape part) kept now = KeepsNumbered part kept now.may
 
 -- the same in one image
 abbrev pub HasRoom : Shape → Lengths → Image → Type 0
-HasRoom (KeyedShape part) kept image =
-    HaveRooms part kept image (low_of (block_at image part.head))
-    (entries_of (block_at image part.head))
+HasRoom (KeyedShape part) kept image = ChainHasRoom part kept image
 HasRoom (NumberedShape part) kept image = KeepsNumbered part kept (IsOf image)
 
 -- the item at a place
@@ -247,7 +243,8 @@ IsUnderWay (NumberedShape part) known now = Unit {0}
 
 -- the blocks that were met are as they were
 abbrev pub AreMet : Shape → Known → Image → Type 0
-AreMet (KeyedShape part) known image = All (IsMet part image) known.met
+AreMet (KeyedShape part) known image =
+    KnowsAreas part known.areas known.ends image × All (IsChainMet part image) known.met
 AreMet (NumberedShape part) known image = KnowsChain part known image
 
 -- The blocks are as the part knows them: by its split under way, and those that it met.
@@ -292,28 +289,27 @@ abbrev pub HasMore : Shape → Known → Known → Type 0
 HasMore (KeyedShape part) old new = Unit {0}
 HasMore (NumberedShape part) old new = new.used ≡ old.used + 1
 
--- The owners are those of as many areas as the volume of a chain has.
+-- the owners are those of as many areas as the volume has
 abbrev pub HasOwners : Shape → List (Option PartNo) → Type 0
-HasOwners (KeyedShape part) areas = Unit {0}
+HasOwners (KeyedShape part) areas = length areas ≡ area_count part.geometry
 HasOwners (NumberedShape part) areas = length areas ≡ area_count part.geometry
 
 -- how many areas a part owns
 abbrev pub owned_count : PartNo → List (Option PartNo) → ℕ
 owned_count part areas = length (filter (is_owner part) areas)
 
--- a keyed part owns its one area, and a part of chained areas as many as it keeps
+-- a part owns as many areas as it keeps
 abbrev pub OwnsChain : Shape → Known → List (Option PartNo) → Type 0
-OwnsChain (KeyedShape part) known areas = owned_count (record { 0 = part.part }) areas ≡ 1
-OwnsChain (NumberedShape part) known areas =
-    owned_count (record { 0 = part.part }) areas ≡ length known.areas
+OwnsChain shape known areas = owned_count (part_no shape) areas ≡ length known.areas
 
 -- the blocks of the areas that the part has, as it keeps them in memory
 abbrev pub InHeld : Shape → Known → ℕ → Type 0
-InHeld (KeyedShape part) known n = InArea part n
+InHeld (KeyedShape part) known n =
+    (area : ℕ) × Contains known.areas area × InArea (area_of part area) n
 InHeld (NumberedShape part) known n =
     (area : ℕ) × Contains known.areas area × IsInArea part area n
 
--- the blocks of an area that a stage of the part may claim: a keyed part stays in its one area
+-- the blocks of an area that a stage of the part may claim: a keyed part claims none yet
 abbrev pub InClaimed : Shape → ℕ → ℕ → Type 0
 InClaimed (KeyedShape part) area n = ⊥
 InClaimed (NumberedShape part) area n = IsInArea part area n

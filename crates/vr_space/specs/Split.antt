@@ -12,6 +12,7 @@ use Rattle.vr_space.specs.declared.room.Room as answer
 use Rattle.vr_space.specs.declared.room.Room.TheVariants.{Ready, Stage, NoSpace}
 use Rattle.vr_space.specs.Room.{Lengths, Range, with_length, have_room}
 use Rattle.vr_space.specs.Keyed.{Keyed, entries_of, entry_block, entry_in, lengths_of}
+use Rattle.vr_space.specs.Areas.{KeyedChain, area_for, area_of}
 
 -- A split of a control interval under way: the interval that is cut, the free one that gets the
 -- upper records, the greatest place that stays below the cut, and the stage that is next.
@@ -40,9 +41,10 @@ stage_at (Some split) entry =
     || nat_eq (slice_index entry.intervals 0) split.into
     then Some split.stage else None
 
--- the answer where a record lacks room: the next stage of the split under way, else a new split
-abbrev pub room_by_split : Option SplitNow → Option ℕ → answer.Room
-room_by_split (Some split) free = Stage split.stage
+-- the answer where a record lacks room: the next stage of the split of the part that is under way,
+-- wherever it is, else a new split
+abbrev pub room_by_split : Option StageKind → Option ℕ → answer.Room
+room_by_split (Some stage) free = Stage stage
 room_by_split None (Some free) = Stage CiCopy
 room_by_split None None = NoSpace 1 0
 
@@ -60,8 +62,8 @@ abbrev pub stage_in : Option SplitNow → Option (Range × Entry) → Option Sta
 stage_in split None = None
 stage_in split (Some found) = stage_at split found.1
 
-abbrev pub keyed_stage : Keyed → Option SplitNow → Image → List ℕ → Option StageKind
-keyed_stage part split image place =
+abbrev pub area_stage : Keyed → Option SplitNow → Image → List ℕ → Option StageKind
+area_stage part split image place =
     stage_in split (entry_in (block_at image part.head) place)
 
 -- a record of this length has room in the interval of its place
@@ -72,18 +74,67 @@ fits_in part image kept place n (Some found) =
     (with_length (lengths_of part kept found.0 (block_at image (entry_block part found.1)))
     place n)
 
-abbrev pub keyed_fits : Keyed → Image → Lengths → List ℕ → ℕ → Bool
-keyed_fits part image kept place n =
+abbrev pub area_fits : Keyed → Image → Lengths → List ℕ → ℕ → Bool
+area_fits part image kept place n =
     fits_in part image kept place n (entry_in (block_at image part.head) place)
 
--- What stands in the way of a record of this length at this place: a stage of a split of its
--- interval; the next stage of a split, where the interval lacks room; or nothing. Where no interval
--- is free, an area is needed, and a part of one area has none.
-abbrev pub keyed_room : Keyed → Option SplitNow → Image → Lengths → List ℕ → ℕ → answer.Room
+-- What stands in the way of a record of this length at this place of an area: a stage of a split of
+-- its interval; the next stage of the split of the part, where the interval lacks room; or nothing.
+-- Where no interval is free, an area is needed, and none is claimed yet. The split is that of the
+-- area, the stage that of the part.
+abbrev pub area_room : Keyed → Option SplitNow → Option StageKind → Image → Lengths → List ℕ → ℕ
+    → answer.Room
+area_room part split stage image kept place n =
+    room_after (area_stage part split image place)
+    (room_by (area_fits part image kept place n)
+    (room_by_split stage (free_interval part (block_at image part.head))))
+
+-- ---- the same of a part
+
+-- The split of a part that is under way: the area that it is in, and what is split there.
+pub record AreaSplit : Type 0 where
+  pub area : ℕ
+  pub split : SplitNow
+
+-- the split that is under way in this area
+abbrev pub split_in : Option AreaSplit → ℕ → Option SplitNow
+split_in None area = None
+split_in (Some now) area = if nat_eq now.area area then Some now.split else None
+
+-- its next stage, in whichever area
+abbrev pub stage_under : Option AreaSplit → Option StageKind
+stage_under None = None
+stage_under (Some now) = Some now.split.stage
+
+abbrev pub stage_by : KeyedChain → Option AreaSplit → Image → List ℕ → Option ℕ → Option StageKind
+stage_by part split image place None = None
+stage_by part split image place (Some area) =
+    area_stage (area_of part area) (split_in split area) image place
+
+-- the stage that is next at a place
+abbrev pub keyed_stage : KeyedChain → Option AreaSplit → Image → List ℕ → Option StageKind
+keyed_stage part split image place =
+    stage_by part split image place (area_for part image place)
+
+abbrev pub fits_by : KeyedChain → Image → Lengths → List ℕ → ℕ → Option ℕ → Bool
+fits_by part image kept place n None = false
+fits_by part image kept place n (Some area) = area_fits (area_of part area) image kept place n
+
+-- a record of this length has room in the interval of its place
+abbrev pub keyed_fits : KeyedChain → Image → Lengths → List ℕ → ℕ → Bool
+keyed_fits part image kept place n =
+    fits_by part image kept place n (area_for part image place)
+
+abbrev pub keyed_room_by : KeyedChain → Option AreaSplit → Image → Lengths → List ℕ → ℕ → Option ℕ
+    → answer.Room
+keyed_room_by part split image kept place n None = NoSpace 1 0
+keyed_room_by part split image kept place n (Some area) =
+    area_room (area_of part area) (split_in split area) (stage_under split) image kept place n
+
+-- what stands in the way of a record of this length at this place, in the area that reaches it
+abbrev pub keyed_room : KeyedChain → Option AreaSplit → Image → Lengths → List ℕ → ℕ → answer.Room
 keyed_room part split image kept place n =
-    room_after (keyed_stage part split image place)
-    (room_by (keyed_fits part image kept place n)
-    (room_by_split split (free_interval part (block_at image part.head))))
+    keyed_room_by part split image kept place n (area_for part image place)
 
 -- a stage of a split of one interval, which takes no area
 abbrev pub IsIntervalStage : StageKind → Type 0

@@ -2,6 +2,7 @@
 -- condition of the next. A split of a control interval is DFSMS Using Data Sets; its stages are
 -- this project's own.
 use Rattle.std.specs.Prelude.{◌≡◌, ℕ, ◌+◌, true, List, length, Option, Some, None, slice_index}
+use Rattle.std.specs.Prelude.{Contains}
 use Rattle.std.specs.declared.cmp.Ordering.TheVariants.{Less}
 use Rattle.vr_types.specs.Content.{place_cmp}
 use Rattle.vr_types.specs.Image.{Image, block_at}
@@ -12,7 +13,8 @@ use Rattle.vr_ci_match.specs.Fault.{is_busy}
 use Rattle.vr_seqset.specs.Entry.{Entry}
 use Rattle.vr_space.specs.Room.{Range}
 use Rattle.vr_space.specs.Keyed.{Keyed, HoldsRange, entry_in, records_in}
-use Rattle.vr_space.specs.Split.{SplitNow, free_interval}
+use Rattle.vr_space.specs.Split.{AreaSplit, SplitNow, free_interval}
+use Rattle.vr_space.specs.Areas.{KeyedChain, area_of, areas_in}
 
 -- the block of an interval
 abbrev pub interval_block : Keyed → ℕ → ℕ
@@ -65,7 +67,13 @@ IsReadyFor CiSwitch part split now = IsCopied part split now
 IsReadyFor CiClean part split now = IsSwitched part split now
 IsReadyFor stage part split now = ⊥
 
--- the blocks are as the split under way left them
-abbrev pub KeyedUnderWay : Keyed → Option SplitNow → Seen → Type 0
+-- the blocks of the area are as the split under way left them
+abbrev pub AreaUnderWay : Keyed → Option SplitNow → Seen → Type 0
+AreaUnderWay part None now = Unit {0}
+AreaUnderWay part (Some split) now = IsReadyFor split.stage part split now
+
+-- the same of a part, in one of whose areas the split is
+abbrev pub KeyedUnderWay : KeyedChain → Option AreaSplit → Seen → Type 0
 KeyedUnderWay part None now = Unit {0}
-KeyedUnderWay part (Some split) now = IsReadyFor split.stage part split now
+KeyedUnderWay part (Some now) seen = Contains (areas_in part seen.cur) now.area
+    × IsReadyFor now.split.stage (area_of part now.area) now.split seen

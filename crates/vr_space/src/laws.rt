@@ -18,7 +18,7 @@ pub fn one_content()
 {}
 
 /// What blocks stand for is a content: its places ascend. At each place it has the item that a
-/// reader comes to from the head.
+/// reader comes to.
 #[tactic(auto, using(crate::proofs::Rising::stands_content, crate::proofs::Adding::content_item))]
 pub fn content_is_read()
     ensures content { (shape : Shape) (image : Image) (content : Content)

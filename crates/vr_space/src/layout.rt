@@ -1,4 +1,4 @@
-//! Where a keyed part of one area is on its blocks, and what its records are.
+//! Where one area of a keyed part is on its blocks, and what its records are.
 ghost use Rattle.std.specs.Prelude.{◌≡◌, ◌<◌, ◌≤◌, ◌+◌, ◌↔◌, IsTrue, length};
 ghost use Rattle.std.specs.Ordering.{is_le};
 ghost use Rattle.vr_types.specs.Content.{place_cmp};
@@ -8,10 +8,10 @@ ghost use Rattle.vr_space.specs.UnderWay.{interval_block};
 use std::marker::Model;
 use vr_types::PartNo;
 
-/// Where a keyed part of one area is, and what its records are: the number of the part, the block
-/// of its head, the intervals of an area, the bytes of a block, the length and offset of the key,
-/// and the longest record, which has room in an interval of its own. Each of its blocks has a
-/// number of 32 bits.
+/// Where one area of a keyed part is, and what its records are: the number of the part, the block of
+/// its head, the intervals of an area, the bytes of a block, the length and offset of the key, and
+/// the longest record, which has room in an interval of its own. Each of its blocks has a number of
+/// 32 bits.
 #[derive(Drop)]
 pub struct Layout {
     pub part: PartNo,

@@ -6,6 +6,7 @@
 
 mod chain_layout;
 mod kept;
+mod keyed_layout;
 mod laws;
 mod layout;
 mod part;
@@ -17,6 +18,7 @@ mod whence;
 
 pub use chain_layout::ChainLayout;
 pub use kept::Kept;
+pub use keyed_layout::KeyedLayout;
 pub use laws::{content_is_read, kept_takes_no_room, one_content};
 pub use layout::Layout;
 pub use part::Part;

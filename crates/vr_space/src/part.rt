@@ -287,7 +287,7 @@ pub trait Part {
     fn address(&self, length: u32) -> Option<u32>
         ensures { result ≡ address_of (shape self.now) (known self.now) length };
 
-    /// How many areas it has, where they are a chain of rosters; 0 of a keyed part.
+    /// How many areas its chain has, as it keeps them in memory.
     fn areas(&self) -> u32
         ensures { result ≡ length (known self.now).areas };
 

@@ -1,5 +1,5 @@
--- A keyed part after a put into one of its intervals: at rest, with room, what has to be forced,
--- and which record each place has.
+-- An area of a keyed part after a put into one of its intervals: at rest, with room, what has to be
+-- forced, and which record each place has.
 use Rattle.std.proofs.Common.{◌≡◌, ◌≢◌, ⊎_elim, ◌<◌, ◌+◌, ℕ, Bool, IsTrue, List}
 use Rattle.std.proofs.Common.{[], ◌∷◌, Option, Some, None, refl, sym, ap, subst, ◌∙◌}
 use Rattle.std.proofs.Common.{arith}
@@ -15,13 +15,12 @@ use Rattle.vr_types.proofs.CallerLemmas.{cur-elsewhere, puts-touches}
 use Rattle.vr_seqset.specs.Entry.{Entry}
 use Rattle.vr_space.specs.Way.{found_on, MayFind, MayOnceForced}
 use Rattle.vr_space.specs.Room.{Lengths, Range, HaveRoom}
-use Rattle.vr_space.specs.Keyed.{Keyed, HoldsRange, IsKeyedSound, IsKeyedAtRest}
-use Rattle.vr_space.specs.Keyed.{KeepsEnds, KeepsRoom, entries_of, entry_block, entry_in}
-use Rattle.vr_space.specs.Keyed.{InArea, IsOwned, lengths_of, low_of, records_of, way_in, way_under}
-use Rattle.vr_space.specs.Owners.{Owners}
-use Rattle.vr_space.specs.Part.{KeyedShape, SetsOne, IsDueTo, HasRoom, InPart, item_of}
-use Rattle.vr_space.proofs.CallerLemmas.{area-room-image, each-less, ends-less, entry-in-above}
-use Rattle.vr_space.proofs.CallerLemmas.{head-in}
+use Rattle.vr_space.specs.Keyed.{HasEnds, Keyed, HoldsRange, IsKeyedSound, IsKeyedAtRest, KeepsRoom}
+use Rattle.vr_space.specs.Keyed.{InArea, entries_of, entry_block, entry_in}
+use Rattle.vr_space.specs.Keyed.{lengths_of, low_of, records_of, way_in, way_under}
+use Rattle.vr_space.specs.AreaCalls.{HasRoomHere, IsDueHere, SetsHere, item_here}
+use Rattle.vr_space.proofs.CallerLemmas.{area-room-image, each-less, entry-in-above, head-in}
+use Rattle.vr_space.proofs.CallerLemmas.{same-ends}
 use Rattle.vr_split.specs.Switching.{OfRead, entry_read}
 use Rattle.vr_split.proofs.Puts.{also, OfBlock, each-also, KeepsOthers, equal_or}
 use Rattle.vr_split.proofs.Puts.{head-still, still-found, led-is, interval-sound}
@@ -35,12 +34,14 @@ module _ (part : Keyed) (tells : Bool) (told : IsTrue tells) (a b : Seen) (n : �
         ⊎_elim (λ old. old) (λ new. absurd (other (sym new.0)))
         (call.adds told part.head top (omega (arith, sound.area)) may)
 
-    -- so each has its ends
-    pub ends-after : IsKeyedSound part a → Puts tells n bytes a b → n ≢ part.head
-        → KeepsEnds part a b
-    ends-after sound call other = ends-less part a b (head-before sound call other)
+    -- the current head has its ends
+    pub current-after : Puts tells n bytes a b → n ≢ part.head
+        → HasEnds (block_at a.cur part.head) (block_at b.cur part.head)
+    current-after call other = subst (HasEnds (block_at a.cur part.head))
+        (sym (head-still part tells told a b n bytes call other))
+        (same-ends (block_at a.cur part.head))
 
-    -- the part is at rest
+    -- the area is at rest
     pub rest-after : IsKeyedAtRest part a → Puts tells n bytes a b → n ≢ part.head
         → IsKeyedSound part b → IsKeyedAtRest part b
     rest-after rests call other sound = record {
@@ -94,18 +95,15 @@ module _ (part : Keyed) (tells : Bool) (told : IsTrue tells) (a b : Seen) (n : �
         → n ≢ part.head → InArea part n → KeepsRoom part kept a
         → OfRead part a.cur n (λ range. HoldsRange part range bytes)
         → OfRead part a.cur n (λ range. HaveRoom part.size (lengths_of part kept range bytes))
-        → (owners : Owners) → IsOwned part owners
-        → Touches (InPart (KeyedShape part) owners) (HasRoom (KeyedShape part) kept) a b
-    rooms-after kept rests call other inside room holds of owners owned =
-        puts-touches tells (InPart (KeyedShape part) owners) (HasRoom (KeyedShape part) kept) n
-        bytes a b told (owned n inside) call
-        (area-room-image part owners kept (also a n bytes)
-        (interval-sound part a n bytes rests other holds) owned
-        (room-also kept rests other room of))
+        → Touches (InArea part) (HasRoomHere part kept) a b
+    rooms-after kept rests call other inside room holds of =
+        puts-touches tells (InArea part) (HasRoomHere part kept) n bytes a b told inside call
+        (area-room-image part kept (also a n bytes)
+        (interval-sound part a n bytes rests other holds) (room-also kept rests other room of))
 
     -- how a place is read by way of the same head
     read-after : Puts tells n bytes a b → n ≢ part.head → (place : List ℕ)
-        → item_of (KeyedShape part) b.cur place ≡ found_on b.cur
+        → item_here part b.cur place ≡ found_on b.cur
         (way_in part place (entry_read part a.cur place))
     read-after call other place =
         ap (λ (top : Block). found_on b.cur (way_under part place top))
@@ -117,7 +115,7 @@ module _ (part : Keyed) (tells : Bool) (told : IsTrue tells) (a b : Seen) (n : �
         → entry_read part a.cur at ≡ Some led → entry_block part led.1 ≡ n
         → item_at (records_of part bytes) at ≡ option_map Standing given
         → KeepsOthers part a n bytes at (option_map Standing given)
-        → SetsOne (KeyedShape part) at given a.cur b.cur
+        → SetsHere part at given a.cur b.cur
     sets-one at given led call other now leads here has keeps = record {
       here = read-after call other at
           ∙ ap (λ (found : Option (Range × Entry)). found_on b.cur (way_in part at found)) leads
@@ -172,8 +170,8 @@ module _ (part : Keyed) (tells : Bool) (told : IsTrue tells) (a b : Seen) (n : �
         → Puts tells n bytes a b → n ≢ part.head
         → ((at : Range × Entry) → entry_read part a.cur place ≡ Some at
         → entry_block part at.1 ≡ n → (block : Block) → MayOnceForced listed b n block
-        → item_at (records_of part block) place ≡ item_of (KeyedShape part) b.cur place)
-        → IsDueTo (KeyedShape part) listed a place → IsDueTo (KeyedShape part) listed b place
+        → item_at (records_of part block) place ≡ item_here part b.cur place)
+        → IsDueHere part listed a place → IsDueHere part listed b place
     due-put listed place rests left call other leads due item is =
         let now : Block = block_at a.cur part.head in
         let may : a.may part.head now = left.each part.head (omega (arith, rests.sound.area)) in

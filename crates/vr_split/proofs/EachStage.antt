@@ -19,7 +19,7 @@ use Rattle.vr_space.specs.Keyed.{Keyed, HoldsRange, EachMayLeave, IsKeyedAtRest}
 use Rattle.vr_space.specs.Keyed.{entries_of, entry_above, entry_block, entry_for, entry_in}
 use Rattle.vr_space.specs.Keyed.{length_of, lengths_of, low_in, low_of, records_of}
 use Rattle.vr_space.specs.Keyed.{records_in, way_in, way_under}
-use Rattle.vr_space.specs.Part.{KeyedShape, item_of}
+use Rattle.vr_space.specs.AreaCalls.{item_here}
 use Rattle.vr_space.specs.Split.{SplitNow, free_interval}
 use Rattle.vr_space.specs.UnderWay.{IsBegun, IsCopied, IsSwitched, IsStable, interval_block}
 use Rattle.vr_space.specs.UnderWay.{above_cut}
@@ -192,7 +192,7 @@ module _ (part : Keyed) (kept : Lengths) (split : SplitNow) (a : Seen)
     moved-record : (place : List ℕ) (to : Range × Entry) → is_in to.0 place ≡ true
         → to.0 ≡ above_cut at_range split.cut
         → entry_in (block_at a.cur part.head) place ≡ Some begun.at
-        → item_at (records_of part into_now) place ≡ item_of (KeyedShape part) a.cur place
+        → item_at (records_of part into_now) place ≡ item_here part a.cur place
     moved-record place to within range leads =
         same-record part (above_cut at_range split.cut) old_now into_now place
         (subst (λ (r : Range). is_in r place ≡ true) range within) copied.records
@@ -205,7 +205,7 @@ module _ (part : Keyed) (kept : Lengths) (split : SplitNow) (a : Seen)
         ≡ way_under part place (block_at a.cur part.head))
         ⊎ ((at : Range × Entry) × (entry_above low_now entries_new place ≡ Some at)
         × Only a (entry_block part at.1)
-        (λ block. item_at (records_of part block) place ≡ item_of (KeyedShape part) a.cur place))
+        (λ block. item_at (records_of part block) place ≡ item_here part a.cur place))
     switch-at place = ⊎_elim
         (λ same. inl same)
         (λ moved.
@@ -254,7 +254,7 @@ module _ (part : Keyed) (kept : Lengths) (split : SplitNow) (a : Seen)
               ⊎ ((at : Range × Entry) × (entry_above (low_in s) s.entries place ≡ Some at)
               × Only a (entry_block part at.1)
               (λ block. item_at (records_of part block) place
-              ≡ item_of (KeyedShape part) a.cur place))) (sym said) (switch-at place);
+              ≡ item_here part a.cur place))) (sym said) (switch-at place);
         }
 
   -- ---- the cleaning

@@ -9,7 +9,6 @@ use Rattle.vr_types.specs.Content.{Content, Placed}
 use Rattle.vr_types.specs.Image.{Block, Image, block_at}
 use Rattle.vr_types.specs.Seen.{Seen, Left, Only}
 use Rattle.vr_types.specs.Blocks.{Keeps, Puts}
-use Rattle.vr_types.proofs.CallerLemmas.{keeps-touches}
 use Rattle.vr_types.specs.declared.unit.StageKind.{StageKind}
 use Rattle.vr_types.specs.declared.unit.StageKind.TheVariants.{CiSwitch, CiClean}
 use Rattle.vr_ci_match.specs.declared.form.Form.TheVariants.{Plain}
@@ -22,13 +21,13 @@ use Rattle.vr_seqset.proofs.CallerLemmas.{record_is}
 use Rattle.vr_ci_match.specs.Fault.{is_busy}
 use Rattle.vr_space.specs.Room.{Lengths, Range, HaveRoom, is_in, weight}
 use Rattle.vr_space.specs.Keyed.{Keyed, HoldsRange, EachMayLeave, IsKeyedSound, IsKeyedAtRest}
-use Rattle.vr_space.specs.Keyed.{KeepsRoom, entries_of, items_of, length_of, low_of}
+use Rattle.vr_space.specs.Keyed.{HasEnds, KeepsRoom, entries_of, items_of, length_of, low_of}
 use Rattle.vr_space.specs.Keyed.{lengths_of, placed, range_of, key_of}
-use Rattle.vr_space.specs.Part.{HasRoom, InPart, KeyedShape}
 use Rattle.vr_space.specs.Split.{SplitNow}
-use Rattle.vr_space.specs.UnderWay.{KeyedUnderWay, IsBegun, IsCopied, IsSwitched, interval_block}
-use Rattle.vr_space.proofs.CallerLemmas.{IsBlock, area-due-keeps, area-room-image, area-room-less}
-use Rattle.vr_space.proofs.CallerLemmas.{ends-less, keeps-adds, keyed-rest, same-keeps, way-stays}
+use Rattle.vr_space.specs.UnderWay.{AreaUnderWay, IsBegun, IsCopied, IsSwitched, interval_block}
+use Rattle.vr_space.proofs.CallerLemmas.{due-here-keeps, keeps-here, less-here, rest-here-keeps}
+use Rattle.vr_space.proofs.CallerLemmas.{room-here-keeps, rooms-here-keep, same-ends}
+use Rattle.vr_space.proofs.CallerLemmas.{same-here-keeps, way-stays}
 use Rattle.vr_split.specs.Switching.{IsResting, KeepsPart, IsStageDone, IsIntervalBlock, IsFree}
 use Rattle.vr_split.specs.Switching.{CanReplace, CanSwitch, IsSettledAt}
 use Rattle.vr_split.specs.Halves.{halves, MakesUpper, MakesLower, MakesHead, IsBusyCopy}
@@ -89,50 +88,40 @@ none-kept part now sound = record {
 
 module _ (part : Keyed) (tells : Bool) (told : IsTrue tells) (a m : Seen) (call : Keeps tells a m)
     (rests : IsKeyedAtRest part a) where
-  -- a crash may leave no more
-  less-kept : (n : ℕ) (block : Block) → IsBlock part a n → m.may n block → a.may n block
-  less-kept n block is may = call.adds_none told n block is.0 may
-
   head-kept : block_at m.cur part.head ≡ block_at a.cur part.head
   head-kept = ap (λ (image : Image). block_at image part.head) (call.content told)
 
-  kept-room : (kept : Lengths) → KeepsRoom part kept a → KeepsRoom part kept m
-  kept-room kept room = area-room-less part kept a m less-kept rests.sound room
-
   pub kept-part : (kept : Lengths) → KeepsRoom part kept a → KeepsPart part kept a m
   kept-part kept room = record {
-    adds = λ whole owners owned. keeps-adds tells told (KeyedShape part) owners a m call
-        (rests.sound, whole, owned);
-    same = same-keeps tells told (KeyedShape part) a m call;
-    ends = ends-less part a m
-        (λ top may. call.adds_none told part.head top (omega (arith, rests.sound.area)) may);
-    room = kept-room kept room;
-    rooms = λ owners owned. keeps-touches tells (InPart (KeyedShape part) owners)
-        (HasRoom (KeyedShape part) kept) a m told call
-        (area-room-image part owners kept a rests.sound owned room);
+    adds = keeps-here tells told part a m call rests.sound;
+    same = same-here-keeps tells told part a m call;
+    current = subst (HasEnds (block_at a.cur part.head)) (sym head-kept)
+        (same-ends (block_at a.cur part.head));
+    room = room-here-keeps tells told part a m call rests.sound kept room;
+    rooms = rooms-here-keep tells told part a m call rests.sound kept room;
   }
 
   pub kept-rest : IsKeyedAtRest part m
-  kept-rest = keyed-rest part a m call.count_same call.size_same less-kept head-kept rests
+  kept-rest = rest-here-keeps tells told part a m call rests
 
   pub kept-resting : (kept : Lengths) → KeepsRoom part kept a → IsResting part kept m
   kept-resting kept room = record {
     rests = kept-rest;
-    room = kept-room kept room;
+    room = room-here-keeps tells told part a m call rests.sound kept room;
   }
 
   pub kept-done : IsStageDone part a m
   kept-done = record {
     rests = kept-rest;
-    due = area-due-keeps tells told part a m call rests.sound;
+    due = due-here-keeps tells told part a m call rests.sound;
   }
 
-  pub kept-way : (split : SplitNow) → Left a a.cur → KeyedUnderWay part (Some split) a
-      → KeyedUnderWay part (Some split) m
+  pub kept-way : (split : SplitNow) → Left a a.cur → AreaUnderWay part (Some split) a
+      → AreaUnderWay part (Some split) m
   kept-way split left way = way-stays part (Some split) a m rests.sound left
       (λ now some n is named. record {
         cur = ap (λ (image : Image). block_at image n) (call.content told);
-        less = λ block may. less-kept n block is may;
+        less = λ block may. less-here tells told part a m call n block is may;
       }) way
 
   pub then-part : (kept : Lengths) (b : Seen) → KeepsRoom part kept a → KeepsPart part kept m b

@@ -1,4 +1,5 @@
--- A put into one block of a keyed part: what it owes, and what it adds to what places may hold.
+-- A put into one block of an area of a keyed part: what it owes, and what it adds to what places may
+-- hold.
 use Rattle.std.proofs.Common.{◌≡◌, ◌≢◌, ◌⊎◌, inl, inr, ⊎_elim, ◌<◌, ℕ, Bool, IsTrue, true}
 use Rattle.std.proofs.Common.{false, List, [], ◌∷◌, Option, Some, None, refl, sym, ap, subst, ◌∙◌}
 use Rattle.std.proofs.Common.{arith, true≢false, is_some, length}
@@ -13,16 +14,15 @@ use Rattle.vr_types.proofs.CallerLemmas.{puts-touches, cur-elsewhere, cur-put}
 use Rattle.vr_seqset.specs.Entry.{Entry}
 use Rattle.vr_space.specs.Way.{found_on, MayFind}
 use Rattle.vr_space.specs.Room.{Range}
-use Rattle.vr_space.specs.Keyed.{AreWhole, Keyed, HoldsRange, EachMayLeave, IsKeyedSound}
+use Rattle.vr_space.specs.Keyed.{Keyed, HoldsRange, EachMayLeave, InArea, IsKeyedSound, KeepsEnds}
 use Rattle.vr_space.specs.Keyed.{IsKeyedAtRest, entries_of, entry_block, entry_for, entry_in}
-use Rattle.vr_space.specs.Keyed.{InArea, IsOwned, keyed_way, low_of, range_of, records_of, way_in}
-use Rattle.vr_space.specs.Keyed.{way_under}
-use Rattle.vr_space.specs.Owners.{Owners}
-use Rattle.vr_space.specs.Part.{KeyedShape, InPart, HasOnly, MayHold, MayAlsoHold, AddsTo}
-use Rattle.vr_space.specs.Part.{Nothing, Just, SameRecords, item_of}
-use Rattle.vr_space.proofs.CallerLemmas.{found-may, find-more, within-less}
+use Rattle.vr_space.specs.Keyed.{area_way, low_of, range_of, records_of, way_in, way_under}
+use Rattle.vr_space.specs.Part.{Nothing, Just}
+use Rattle.vr_space.specs.AreaCalls.{AddsHere, HasHere, MayAlsoHoldHere, MayHoldHere, SameHere}
+use Rattle.vr_space.specs.AreaCalls.{item_here}
+use Rattle.vr_space.proofs.CallerLemmas.{found-may, find-less, found-above}
 use Rattle.vr_space.proofs.CallerLemmas.{keyed-within, keyed-image, keyed-less, IsBlock}
-use Rattle.vr_space.proofs.CallerLemmas.{only-weaken, found-above, whole-less}
+use Rattle.vr_space.proofs.CallerLemmas.{ends-less, ends-then, here-since, here-weaken}
 use Rattle.vr_split.specs.Switching.{OfRead, entry_read}
 pub use Rattle.vr_split.specs.Switching.{OfBlock}
 
@@ -45,37 +45,33 @@ sound-put part tells n bytes a b told call sound =
     keyed-less part (also a n bytes) b call.count_same call.size_same
     (λ k block is may. call.adds told k block is.0 may) sound
 
--- A put into a block of the part: it owes that what a crash may leave is in order with the bytes
--- too, and that A allows what may be held then.
+-- A put into a block of the area: it owes that what a crash may leave is in order with the bytes
+-- too, that heads keep their ends, and that A allows what may be held then.
 pub puts-adds : (part : Keyed) (tells : Bool) (A : List ℕ → Option Item
     → Type 0) (n : ℕ) (bytes : Block) (a b : Seen) → IsTrue tells → Puts tells n bytes a b
     → InArea part n → IsKeyedSound part (also a n bytes)
     → ((place : List ℕ) (item : Option Item)
-    → MayHold (KeyedShape part) (MayAlso a.may n bytes) place item
-    → MayAlsoHold (KeyedShape part) a.may A place item)
-    → AreWhole part (also a n bytes) → (owners : Owners)
-    → IsOwned part owners → AddsTo (KeyedShape part) owners A a b
-puts-adds part tells A n bytes a b told call inside sound allowed whole owners owned =
-    let within : (k : ℕ) (block : Block) → IsBlock part (also a n bytes) k → b.may k block
+    → MayHoldHere part (MayAlso a.may n bytes) place item
+    → MayAlsoHoldHere part a.may A place item)
+    → KeepsEnds part a (also a n bytes) → AddsHere part A a b
+puts-adds part tells A n bytes a b told call inside sound allowed ends =
+    let more : Seen = also a n bytes in
+    let within : (k : ℕ) (block : Block) → IsBlock part more k → b.may k block
     → MayAlso a.may n bytes k block = λ k block is may. call.adds told k block is.0 may in
     record {
-      touches = puts-touches tells (InPart (KeyedShape part) owners)
-          (HasOnly (KeyedShape part) owners (MayAlsoHold (KeyedShape part) a.may A)) n bytes a b
-          told (owned n inside) call
-          (λ image left. only-weaken (KeyedShape part) owners
-          (MayHold (KeyedShape part) (MayAlso a.may n bytes))
-          (MayAlsoHold (KeyedShape part) a.may A) allowed image
-          (keyed-image part (also a n bytes) owners (sound, whole, owned) image left));
+      touches = puts-touches tells (InArea part) (HasHere part a (MayAlsoHoldHere part a.may A)) n
+          bytes a b told inside call
+          (λ image left. here-weaken part a (MayHoldHere part more.may)
+          (MayAlsoHoldHere part a.may A) allowed image
+          (here-since part a more (MayHoldHere part more.may) ends image
+          (keyed-image part more sound image left)));
       rest = λ place item holds. allowed place item
-          (find-more (IsBlock part (also a n bytes)) b.may (MayAlso a.may n bytes) item within
-          (keyed_way part place)
-          (within-less (IsBlock part (also a n bytes)) b.may (MayAlso a.may n bytes) within
-          (keyed_way part place) (keyed-within part (also a n bytes) sound place)) holds);
-      sound = (
-        sound-put part tells n bytes a b told call sound,
-        whole-less part (also a n bytes) b within sound whole,
-        owned,
-      );
+          (find-less (IsBlock part more) b.may more.may item within (area_way part place)
+          (keyed-within part more sound place) holds);
+      sound = sound-put part tells n bytes a b told call sound;
+      ends = ends-then part a more b ends
+          (ends-less part more b
+          (λ top may. call.adds told part.head top (omega (arith, sound.area)) may));
     }
 
 -- ---- a put into an interval
@@ -97,9 +93,9 @@ module _ (part : Keyed) (a : Seen) (n : ℕ) (bytes : Block) where
       → a.may part.head top
   head-may other top = ⊎_elim (λ old. old) (λ new. absurd (other (sym new.0)))
 
-  -- so they stay whole
-  pub interval-whole : n ≢ part.head → AreWhole part a → AreWhole part (also a n bytes)
-  interval-whole other whole = λ top may. whole top (head-may other top may)
+  -- so they keep their ends
+  pub interval-ends : n ≢ part.head → KeepsEnds part a (also a n bytes)
+  interval-ends other = ends-less part a (also a n bytes) (head-may other)
 
   pub interval-sound : IsKeyedAtRest part a → n ≢ part.head
       → OfRead part a.cur n (λ range. HoldsRange part range bytes)
@@ -137,8 +133,8 @@ module _ (part : Keyed) (a : Seen) (n : ℕ) (bytes : Block) where
   -- there
   pub interval-hold : IsKeyedAtRest part a → n ≢ part.head
       → (place : List ℕ) (item : Option Item)
-      → MayHold (KeyedShape part) (MayAlso a.may n bytes) place item
-      → MayHold (KeyedShape part) a.may place item
+      → MayHoldHere part (MayAlso a.may n bytes) place item
+      → MayHoldHere part a.may place item
       ⊎ ((at : Range × Entry) × (entry_read part a.cur place ≡ Some at)
       × (entry_block part at.1 ≡ n) × (item ≡ item_at (records_of part bytes) place))
   interval-hold rests other place item is =
@@ -157,13 +153,13 @@ module _ (part : Keyed) (a : Seen) (n : ℕ) (bytes : Block) where
   abbrev pub KeepsRecords : Type 0
   KeepsRecords = (place : List ℕ) (at : Range × Entry) → entry_read part a.cur place ≡ Some at
       → entry_block part at.1 ≡ n
-      → item_at (records_of part bytes) place ≡ item_of (KeyedShape part) a.cur place
+      → item_at (records_of part bytes) place ≡ item_here part a.cur place
 
   -- or they do at all places but one, which has this
   abbrev pub KeepsOthers : List ℕ → Option Item → Type 0
   KeepsOthers at new = (place : List ℕ) (found : Range × Entry)
       → entry_read part a.cur place ≡ Some found → entry_block part found.1 ≡ n
-      → (item_at (records_of part bytes) place ≡ item_of (KeyedShape part) a.cur place)
+      → (item_at (records_of part bytes) place ≡ item_here part a.cur place)
       ⊎ ((place ≡ at) × (item_at (records_of part bytes) place ≡ new))
 
 -- ---- how entries lead
@@ -203,44 +199,42 @@ module _ (part : Keyed) (tells : Bool) (told : IsTrue tells) (a b : Seen) (n : �
   where
     -- what is read may be held
     pub current-held : IsKeyedSound part a → Left a a.cur → (place : List ℕ)
-        → MayHold (KeyedShape part) a.may place (item_of (KeyedShape part) a.cur place)
+        → MayHoldHere part a.may place (item_here part a.cur place)
     current-held sound left place =
-        found-may (IsBlock part a) a.may a.cur (λ k is. left.each k is.0) (keyed_way part place)
+        found-may (IsBlock part a) a.may a.cur (λ k is. left.each k is.0) (area_way part place)
         (keyed-within part a sound place)
 
     -- an interval is written with the records that it has
     pub rewrite-adds : IsKeyedAtRest part a → Left a a.cur → Puts tells n bytes a b → n ≢ part.head
         → InArea part n → OfRead part a.cur n (λ range. HoldsRange part range bytes)
-        → KeepsRecords part a n bytes → AreWhole part a → (owners : Owners)
-        → IsOwned part owners → AddsTo (KeyedShape part) owners Nothing a b
-    rewrite-adds rests left call other inside of keeps whole =
+        → KeepsRecords part a n bytes → AddsHere part Nothing a b
+    rewrite-adds rests left call other inside of keeps =
         puts-adds part tells Nothing n bytes a b told call inside
         (interval-sound part a n bytes rests other of)
         (λ place item holds. ⊎_elim
         (λ old. inl old)
-        (λ new. inl (subst (MayHold (KeyedShape part) a.may place) (sym (new.3
+        (λ new. inl (subst (MayHoldHere part a.may place) (sym (new.3
         ∙ keeps place new.0 new.1 new.2)) (current-held rests.sound left place)))
         (interval-hold part a n bytes rests other place item holds))
-        (interval-whole part a n bytes other whole)
+        (interval-ends part a n bytes other)
 
     -- it is written with one record changed
     pub set-adds : (at : List ℕ) (new : Option Item) → IsKeyedAtRest part a → Left a a.cur
         → Puts tells n bytes a b → n ≢ part.head → InArea part n
         → OfRead part a.cur n (λ range. HoldsRange part range bytes)
-        → KeepsOthers part a n bytes at new → AreWhole part a → (owners : Owners)
-        → IsOwned part owners → AddsTo (KeyedShape part) owners (Just at new) a b
-    set-adds at new rests left call other inside of keeps whole =
+        → KeepsOthers part a n bytes at new → AddsHere part (Just at new) a b
+    set-adds at new rests left call other inside of keeps =
         puts-adds part tells (Just at new) n bytes a b told call inside
         (interval-sound part a n bytes rests other of)
         (λ place item holds. ⊎_elim
         (λ old. inl old)
         (λ led. ⊎_elim
-        (λ same. inl (subst (MayHold (KeyedShape part) a.may place) (sym (led.3
+        (λ same. inl (subst (MayHoldHere part a.may place) (sym (led.3
         ∙ same)) (current-held rests.sound left place)))
         (λ here. inr (here.0, led.3 ∙ here.1))
         (keeps place led.0 led.1 led.2))
         (interval-hold part a n bytes rests other place item holds))
-        (interval-whole part a n bytes other whole)
+        (interval-ends part a n bytes other)
 
     -- no entry leads to the block
     abbrev pub IsFreeBlock : Type 0
@@ -248,8 +242,7 @@ module _ (part : Keyed) (tells : Bool) (told : IsTrue tells) (a b : Seen) (n : �
 
     -- a free interval is written
     pub free-adds : IsKeyedAtRest part a → Left a a.cur → Puts tells n bytes a b → n ≢ part.head
-        → InArea part n → IsFreeBlock → AreWhole part a → (owners : Owners)
-        → IsOwned part owners → AddsTo (KeyedShape part) owners Nothing a b
+        → InArea part n → IsFreeBlock → AddsHere part Nothing a b
     free-adds rests left call other inside free =
         let top : Block = block_at a.cur part.head in
         rewrite-adds rests left call other inside (of-none (low_of top) (entries_of top) free)
@@ -300,14 +293,14 @@ module _ (part : Keyed) (tells : Bool) (told : IsTrue tells) (a b : Seen) (n : �
 
     pub led-is : (place : List ℕ) (at : Range × Entry)
         → entry_read part a.cur place ≡ Some at
-        → item_of (KeyedShape part) a.cur place ≡ item_at
+        → item_here part a.cur place ≡ item_at
         (records_of part (block_at a.cur (entry_block part at.1))) place
     led-is place at is =
         ap (λ (found : Option (Range × Entry)). found_on a.cur (way_in part place found)) is
 
     -- each place has its record, whether the put failed or not
     pub rewrite-same : Puts tells n bytes a b → n ≢ part.head → n < a.count → length a.cur ≡ a.count
-        → KeepsRecords part a n bytes → SameRecords (KeyedShape part) a.cur b.cur
+        → KeepsRecords part a n bytes → SameHere part a.cur b.cur
     rewrite-same call other below long keeps place =
         ap (λ (top : Block). found_on b.cur (way_under part place top)) (head-still call other)
         ∙ still-found place (entry_read part a.cur place) call

@@ -17,7 +17,7 @@ use Rattle.vr_space.specs.Room.{Lengths, Range, HaveRoom, is_above}
 use Rattle.vr_space.specs.Keyed.{Keyed, IsHead, HoldsRange, IsKeyedAtRest, KeepsRoom, entries_of}
 use Rattle.vr_space.specs.Keyed.{entry_block, entry_for, entry_in, lengths_of, low_of, records_of}
 use Rattle.vr_space.specs.Keyed.{way_in}
-use Rattle.vr_space.specs.Part.{KeyedShape, item_of}
+use Rattle.vr_space.specs.AreaCalls.{item_here}
 use Rattle.vr_space.specs.Search.{IsEntryFor, range_found}
 use Rattle.vr_space.specs.declared.search.FoundEntry.{FoundEntry}
 use Rattle.vr_space.specs.Split.{SplitNow, free_from}
@@ -105,7 +105,7 @@ module _ (part : Keyed) (split : SplitNow) (a : Seen) (rests : IsKeyedAtRest par
   -- a place that leads there has the record that stands there
   pub item-found : (place : List ℕ) (at : Range × Entry)
       → entry_in top_now place ≡ Some at
-      → item_of (KeyedShape part) a.cur place ≡ item_at
+      → item_here part a.cur place ≡ item_at
       (records_of part (block_at a.cur (entry_block part at.1))) place
   item-found place at is =
       ap (λ (found : Option (Range × Entry)). found_on a.cur (way_in part place found)) is

@@ -7,14 +7,16 @@ use Rattle.vr_types.specs.Seen.{Seen, Left, Only}
 use Rattle.vr_types.specs.Blocks.{Puts}
 use Rattle.vr_types.proofs.CallerLemmas.{touches-then}
 use Rattle.vr_space.specs.Room.{Lengths, HaveRoom}
-use Rattle.vr_space.specs.Keyed.{Keyed, HoldsRange, entries_of, entry_in, lengths_of, low_of}
+use Rattle.vr_space.specs.Keyed.{InArea, Keyed, HoldsRange, entries_of, entry_in, lengths_of, low_of}
 use Rattle.vr_space.specs.Keyed.{records_of}
-use Rattle.vr_space.specs.Part.{KeyedShape, Nothing, SameRecords, HasRoom, InPart}
-use Rattle.vr_space.proofs.CallerLemmas.{nothing-then, records-then, due-then, ends-then}
+use Rattle.vr_space.specs.Part.{Nothing}
+use Rattle.vr_space.specs.AreaCalls.{HasRoomHere, SameHere}
+use Rattle.vr_space.proofs.CallerLemmas.{due-here-then, ends-after}
+use Rattle.vr_space.proofs.CallerLemmas.{nothing-then-here, same-here-then}
 use Rattle.vr_split.specs.Switching.{OfBlock, IsIntervalBlock, IsResting, CanReplace, KeepsPart}
 use Rattle.vr_split.specs.Switching.{IsStageDone}
 use Rattle.vr_split.proofs.Puts.{interval-sound, rewrite-adds, rewrite-same, sound-put}
-use Rattle.vr_split.proofs.After.{ends-after, rest-after, room-after, rooms-after, due-put}
+use Rattle.vr_split.proofs.After.{current-after, rest-after, room-after, rooms-after, due-put}
 
 module _ (part : Keyed) (tells : Bool) (told : IsTrue tells) (a b : Seen) (n : ℕ) (bytes : Block)
     (kept : Lengths) where
@@ -29,7 +31,7 @@ module _ (part : Keyed) (tells : Bool) (told : IsTrue tells) (a b : Seen) (n : �
         (omega (arith, block.low), block.high) can.holds can.records;
     same = rewrite-same part tells told a b n bytes call (other-than block) below left.length_is
         can.records;
-    ends = ends-after part tells told a b n bytes resting.rests.sound call (other-than block);
+    current = current-after part tells told a b n bytes call (other-than block);
     room = room-after part tells told a b n bytes kept resting.rests call (other-than block)
         resting.room can.room;
     rooms = rooms-after part tells told a b n bytes kept resting.rests call (other-than block)
@@ -56,30 +58,24 @@ module _ (part : Keyed) (kept : Lengths) where
   pub keeps-then : (a b c : Seen) → KeepsPart part kept a b → KeepsPart part kept b c
       → KeepsPart part kept a c
   keeps-then a b c first second = record {
-    adds = λ whole owners owned.
-        let one = first.adds whole owners owned in
-        nothing-then (KeyedShape part) owners Nothing a b c one
-        (second.adds one.sound.1 owners owned);
-    same = records-then (KeyedShape part) a.cur b.cur c.cur first.same second.same;
-    ends = ends-then part a b c first.ends second.ends;
+    adds = nothing-then-here part Nothing a b c first.adds second.adds;
+    same = same-here-then part a.cur b.cur c.cur first.same second.same;
+    current = ends-after (block_at a.cur part.head) (block_at b.cur part.head)
+        (block_at c.cur part.head) first.current second.current;
     room = second.room;
-    rooms = λ owners owned. touches-then (InPart (KeyedShape part) owners)
-        (HasRoom (KeyedShape part) kept) a b c (first.rooms owners owned)
-        (second.rooms owners owned);
+    rooms = touches-then (InArea part) (HasRoomHere part kept) a b c first.rooms second.rooms;
   }
 
   pub done-then : (a b c : Seen) → IsStageDone part a b → IsStageDone part b c
       → IsStageDone part a c
-  done-then a b c first second =
-      record {
-        rests = second.rests;
-        due =
-            due-then (KeyedShape part) [] a b c first.due second.due;
-      }
+  done-then a b c first second = record {
+    rests = second.rests;
+    due = due-here-then part [] a b c first.due second.due;
+  }
 
   -- an interval may still be replaced where the head and the records stay
   pub replace-still : (a b : Image) (n : ℕ) (bytes : Block)
-      → block_at b part.head ≡ block_at a part.head → SameRecords (KeyedShape part) a b
+      → block_at b part.head ≡ block_at a part.head → SameHere part a b
       → CanReplace part kept a n bytes → CanReplace part kept b n bytes
   replace-still a b n bytes head same can = record {
     holds = subst

@@ -1,4 +1,4 @@
--- A keyed part as its head is replaced.
+-- An area of a keyed part as its head is replaced.
 use Rattle.std.proofs.Common.{◌≡◌, inl, ⊎_elim, ◌<◌, ℕ, Bool, IsTrue, List}
 use Rattle.std.proofs.Common.{[], ◌∷◌, Option, Some, None, refl, sym, ap, subst, ◌∙◌}
 use Rattle.std.proofs.Common.{arith}
@@ -12,17 +12,17 @@ use Rattle.vr_types.proofs.CallerLemmas.{cur-elsewhere, cur-put, puts-touches}
 use Rattle.vr_seqset.specs.Entry.{Entry}
 use Rattle.vr_space.specs.Way.{found_on, MayFind, MayOnceForced}
 use Rattle.vr_space.specs.Room.{Lengths, Range, HaveRoom}
-use Rattle.vr_space.specs.Keyed.{AreWhole, HasEnds, Keyed, IsHead, HoldsRange, EachMayLeave}
-use Rattle.vr_space.specs.Keyed.{IsKeyedAtRest, IsKeyedSound, IsOwned, IsWhole, KeepsEnds}
-use Rattle.vr_space.specs.Keyed.{KeepsRoom, entries_of, entry_block, entry_in, lengths_of}
+use Rattle.vr_space.specs.Keyed.{HasEnds, InArea, Keyed, IsHead, HoldsRange, EachMayLeave}
+use Rattle.vr_space.specs.Keyed.{IsKeyedAtRest, IsKeyedSound, KeepsEnds, KeepsRoom}
+use Rattle.vr_space.specs.Keyed.{entries_of, entry_block, entry_in, lengths_of}
 use Rattle.vr_space.specs.Keyed.{low_of, records_of, way_in, way_under}
-use Rattle.vr_space.specs.Owners.{Owners}
-use Rattle.vr_space.specs.Part.{KeyedShape, AddsTo, Nothing, MayHold, SameRecords}
-use Rattle.vr_space.specs.Part.{DueMore, HasRoom, InPart, item_of}
+use Rattle.vr_space.specs.Part.{Nothing}
+use Rattle.vr_space.specs.AreaCalls.{AddsHere, DueMoreHere, HasRoomHere, MayHoldHere, SameHere}
+use Rattle.vr_space.specs.AreaCalls.{item_here}
 use Rattle.vr_space.proofs.CallerLemmas.{area-room-image, each-less, entry-in-above, head-in}
-use Rattle.vr_space.proofs.CallerLemmas.{same-ends, whole-ends}
+use Rattle.vr_space.proofs.CallerLemmas.{same-ends}
 use Rattle.vr_split.specs.Switching.{OfBlock, SwitchesAt, CanSwitch}
-use Rattle.vr_split.proofs.Puts.{also, each-also, puts-adds, current-held}
+use Rattle.vr_split.proofs.Puts.{after-put, also, current-held, each-also, puts-adds}
 
 module _ (part : Keyed) (tells : Bool) (told : IsTrue tells) (a b : Seen) (top : Block) where
   -- no interval is the head
@@ -65,7 +65,7 @@ module _ (part : Keyed) (tells : Bool) (told : IsTrue tells) (a b : Seen) (top :
   -- by way of the new head what may be held is found
   leads : (place : List ℕ) (item : Option Item) → IsKeyedSound part a → Left a a.cur
       → SwitchesAt part top a place → MayFind a.may item (way_under part place top)
-      → MayHold (KeyedShape part) a.may place item
+      → MayHoldHere part a.may place item
   leads place item sound left switches find = ⊎_elim
       (λ same. (
         block_at a.cur part.head,
@@ -77,35 +77,36 @@ module _ (part : Keyed) (tells : Bool) (told : IsTrue tells) (a b : Seen) (top :
       let there : MayFind a.may item (way_in part place (Some new.0)) =
       subst (λ (found : Option (Range
       × Entry)). MayFind a.may item (way_in part place found)) new.1 find in
-      subst (MayHold (KeyedShape part) a.may place) (sym (there.2
+      subst (MayHoldHere part a.may place) (sym (there.2
       ∙ new.2 there.0 there.1))
       (current-held part tells told a b part.head top sound left place))
       switches
 
-  -- the new head is whole where the current one is
-  switch-whole : (kept : Lengths) → IsKeyedSound part a → Left a a.cur → CanSwitch part kept top a
-      → AreWhole part a → AreWhole part (also a part.head top)
-  switch-whole kept sound left can whole = λ head. ⊎_elim (λ old. whole head old)
-      (λ new. subst (IsWhole part) (sym new.1)
-      (whole-ends part (block_at a.cur part.head) top can.ends
-      (whole (block_at a.cur part.head) (left.each part.head (omega (arith, sound.area))))))
-
-  -- it has the ends of the current one
-  pub switch-ends : (kept : Lengths) → IsKeyedSound part a → Left a a.cur
-      → Puts tells part.head top a b → CanSwitch part kept top a → KeepsEnds part a b
-  switch-ends kept sound left call can = λ head may. ⊎_elim
+  -- the new head has the ends of the current one
+  switch-ends : (kept : Lengths) → IsKeyedSound part a → Left a a.cur → CanSwitch part kept top a
+      → KeepsEnds part a (also a part.head top)
+  switch-ends kept sound left can = λ head. ⊎_elim
       (λ old. (head, old, same-ends head))
       (λ new. (
         block_at a.cur part.head,
         left.each part.head (omega (arith, sound.area)),
         subst (HasEnds (block_at a.cur part.head)) (sym new.1) can.ends,
       ))
-      (call.adds told part.head head (omega (arith, sound.area)) may)
+
+  -- so has the one that is read then, whether the put failed or not
+  pub switch-current : (kept : Lengths) → IsKeyedSound part a → Left a a.cur
+      → Puts tells part.head top a b → CanSwitch part kept top a
+      → HasEnds (block_at a.cur part.head) (block_at b.cur part.head)
+  switch-current kept sound left call can = ⊎_elim
+      (λ same. subst (HasEnds (block_at a.cur part.head)) (sym same)
+      (same-ends (block_at a.cur part.head)))
+      (λ new. subst (HasEnds (block_at a.cur part.head)) (sym new) can.ends)
+      (after-put part tells told a b part.head top call (omega (arith, sound.area))
+      left.length_is)
 
   pub switch-adds : (kept : Lengths) → IsKeyedSound part a → Left a a.cur
-      → Puts tells part.head top a b → CanSwitch part kept top a → AreWhole part a
-      → (owners : Owners) → IsOwned part owners → AddsTo (KeyedShape part) owners Nothing a b
-  switch-adds kept sound left call can whole =
+      → Puts tells part.head top a b → CanSwitch part kept top a → AddsHere part Nothing a b
+  switch-adds kept sound left call can =
       puts-adds part tells Nothing part.head top a b told call (omega arith, omega arith)
       (switch-sound kept sound can)
       (λ place item holds.
@@ -118,7 +119,7 @@ module _ (part : Keyed) (tells : Bool) (told : IsTrue tells) (a b : Seen) (top :
       (subst (λ (head : Block). MayFind a.may item (way_under part place head)) new.1
       find)))
       holds.1)
-      (switch-whole kept sound left can whole)
+      (switch-ends kept sound left can)
 
   -- intervals are read as before
   read-still : (place : List ℕ) (found : Option (Range × Entry)) → Puts tells part.head top a b
@@ -133,7 +134,7 @@ module _ (part : Keyed) (tells : Bool) (told : IsTrue tells) (a b : Seen) (top :
   shows : (place : List ℕ) → Left a a.cur
       → ((at : Range × Entry) → entry_in top place ≡ Some at
       → entry_block part at.1 < a.count) → SwitchesAt part top a place
-      → found_on a.cur (way_under part place top) ≡ item_of (KeyedShape part) a.cur place
+      → found_on a.cur (way_under part place top) ≡ item_here part a.cur place
   shows place left below = ⊎_elim
       (λ same. ap (found_on a.cur) same)
       (λ new. ap (λ (found : Option (Range
@@ -161,9 +162,9 @@ module _ (part : Keyed) (tells : Bool) (told : IsTrue tells) (a b : Seen) (top :
   -- each place has its record, whether the put failed or not
   pub switch-same : (kept : Lengths) → IsKeyedSound part a → Left a a.cur
       → Puts tells part.head top a b → CanSwitch part kept top a
-      → SameRecords (KeyedShape part) a.cur b.cur
+      → SameHere part a.cur b.cur
   switch-same kept sound left call can place = ⊎_elim
-      (λ same. ap (λ (image : Image). item_of (KeyedShape part) image place) same)
+      (λ same. ap (λ (image : Image). item_here part image place) same)
       (λ set. ap (λ (head : Block). found_on b.cur (way_under part place head))
       (cur-put a part.head top (omega (arith, sound.area)) left.length_is b.cur set)
       ∙ read-still place (entry_in top place) call
@@ -210,15 +211,14 @@ module _ (part : Keyed) (tells : Bool) (told : IsTrue tells) (a b : Seen) (top :
   -- and so has the image of each moment
   pub switch-rooms : (kept : Lengths) → IsKeyedSound part a → Puts tells part.head top a b
       → CanSwitch part kept top a → KeepsRoom part kept a
-      → (owners : Owners) → IsOwned part owners
-      → Touches (InPart (KeyedShape part) owners) (HasRoom (KeyedShape part) kept) a b
-  switch-rooms kept sound call can room owners owned =
-      puts-touches tells (InPart (KeyedShape part) owners) (HasRoom (KeyedShape part) kept)
-      part.head top a b told (owned part.head (omega arith, omega arith)) call
-      (area-room-image part owners kept (also a part.head top) (switch-sound kept sound can) owned
+      → Touches (InArea part) (HasRoomHere part kept) a b
+  switch-rooms kept sound call can room =
+      puts-touches tells (InArea part) (HasRoomHere part kept) part.head top a b told
+      (omega arith, omega arith) call
+      (area-room-image part kept (also a part.head top) (switch-sound kept sound can)
       (room-also kept can room))
 
-  -- once the new head is stable the part is at rest
+  -- once the new head is stable the area is at rest
   pub switch-rest : IsKeyedSound part b → Only b part.head (λ head. head ≡ top)
       → block_at b.cur part.head ≡ top → IsKeyedAtRest part b
   switch-rest sound only now =
@@ -247,7 +247,7 @@ module _ (part : Keyed) (tells : Bool) (told : IsTrue tells) (a b : Seen) (top :
   -- and what had to be forced for a place has to be
   pub switch-due : (kept : Lengths) → IsKeyedSound part a → Left a a.cur
       → Puts tells part.head top a b → CanSwitch part kept top a
-      → Only b part.head (λ head. head ≡ top) → DueMore (KeyedShape part) [] a b
+      → Only b part.head (λ head. head ≡ top) → DueMoreHere part [] a b
   switch-due kept sound left call can only listed place due within item is =
       let find : MayFind (MayOnceForced listed a) item (way_under part place top) =
       once-still listed place item (entry_in top place) call

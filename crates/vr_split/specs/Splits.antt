@@ -10,7 +10,7 @@ use Rattle.vr_space.specs.UnderWay.{interval_block}
 use Rattle.vr_split.specs.Halves.{halves}
 use Rattle.vr_split.specs.declared.steps.Halving.{Halving}
 
--- the part whose intervals are split, and the split that is under way
+-- the area whose intervals are split, and the split that is under way
 pub record Splits : Type 0 where
   pub part : Keyed
   pub split : Option SplitNow

@@ -7,14 +7,13 @@ use Rattle.vr_types.specs.Seen.{Seen, Only}
 use Rattle.vr_seqset.specs.Entry.{Entry}
 use Rattle.vr_space.specs.Room.{Lengths, Range, HaveRoom}
 use Rattle.vr_space.specs.Keyed.{Keyed, IsHead, HoldsRange, EachMayLeave, IsKeyedAtRest, KeepsRoom}
-use Rattle.vr_space.specs.Keyed.{AreWhole, HasEnds, IsOwned, KeepsEnds, entries_of, entry_block}
+use Rattle.vr_space.specs.Keyed.{HasEnds, InArea, entries_of, entry_block}
 use Rattle.vr_space.specs.Keyed.{entry_in}
 use Rattle.vr_space.specs.Keyed.{lengths_of, low_of, range_of, records_of, way_under}
-use Rattle.vr_space.specs.Owners.{Owners}
-use Rattle.vr_space.specs.Part.{KeyedShape, AddsTo, Nothing, SameRecords, DueMore, HasRoom, InPart}
-use Rattle.vr_space.specs.Part.{item_of}
+use Rattle.vr_space.specs.Part.{Nothing}
+use Rattle.vr_space.specs.AreaCalls.{AddsHere, DueMoreHere, HasRoomHere, SameHere, item_here}
 
--- a block of an interval of the part
+-- a block of an interval of the area
 pub record IsIntervalBlock (part : Keyed) (n : ℕ) : Type 0 where
   pub low : part.head < n
   pub high : n ≤ part.head + part.area
@@ -47,7 +46,7 @@ pub record CanReplace (part : Keyed) (kept : Lengths) (image : Image) (n : ℕ) 
   pub room : OfRead part image n (λ range. HaveRoom part.size (lengths_of part kept range bytes))
   pub records : (place : List ℕ) (at : Range × Entry)
       → entry_read part image place ≡ Some at → entry_block part at.1 ≡ n
-      → item_at (records_of part bytes) place ≡ item_of (KeyedShape part) image place
+      → item_at (records_of part bytes) place ≡ item_here part image place
 
 -- A place is reached as before, or in a block that a crash leaves with its record.
 abbrev pub SwitchesAt : Keyed → Block → Seen → List ℕ → Type 0
@@ -55,7 +54,7 @@ SwitchesAt part top now place =
     (way_under part place top ≡ way_under part place (block_at now.cur part.head))
     ⊎ ((at : Range × Entry) × (entry_in top place ≡ Some at)
     × Only now (entry_block part at.1)
-    (λ block. item_at (records_of part block) place ≡ item_of (KeyedShape part) now.cur place))
+    (λ block. item_at (records_of part block) place ≡ item_here part now.cur place))
 
 -- The head may replace the current one, whose ends it has.
 pub record CanSwitch (part : Keyed) (kept : Lengths) (top : Block) (now : Seen) : Type 0 where
@@ -71,27 +70,24 @@ pub record IsResting (part : Keyed) (kept : Lengths) (now : Seen) : Type 0 where
   pub rests : IsKeyedAtRest part now
   pub room : KeepsRoom part kept now
 
--- A stage made `new` of `old`, whether it failed or not: where the part has one area, it adds
--- nothing to what places may hold; each has the record that it had, the heads have the ends that
--- they had, and there is room for what is kept, in the image of each moment and from then on:
--- whichever blocks are the part's, beside those of the area.
+-- A stage made `new` of `old`, whether it failed or not: it adds nothing to what places of the area
+-- may hold; each has the record that it had, the heads have the ends that they had, and there is
+-- room for what is kept, in the image of each moment and from then on.
 pub record KeepsPart (part : Keyed) (kept : Lengths) (old new : Seen) : Type 0 where
-  pub adds : AreWhole part old → (owners : Owners) → IsOwned part owners
-      → AddsTo (KeyedShape part) owners Nothing old new
-  pub same : SameRecords (KeyedShape part) old.cur new.cur
-  pub ends : KeepsEnds part old new
+  pub adds : AddsHere part Nothing old new
+  pub same : SameHere part old.cur new.cur
+  pub current : HasEnds (block_at old.cur part.head) (block_at new.cur part.head)
   pub room : KeepsRoom part kept new
-  pub rooms : (owners : Owners) → IsOwned part owners
-      → Touches (InPart (KeyedShape part) owners) (HasRoom (KeyedShape part) kept) old new
+  pub rooms : Touches (InArea part) (HasRoomHere part kept) old new
 
--- It is done: the part is at rest, and nothing more has to be forced than before.
+-- It is done: the area is at rest, and nothing more has to be forced than before.
 pub record IsStageDone (part : Keyed) (old new : Seen) : Type 0 where
   pub rests : IsKeyedAtRest part new
-  pub due : DueMore (KeyedShape part) [] old new
+  pub due : DueMoreHere part [] old new
 
 -- Whatever a crash leaves of the block has the record of each place that leads there.
 abbrev pub IsSettledAt : Keyed → ℕ → Seen → Type 0
 IsSettledAt part n now = (place : List ℕ) (at : Range × Entry)
     → entry_read part now.cur place ≡ Some at → entry_block part at.1 ≡ n
-    → Only now n (λ block. item_at (records_of part block) place ≡ item_of (KeyedShape part)
+    → Only now n (λ block. item_at (records_of part block) place ≡ item_here part
     now.cur place)

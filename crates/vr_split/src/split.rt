@@ -1,14 +1,14 @@
 //! Splits of control intervals, one at a time.
-ghost use Rattle.std.specs.Prelude.{◌≡◌, ◌<◌, ℕ, Some, None, IsTrue, IfOk, IfErr, OnOk, OnErr};
-ghost use Rattle.std.specs.Prelude.{IsSome, IfSome, length, replicate};
+ghost use Rattle.std.specs.Prelude.{◌≡◌, ◌<◌, Some, None, IsTrue, IfOk, IfErr, OnOk, OnErr};
+ghost use Rattle.std.specs.Prelude.{IsSome, IfSome, length};
 ghost use Rattle.vr_types.specs.Blocks.{Keeps};
 ghost use Rattle.vr_types.specs.Faults.{HasCause};
 ghost use Rattle.vr_types.specs.declared.fault.DeviceFault.TheVariants.{Read};
 ghost use Rattle.vr_types.specs.declared.unit.StageKind.TheVariants as stages;
 ghost use Rattle.vr_space.specs.Room.{Lengths};
 ghost use Rattle.vr_space.specs.Keyed.{IsKeyedAtRest, KeepsEnds, KeepsRoom};
-ghost use Rattle.vr_space.specs.Part.{KeyedShape, IsOn};
-ghost use Rattle.vr_space.specs.UnderWay.{KeyedUnderWay};
+ghost use Rattle.vr_space.specs.AreaCalls.{IsAreaOn};
+ghost use Rattle.vr_space.specs.UnderWay.{AreaUnderWay};
 ghost use Rattle.vr_split.specs.Switching.{KeepsPart, IsStageDone};
 ghost use Rattle.vr_split.specs.Splits.{
   split_at,
@@ -26,7 +26,7 @@ use std::marker::Model;
 use vr_space::Layout;
 use vr_types::{Blocks, DeviceFault, OutOfMemory, PlaceBuffer, StageKind, empty_place};
 
-/// Splits of the control intervals of a keyed part of one area (DFSMS Using Data Sets, control
+/// Splits of the control intervals of one area of a keyed part (DFSMS Using Data Sets, control
 /// interval splits), one at a time, each in three stages. What is read and made goes through
 /// buffers of its own, so that no call but `ci_split` takes memory.
 #[derive(Drop)]
@@ -67,7 +67,7 @@ fn zeros(alloc: Global, size: u32) -> Result<Vec<u8>, OutOfMemory>
     Ok(block)
 }
 
-/// Splits of a part, none of which is under way. It takes all the memory that they need.
+/// Splits of an area, none of which is under way. It takes all the memory that they need.
 pub fn ci_split(alloc: Global, layout: Layout) -> Result<CiSplit, OutOfMemory>
     ensures { IfOk result (λ splits. splits ≡ record { part = layout; split = None }) }
 {
@@ -145,11 +145,11 @@ impl CiSplit {
 
     /// Does the stage that is next, and leaves the split at it.
     fn run<B: Blocks>(&mut self, blocks: &mut B, stage: StageKind) -> Result<(), DeviceFault>
-        requires on { IsOn (KeyedShape self.old.part) (B.seen blocks.old) }
+        requires on { IsAreaOn self.old.part (B.seen blocks.old) }
         requires stage { stage_now self.old.split ≡ Some stage }
         requires rests { IsTrue B.tells → IsKeyedAtRest self.old.part (B.seen blocks.old) }
         requires way { IsTrue B.tells
-            → KeyedUnderWay self.old.part self.old.split (B.seen blocks.old) }
+            → AreaUnderWay self.old.part self.old.split (B.seen blocks.old) }
         ensures same { self.new ≡ self.old }
         ensures keeps { IsTrue B.tells → (kept : Lengths)
             → KeepsRoom self.old.part kept (B.seen blocks.old)
@@ -157,7 +157,7 @@ impl CiSplit {
         ensures done { IsTrue B.tells → OnOk result
             (IsStageDone self.old.part (B.seen blocks.old) (B.seen blocks.new)) }
         ensures way { IsTrue B.tells → OnOk result
-            (KeyedUnderWay self.old.part (after_stage self.old.split) (B.seen blocks.new)) }
+            (AreaUnderWay self.old.part (after_stage self.old.split) (B.seen blocks.new)) }
         ensures made { IsTrue B.tells → OnOk result (HasDoneStage self.old.part self.old.split
             (B.seen blocks.old).cur (B.seen blocks.new).cur) }
         ensures unread { IfErr result (λ fault. fault ≡ Read
@@ -190,11 +190,11 @@ impl CiSplit {
     /// it with both entries, and forces it. `CiClean` reads the old interval and the head, and
     /// writes the old one with the records of its range.
     pub fn step<B: Blocks>(&mut self, blocks: &mut B) -> Result<StageKind, DeviceFault>
-        requires on { IsOn (KeyedShape self.old.part) (B.seen blocks.old) }
+        requires on { IsAreaOn self.old.part (B.seen blocks.old) }
         requires under_way { IsSome self.old.split }
         requires rests { IsTrue B.tells → IsKeyedAtRest self.old.part (B.seen blocks.old) }
         requires way { IsTrue B.tells
-            → KeyedUnderWay self.old.part self.old.split (B.seen blocks.old) }
+            → AreaUnderWay self.old.part self.old.split (B.seen blocks.old) }
         ensures part { self.new.part ≡ self.old.part }
         ensures stage { IfOk result (λ kind. stage_now self.old.split ≡ Some kind) }
         ensures next { OnOk result (self.new.split ≡ after_stage self.old.split) }
@@ -202,13 +202,13 @@ impl CiSplit {
         ensures keeps { IsTrue B.tells → (kept : Lengths)
             → KeepsRoom self.old.part kept (B.seen blocks.old)
             → KeepsPart self.old.part kept (B.seen blocks.old) (B.seen blocks.new) }
-        // So whole heads stay whole.
+        // So the chain of areas goes on as it did.
         ensures ends { IsTrue B.tells
             → KeepsEnds self.old.part (B.seen blocks.old) (B.seen blocks.new) }
         ensures done { IsTrue B.tells → OnOk result
             (IsStageDone self.old.part (B.seen blocks.old) (B.seen blocks.new)) }
         ensures way { IsTrue B.tells → OnOk result
-            (KeyedUnderWay self.old.part self.new.split (B.seen blocks.new)) }
+            (AreaUnderWay self.old.part self.new.split (B.seen blocks.new)) }
         ensures made { IsTrue B.tells → OnOk result (HasDoneStage self.old.part self.old.split
             (B.seen blocks.old).cur (B.seen blocks.new).cur) }
         // It reads before it puts.

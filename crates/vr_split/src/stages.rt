@@ -1,4 +1,5 @@
-//! The puts of a split, each with what it leaves of a keyed part: of blocks that are made already.
+//! The puts of a split, each with what it leaves of an area of a keyed part: of blocks that are made
+//! already.
 ghost use Rattle.std.specs.Prelude.{◌≡◌, ◌≢◌, ◌<◌, ℕ, IsTrue, OnOk, length};
 ghost use Rattle.vr_types.specs.Image.{block_at};
 ghost use Rattle.vr_types.specs.Seen.{Only};

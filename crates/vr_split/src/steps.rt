@@ -7,8 +7,8 @@ ghost use Rattle.vr_types.specs.declared.fault.DeviceFault.TheVariants.{Read};
 ghost use Rattle.vr_types.specs.declared.unit.StageKind.TheVariants as stages;
 ghost use Rattle.vr_space.specs.Room.{Lengths, Range};
 ghost use Rattle.vr_space.specs.Keyed.{IsKeyedAtRest, KeepsRoom, HoldsRange};
-ghost use Rattle.vr_space.specs.Part.{KeyedShape, IsOn};
-ghost use Rattle.vr_space.specs.UnderWay.{IsBegun, IsCopied, IsSwitched, KeyedUnderWay};
+ghost use Rattle.vr_space.specs.AreaCalls.{IsAreaOn};
+ghost use Rattle.vr_space.specs.UnderWay.{IsBegun, IsCopied, IsSwitched, AreaUnderWay};
 ghost use Rattle.vr_space.specs.UnderWay.{interval_block};
 ghost use Rattle.vr_split.specs.Switching.{KeepsPart, IsStageDone};
 ghost use Rattle.vr_split.specs.Halves.{MakesUpper, MakesLower, IsBusyCopy};
@@ -38,7 +38,7 @@ fn make_copies<B: Blocks>(
     upper: &mut [u8],
     whole: &mut [u8],
 ) -> Result<(), DeviceFault>
-    requires on { IsOn (KeyedShape layout.now) (B.seen blocks.old) }
+    requires on { IsAreaOn layout.now (B.seen blocks.old) }
     requires inside { split.now.old < layout.now.area }
     requires block { length block.old ≡ layout.now.size }
     requires upper { length upper.old ≡ layout.now.size }
@@ -70,7 +70,7 @@ pub(crate) fn copy<B: Blocks>(
     upper: &mut [u8],
     whole: &mut [u8],
 ) -> Result<(), DeviceFault>
-    requires on { IsOn (KeyedShape layout.now) (B.seen blocks.old) }
+    requires on { IsAreaOn layout.now (B.seen blocks.old) }
     requires inside { AreInArea layout.now split.now.old split.now.into }
     requires block { length block.old ≡ layout.now.size }
     requires upper { length upper.old ≡ layout.now.size }
@@ -111,7 +111,7 @@ pub(crate) fn switch<B: Blocks>(
     split: &Halving<'_>,
     top: &mut [u8],
 ) -> Result<(), DeviceFault>
-    requires on { IsOn (KeyedShape layout.now) (B.seen blocks.old) }
+    requires on { IsAreaOn layout.now (B.seen blocks.old) }
     requires top { length top.old ≡ layout.now.size }
     requires rests { IsTrue B.tells → IsKeyedAtRest layout.now (B.seen blocks.old) }
     requires copied { IsTrue B.tells
@@ -145,7 +145,7 @@ fn make_clean<B: Blocks>(
     block: &mut [u8],
     lower: &mut [u8],
 ) -> Result<(), DeviceFault>
-    requires on { IsOn (KeyedShape layout.now) (B.seen blocks.old) }
+    requires on { IsAreaOn layout.now (B.seen blocks.old) }
     requires inside { split.now.old < layout.now.area }
     requires block { length block.old ≡ layout.now.size }
     requires lower { length lower.old ≡ layout.now.size }
@@ -169,7 +169,7 @@ pub(crate) fn clean<B: Blocks>(
     block: &mut [u8],
     lower: &mut [u8],
 ) -> Result<(), DeviceFault>
-    requires on { IsOn (KeyedShape layout.now) (B.seen blocks.old) }
+    requires on { IsAreaOn layout.now (B.seen blocks.old) }
     requires inside { AreInArea layout.now split.now.old split.now.into }
     requires block { length block.old ≡ layout.now.size }
     requires lower { length lower.old ≡ layout.now.size }
@@ -206,20 +206,20 @@ pub(crate) fn do_stage<B: Blocks>(
     first: &mut [u8],
     second: &mut [u8],
 ) -> Result<(), DeviceFault>
-    requires on { IsOn (KeyedShape layout.now) (B.seen blocks.old) }
+    requires on { IsAreaOn layout.now (B.seen blocks.old) }
     requires inside { AreInArea layout.now split.now.old split.now.into }
     requires block { length block.old ≡ layout.now.size }
     requires first { length first.old ≡ layout.now.size }
     requires second { length second.old ≡ layout.now.size }
     requires rests { IsTrue B.tells → IsKeyedAtRest layout.now (B.seen blocks.old) }
-    requires way { IsTrue B.tells → KeyedUnderWay layout.now (Some (split_of split.now stage))
+    requires way { IsTrue B.tells → AreaUnderWay layout.now (Some (split_of split.now stage))
         (B.seen blocks.old) }
     ensures keeps { IsTrue B.tells → (kept : Lengths)
         → KeepsRoom layout.now kept (B.seen blocks.old)
         → KeepsPart layout.now kept (B.seen blocks.old) (B.seen blocks.new) }
     ensures done { IsTrue B.tells → OnOk result
         (IsStageDone layout.now (B.seen blocks.old) (B.seen blocks.new)) }
-    ensures way { IsTrue B.tells → OnOk result (KeyedUnderWay layout.now
+    ensures way { IsTrue B.tells → OnOk result (AreaUnderWay layout.now
         (after_stage (Some (split_of split.now stage))) (B.seen blocks.new)) }
     ensures made { IsTrue B.tells → OnOk result (HasDoneStage layout.now
         (Some (split_of split.now stage)) (B.seen blocks.old).cur (B.seen blocks.new).cur) }

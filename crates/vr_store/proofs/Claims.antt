@@ -147,21 +147,13 @@ module _ (part : Shape) (areas after : List ℕ) (old new : List (Option PartNo)
   -- each other part keeps as many of them as it owns,
   pub owns-other : (shape : Shape) (known : Known) → (part_no shape).0 ≢ (part_no part).0
       → OwnsChain shape known old → OwnsChain shape known new
-  owns-other (KeyedShape keyed) known apart owns =
-      count-other (record { 0 = keyed.part }) apart ∙ owns
-  owns-other (NumberedShape numbered) known apart owns =
-      count-other (record { 0 = numbered.part }) apart ∙ owns
+  owns-other shape known apart owns = count-other (part_no shape) apart ∙ owns
 
 -- and so does the part.
 pub owns-mine : (shape : Shape) (known later : Known) (old new : List (Option PartNo))
     → KeepsChain shape known.areas later.areas old new → OwnsChain shape known old
     → OwnsChain shape later new
-owns-mine (KeyedShape keyed) known later old new chain owns =
-    ap (owned_count (record { 0 = keyed.part })) chain.1 ∙ owns
-owns-mine (NumberedShape numbered) known later old new chain owns = ⊎_elim
-    (λ same. ap (owned_count part) same.1 ∙ owns ∙ sym (ap length same.0))
+owns-mine shape known later old new chain owns = ⊎_elim
+    (λ same. ap (owned_count (part_no shape)) same.1 ∙ owns ∙ sym (ap length same.0))
     (λ more. more.claimed.mine ∙ ap (λ (n : ℕ). n + 1) owns ∙ sym more.kept)
-    (chain-by (NumberedShape numbered) known.areas later.areas old new chain)
-  where
-    part : PartNo
-    part = record { 0 = numbered.part }
+    (chain-by shape known.areas later.areas old new chain)

@@ -8,7 +8,7 @@ use Rattle.std.proofs.lemmas.List.{length-map, map-set}
 use Rattle.vr_types.specs.declared.unit.PartNo.{PartNo}
 use Rattle.vr_space.specs.Known.{Known}
 use Rattle.vr_space.specs.Part.{Shape}
-use Rattle.vr_space.specs.Split.{SplitNow}
+use Rattle.vr_space.specs.Split.{AreaSplit}
 use Rattle.vr_store.specs.Parts.{OnlyMet, OnlySplit, but_met, but_split, with_part}
 use Rattle.vr_store.specs.Store.{PartNow, has_number, part_among, part_now}
 use Rattle.vr_store.specs.declared.parts.Laid.{Laid}
@@ -78,9 +78,9 @@ part-of number shape known =
     record { number = number; shape = shape; known = known }
 
 -- a part by its split alone
-abbrev pub part-split : PartNo → Shape → Option SplitNow → PartNow
+abbrev pub part-split : PartNo → Shape → Option AreaSplit → PartNow
 part-split number shape split = part-of number shape
-    (record { split = split; met = []; areas = []; used = 0; tail = None })
+    (record { split = split; met = []; areas = []; ends = []; used = 0; tail = None })
 
 -- A part that a call left with its shape, its split under way and its areas is the same but for what
 -- it met.
@@ -89,12 +89,13 @@ pub same-met : (number : PartNo) (shape now : Shape) (known later : Known) → n
     → but_met (part-of number now later) ≡ but_met (part-of number shape known)
 same-met number shape now known later shapes splits areas =
     ap (λ (s : Shape). part-met s later.split later.areas) shapes
-    ∙ ap (λ (s : Option SplitNow). part-met shape s later.areas) splits
+    ∙ ap (λ (s : Option AreaSplit). part-met shape s later.areas) splits
     ∙ ap (part-met shape known.split) areas
   where
-    part-met : Shape → Option SplitNow → List ℕ → PartNow
+    part-met : Shape → Option AreaSplit → List ℕ → PartNow
     part-met s split kept =
-        part-of number s (record { split = split; met = []; areas = kept; used = 0; tail = None })
+        part-of number s
+        (record { split = split; met = []; areas = kept; ends = []; used = 0; tail = None })
 
 -- a part that a call left as it was
 pub laid-same : {P : Type 0} (shape : P → Shape) (known : P → Known)

@@ -16,7 +16,7 @@ use Rattle.vr_space.specs.Met.{met_next}
 use Rattle.vr_space.specs.Part.{IsStageDue, IsStageOf, IsUnderWay, KeyedShape, NumberedShape, Shape}
 use Rattle.vr_space.specs.Part.{part_no, room_of, stage_of}
 use Rattle.vr_space.proofs.CallerLemmas.{room-no-stage, room-stage}
-use Rattle.vr_space.specs.Split.{SplitNow, keyed_room}
+use Rattle.vr_space.specs.Split.{AreaSplit, keyed_room}
 use Rattle.vr_space.specs.Room.{Lengths}
 use Rattle.vr_space.specs.declared.room.Room.{Room}
 use Rattle.vr_space.specs.declared.room.Room.TheVariants.{NoSpace, Ready, Stage}
@@ -71,7 +71,7 @@ room-by-known : (shape : Shape) (one other : Known) → one.split ≡ other.spli
     → one.tail ≡ other.tail → (image : Image) (free : ℕ) (kept : Lengths) (place : List ℕ) (n : ℕ)
     → room_of shape one image free kept place n ≡ room_of shape other image free kept place n
 room-by-known (KeyedShape part) one other same tails image free kept place n =
-    ap (λ (s : Option SplitNow). keyed_room part s image kept place n) same
+    ap (λ (s : Option AreaSplit). keyed_room part s image kept place n) same
 room-by-known (NumberedShape part) one other same tails image free kept place n =
     ap (λ (t : Option Tail). numbered_room part t image free place n) tails
 

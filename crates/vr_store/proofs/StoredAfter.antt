@@ -284,12 +284,12 @@ module _ (number : ℕ) (store : StoreNow) (unit : UnitOfRecovery) (part : PartN
           (ap (λ (n : PartNo). record {
             number = n;
             shape = now.shape;
-            known = record { split = None; met = []; areas = []; used = 0; tail = None };
+            known = record { split = None; met = []; areas = []; ends = []; used = 0; tail = None };
           }) number-same
           ∙ ap (λ (s : Shape). record {
             number = before.number;
             shape = s;
-            known = record { split = None; met = []; areas = []; used = 0; tail = None };
+            known = record { split = None; met = []; areas = []; ends = []; used = 0; tail = None };
           }) shape-same) store.parts into.found
 
       -- the store as the call left it

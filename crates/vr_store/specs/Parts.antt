@@ -17,6 +17,7 @@ but_met part = record part {
     split = part.known.split;
     met = [];
     areas = part.known.areas;
+    ends = [];
     used = 0;
     tail = None;
   };
@@ -24,7 +25,7 @@ but_met part = record part {
 
 abbrev pub but_split : PartNow → PartNow
 but_split part = record part {
-  known = record { split = None; met = []; areas = []; used = 0; tail = None };
+  known = record { split = None; met = []; areas = []; ends = []; used = 0; tail = None };
 }
 
 -- each other part stays as it is

@@ -103,7 +103,7 @@ pub record IsPartSet (now : Seen) (part : PartNow) : Type 0 where
   pub number : part_no part.shape ≡ part.number
   pub on : IsOn part.shape now
 
--- a part keeps as many areas as it owns, where they are chained
+-- a part keeps as many areas as it owns
 abbrev pub OwnsItsChain : List (Option PartNo) → PartNow → Type 0
 OwnsItsChain areas part = OwnsChain part.shape part.known areas
 
@@ -121,7 +121,7 @@ pub record IsFitImage (parts : List PartNow) (image : BeforeImage) : Type 0 wher
 
 -- The numbers of the parts differ, and each changed block is one of the device. Once no unit is
 -- live the log has no record, and what units may put back is fit for the parts. Each area of the
--- volume has an owner or none, and a part of chained areas keeps as many as it owns.
+-- volume has an owner or none, and each part keeps as many as it owns.
 pub record IsSet (store : StoreNow) (now : Seen) : Type 0 where
   pub allowed : IsAllowed store.log.geometry
   pub blocks : IsOf store.log.geometry now

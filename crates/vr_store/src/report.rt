@@ -31,8 +31,8 @@ impl<P: Part> Store<P> {
         is_laid(&self.parts, number)
     }
 
-    /// How many areas a part has, where they are a chain of rosters; 0 of a keyed part, and where no
-    /// part of this number is laid.
+    /// How many areas the chain of a part has, as the part keeps them in memory; 0 where no part of
+    /// this number is laid.
     pub fn areas_of(&self, number: PartNo) -> u32
         ensures { result ≡ option_map_or (λ (part : PartNow). length part.known.areas)
             (part_among self.now.parts number.0) 0 }

@@ -82,7 +82,8 @@ module _ (geometry : Geometry) (number : ℕ) (log : LogNow)
     where
       owners-inside : (shape : Shape) (areas : List (Option PartNo)) → IsInside geometry shape
           → length areas ≡ area_count geometry → HasOwners shape areas
-      owners-inside (KeyedShape part) areas inside count = tt
+      owners-inside (KeyedShape part) areas inside count =
+          count ∙ ap area_count (sym inside.1)
       owners-inside (NumberedShape part) areas inside count =
           count ∙ ap area_count (sym inside.1)
 

@@ -1,12 +1,14 @@
 use Rattle.std.proofs.Common.{◌≡◌, ◌∙◌, ℕ, length, subst}
 use Rattle.vr_types.specs.Regions.{Touches}
 use Rattle.vr_types.specs.Seen.{Seen}
-use Rattle.vr_space.specs.Keyed.{InArea, Keyed}
+use Rattle.vr_space.specs.Areas.{KeyedChain}
+use Rattle.vr_space.specs.Keyed.{InArea}
 use Rattle.vr_space.specs.Part.{KeyedShape, StandsFor}
 use Rattle.vr_mount.specs.Touched.{Anything}
 use Rattle.vr_types.proofs.CallerLemmas.{touches-then}
 use Rattle.vr_format.specs.Formatted.{IsFormatted, IsWritten}
-use Rattle.vr_format.specs.Planned.{AreNew, InClusters, catalog_keyed, content_of}
+use Rattle.vr_format.specs.Planned.{AreNew, InClusters, catalog_area, catalog_keyed}
+use Rattle.vr_format.specs.Planned.{content_of, first_area}
 use Rattle.vr_format.proofs.Steps.{all-made, in-catalog, in-clusters, in-start, on-ok}
 use Rattle.vr_format.proofs.Steps.{touches-more}
 use Rattle.vr_format.proofs.volume.write_blocks.Goals as goal
@@ -29,9 +31,9 @@ returns-clause-formatted g c told =
     c.requires.planned c.requires.allowed (record {
       header = c.in_ok-write_start.ensures.header told;
       log = c.in_ok-write_start.ensures.log told;
-      catalog = subst (λ (k : Keyed). StandsFor (KeyedShape k) third.cur (content_of k entries))
-          layout (c.in_ok-write_part.ensures.stands told);
-      to_third = subst (λ (k : Keyed). Touches (InArea k) Anything second third)
+      catalog = subst (λ (k : KeyedChain). StandsFor (KeyedShape k) third.cur
+          (content_of (first_area k) entries)) layout (c.in_ok-write_part.ensures.stands told);
+      to_third = subst (λ (k : KeyedChain). Touches (InArea (first_area k)) Anything second third)
           layout (c.write_part.ensures.after told);
       new = new;
       to_last = c.write_clusters.ensures.after told;
@@ -55,9 +57,9 @@ returns-clause-after g c told =
     (touches-then (IsWritten geometry count) Anything first second third
     (touches-more _ (IsWritten geometry count) first second (in-start geometry count)
     (c.write_start.ensures.after told))
-    (touches-more (InArea (catalog_keyed geometry)) (IsWritten geometry count) second
+    (touches-more (InArea (catalog_area geometry)) (IsWritten geometry count) second
     third (in-catalog geometry count)
-    (subst (λ (k : Keyed). Touches (InArea k) Anything second third) layout
+    (subst (λ (k : KeyedChain). Touches (InArea (first_area k)) Anything second third) layout
     (c.write_part.ensures.after told))))
     (touches-more (InClusters geometry count) (IsWritten geometry count) third last
     (in-clusters geometry count) (c.write_clusters.ensures.after told))

@@ -2,12 +2,12 @@ use Rattle.std.proofs.Common.{◌≡◌, false, is_some, sym, ap, subst, ◌∙�
 use Rattle.std.proofs.lemmas.Result.{IfOk-weaker, IfErr-weaker}
 use Rattle.vr_types.specs.declared.unit.StageKind.{StageKind}
 use Rattle.vr_types.proofs.CallerLemmas.{keeps-then}
+use Rattle.vr_space.specs.AreaCalls.{area_part}
 use Rattle.vr_space.specs.Keyed.{Keyed, IsKeyedAtRest, KeepsRoom}
-use Rattle.vr_space.specs.Part.{KeyedShape, part_no}
+use Rattle.vr_space.proofs.CallerLemmas.{rest-here-keeps, room-here-keeps}
 use Rattle.vr_split.specs.Splits.{stage_now}
 use Rattle.vr_split.specs.Switching.{KeepsPart, IsStageDone}
 use Rattle.vr_keyed.proofs.Advancing.{going-stage, copy-stage, part-after, part-kept, done-after}
-use Rattle.vr_keyed.proofs.Reading.{still-rest, still-room}
 use Rattle.vr_keyed.proofs.StageKinds.{later-kind, copy-kind}
 use Rattle.vr_keyed.proofs.advance.advance_at.Goals as goal
 
@@ -15,7 +15,7 @@ pub returns-then-is_some-clause-stage : goal.returns-then-is_some-clause-stage
 returns-then-is_some-clause-stage g c told =
     let part = c.args.layout.now in
     let a = g.B.Blocks.seen c.args.blocks.now in
-    let kept = g.K.Kept.kept c.args.kept.now (part_no (KeyedShape part)) in
+    let kept = g.K.Kept.kept c.args.kept.now (area_part part) in
     IfOk-weaker c.go_on.result _ _
     (λ kind is. going-stage part c.args.split.now.split a.cur kept c.args.place.now
     c.args.longest (c.requires.due told) kind is) c.go_on.ensures.stage
@@ -23,7 +23,7 @@ returns-then-is_some-clause-stage g c told =
 pub returns-then-is_some-clause-keeps : goal.returns-then-is_some-clause-keeps
 returns-then-is_some-clause-keeps g c told =
     let a = g.B.Blocks.seen c.args.blocks.now in
-    let kept = g.K.Kept.kept c.args.kept.now (part_no (KeyedShape c.args.layout.now)) in
+    let kept = g.K.Kept.kept c.args.kept.now (area_part c.args.layout.now) in
     subst (λ (p : Keyed). KeepsPart p kept a (g.B.Blocks.seen c.go_on.new.blocks))
     c.requires.part
     (c.go_on.ensures.keeps told kept
@@ -34,7 +34,7 @@ returns-in_err-begin_split-clause-keeps g c told =
     let part = c.args.layout.now in
     let b = g.B.Blocks.seen c.begin_split.new.blocks in
     part-kept g.B.Blocks.tells told part
-    (g.K.Kept.kept c.args.kept.now (part_no (KeyedShape part)))
+    (g.K.Kept.kept c.args.kept.now (area_part part))
     (g.B.Blocks.seen c.args.blocks.now) b b c.begin_split.ensures.keeps (c.requires.rests told)
     (c.requires.room told)
 
@@ -42,14 +42,14 @@ pub go_on-requires-2-clause-rests : goal.go_on-requires-2-clause-rests
 go_on-requires-2-clause-rests g c told =
     let b = g.B.Blocks.seen c.begin_split.new.blocks in
     subst (λ (p : Keyed). IsKeyedAtRest p b) (sym c.begin_split.ensures.part)
-    (still-rest c.args.layout.now g.B.Blocks.tells told (g.B.Blocks.seen c.args.blocks.now) b
+    (rest-here-keeps g.B.Blocks.tells told c.args.layout.now (g.B.Blocks.seen c.args.blocks.now) b
     c.begin_split.ensures.keeps (c.requires.rests told))
 
 pub returns-clause-stage : goal.returns-clause-stage
 returns-clause-stage g c told =
     let part = c.args.layout.now in
     let a = g.B.Blocks.seen c.args.blocks.now in
-    let kept = g.K.Kept.kept c.args.kept.now (part_no (KeyedShape part)) in
+    let kept = g.K.Kept.kept c.args.kept.now (area_part part) in
     let none : is_some (stage_now c.args.split.now.split) ≡ false =
     ap (λ (o : Option StageKind). is_some o) (sym c.next_stage.ensures) ∙ sym c.is_some.ensures
     ∙ c.if-is_some.false in
@@ -64,14 +64,14 @@ returns-clause-keeps g c told =
     let a = g.B.Blocks.seen c.args.blocks.now in
     let b = g.B.Blocks.seen c.begin_split.new.blocks in
     let after = g.B.Blocks.seen c.go_on-2.new.blocks in
-    let kept = g.K.Kept.kept c.args.kept.now (part_no (KeyedShape part)) in
+    let kept = g.K.Kept.kept c.args.kept.now (area_part part) in
     let rests = c.requires.rests told in
     part-after g.B.Blocks.tells told part kept a b after c.begin_split.ensures.keeps rests
     (c.requires.room told)
     (subst (λ (p : Keyed). KeepsPart p kept b after) c.begin_split.ensures.part
     (c.go_on-2.ensures.keeps told kept
     (subst (λ (p : Keyed). KeepsRoom p kept b) (sym c.begin_split.ensures.part)
-    (still-room part g.B.Blocks.tells told a b c.begin_split.ensures.keeps rests.sound kept
+    (room-here-keeps g.B.Blocks.tells told part a b c.begin_split.ensures.keeps rests.sound kept
     (c.requires.room told)))))
 
 pub returns-clause-done : goal.returns-clause-done
@@ -82,7 +82,7 @@ returns-clause-done g c told =
     let after = g.B.Blocks.seen c.go_on-2.new.blocks in
     IfOk-weaker c.go_on-2.result _ _
     (λ kind done. done-after g.B.Blocks.tells told part
-    (g.K.Kept.kept c.args.kept.now (part_no (KeyedShape part))) a b after
+    (g.K.Kept.kept c.args.kept.now (area_part part)) a b after
     c.begin_split.ensures.keeps (c.requires.rests told) (c.requires.room told)
     (subst (λ (p : Keyed). IsStageDone p b after) c.begin_split.ensures.part done))
     (c.go_on-2.ensures.done told)

@@ -1,9 +1,9 @@
 use Rattle.std.proofs.Common.{◌+◌, ◌≤◌, ℕ, List, sym, ap, subst, ◌∙◌, arith}
 use Rattle.vr_types.specs.Image.{Image, block_at}
 use Rattle.vr_types.proofs.CallerLemmas.{keeps-then}
+use Rattle.vr_space.specs.AreaCalls.{area_part}
 use Rattle.vr_space.specs.Keyed.{Keyed}
 use Rattle.vr_space.specs.Met.{IsMet}
-use Rattle.vr_space.specs.Part.{KeyedShape, part_no}
 use Rattle.vr_space.specs.Split.{free_interval}
 use Rattle.vr_keyed.specs.Look.{HasEntry}
 use Rattle.vr_keyed.specs.Planned.{LacksRoom}
@@ -21,7 +21,7 @@ pub plan_split-requires-clause-lacks : goal.plan_split-requires-clause-lacks
 plan_split-requires-clause-lacks g c told =
     let part = c.args.layout.now in
     let a = g.B.Blocks.seen c.args.blocks.now in
-    let kept = g.K.Kept.kept c.args.kept.now (part_no (KeyedShape part)) in
+    let kept = g.K.Kept.kept c.args.kept.now (area_part part) in
     let slots = c.meet.new.slots in
     let known = first-met (IsMet part a.cur) (met_in slots.first) (met_in slots.second)
     slots.filled c.in_ok-meet.ensures.first.some (c.meet.ensures.met told) in
@@ -38,7 +38,7 @@ pub plan_split-requires-clause-free : goal.plan_split-requires-clause-free
 plan_split-requires-clause-free g c told =
     let part = c.args.layout.now in
     let a = g.B.Blocks.seen c.args.blocks.now in
-    let kept = g.K.Kept.kept c.args.kept.now (part_no (KeyedShape part)) in
+    let kept = g.K.Kept.kept c.args.kept.now (area_part part) in
     let slots = c.meet.new.slots in
     let known = first-met (IsMet part a.cur) (met_in slots.first) (met_in slots.second)
     slots.filled c.in_ok-meet.ensures.first.some (c.meet.ensures.met told) in

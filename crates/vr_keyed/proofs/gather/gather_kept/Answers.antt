@@ -1,9 +1,9 @@
 use Rattle.std.proofs.Common.{◌≡◌, sym, ap, subst, ◌∙◌}
 use Rattle.std.proofs.lemmas.Bool.{false≢true}
 use Rattle.vr_types.specs.declared.unit.PartNo.{PartNo}
+use Rattle.vr_space.specs.AreaCalls.{area_part}
 use Rattle.vr_space.specs.Room.{Lengths, lengths_in, with_lengths}
 use Rattle.vr_space.specs.Keyed.{lengths_of, items_of}
-use Rattle.vr_space.specs.Part.{KeyedShape, part_no}
 use Rattle.vr_space.proofs.CallerLemmas.{items-read}
 use Rattle.vr_space.specs.Lent.{range_lent}
 use Rattle.vr_keyed.specs.Lent.{lengths_among, ArePlaces}
@@ -38,10 +38,10 @@ returns-clause-gathered g c holds places has =
     (items-read part range c.args.block.now c.in-Ok.view holds c.in-Ok.ensures.ok) in
     match-same part c.add_kept.result c.add_kept.new.weights.lengths
     (with_lengths c.add_records.new.weights.lengths (lengths_in range (all c.part_of.result)))
-    (lengths_of part (all (part_no (KeyedShape part))) range c.args.block.now)
+    (lengths_of part (all (area_part part)) range c.args.block.now)
     (ap (λ (p : PartNo). with_lengths c.add_records.new.weights.lengths
     (lengths_in range (all p))) c.part_of.ensures
-    ∙ ap (λ (l : Lengths). with_lengths l (lengths_in range (all (part_no (KeyedShape part)))))
+    ∙ ap (λ (l : Lengths). with_lengths l (lengths_in range (all (area_part part))))
     same)
     (c.add_kept.ensures.added part
     (subst (λ (p : PartNo). ArePlaces part.key (all p)) (sym c.part_of.ensures) places)

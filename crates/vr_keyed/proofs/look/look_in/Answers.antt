@@ -5,8 +5,8 @@ use Rattle.vr_types.specs.Content.{Item, item_at}
 use Rattle.vr_types.specs.Content.Item.{Standing}
 use Rattle.vr_types.specs.Image.{Block, Image, block_at}
 use Rattle.vr_types.proofs.CallerLemmas.{keeps-then}
+use Rattle.vr_space.specs.AreaCalls.{item_here}
 use Rattle.vr_space.specs.Keyed.{HoldsRange, records_of}
-use Rattle.vr_space.specs.Part.{KeyedShape, item_of}
 use Rattle.vr_keyed.proofs.Looking.{found-read, led-holds, led-item}
 use Rattle.vr_keyed.proofs.look.look_in.Goals as goal
 
@@ -37,11 +37,11 @@ returns g c =
             (c.requires.stands told) in
             let has = c.record_at.ensures leads.at.0
             (subst (HoldsRange part leads.at.0) (sym same) holds) in
-            let is : item_of (KeyedShape part) a.cur place
+            let is : item_here part a.cur place
             ≡ item_at (records_of part c.in_ok-block.block.now) place =
             led-item part a.cur place c.in_ok-number.number leads
             ∙ sym (ap (λ (block : Block). item_at (records_of part block) place) same) in
-            found-read (item_of (KeyedShape part) a.cur place) c.record_at.result
+            found-read (item_here part a.cur place) c.record_at.result
             (subst (λ (o : Option Item). MatchOption c.record_at.result (o ≡ None)
             (λ s. o ≡ Some (Standing s.now))) (sym is) has);
         after = tt;

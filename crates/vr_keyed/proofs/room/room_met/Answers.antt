@@ -1,7 +1,7 @@
 use Rattle.std.proofs.Common.{true, false, None, sym, ◌∙◌}
 use Rattle.std.proofs.lemmas.Result.{IfOk-weaker}
 use Rattle.vr_types.proofs.CallerLemmas.{keeps-none}
-use Rattle.vr_space.specs.Part.{KeyedShape, part_no}
+use Rattle.vr_space.specs.AreaCalls.{area_part}
 use Rattle.vr_keyed.specs.Slots.{met_in}
 use Rattle.vr_space.specs.Lent.{range_lent}
 use Rattle.vr_keyed.proofs.MetRoom.{met-holds, answer-met, fits-met}
@@ -22,7 +22,7 @@ returns-then-fits-clause-answer g c told now split =
     let part = c.args.layout.now in
     let met = met_in c.args.slot.now in
     let image = (g.B.Blocks.seen c.args.blocks.now).cur in
-    let kept = g.K.Kept.kept c.args.kept.now (part_no (KeyedShape part)) in
+    let kept = g.K.Kept.kept c.args.kept.now (area_part part) in
     let is = c.requires.met told in
     sym (answer-met part image met is now kept c.args.longest c.args.place.now None true
     c.requires.slot (c.in_default.ensures now is.entry split is.number)
@@ -37,7 +37,7 @@ returns-clause-answer g c told =
     let part = c.args.layout.now in
     let met = met_in c.args.slot.now in
     let image = (g.B.Blocks.seen c.args.blocks.now).cur in
-    let kept = g.K.Kept.kept c.args.kept.now (part_no (KeyedShape part)) in
+    let kept = g.K.Kept.kept c.args.kept.now (area_part part) in
     let is = c.requires.met told in
     IfOk-weaker c.room_beyond.result _ _ (λ room answered now split. answered now split
     ∙ sym (answer-met part image met is now kept c.args.longest c.args.place.now None false

@@ -1,8 +1,8 @@
 use Rattle.std.proofs.Common.{◌≡◌, ℕ, ap, ◌∙◌}
 use Rattle.vr_types.specs.Image.{block_at}
 use Rattle.vr_types.proofs.CallerLemmas.{keeps-then}
+use Rattle.vr_space.specs.AreaCalls.{area_part}
 use Rattle.vr_space.specs.Keyed.{Keyed}
-use Rattle.vr_space.specs.Part.{KeyedShape, part_no}
 use Rattle.vr_keyed.proofs.Walking.{nth-holds, rooms-here}
 use Rattle.vr_keyed.proofs.rooms.rooms_in.Goals as goal
 
@@ -26,7 +26,7 @@ returns-clause-rooms g c told =
     c.in_ok-read_block.ensures.content told ∙ ap (λ (n : ℕ). block_at a.cur n) at in
     rooms-here part a.cur (g.B.Blocks.seen c.read_block.new.blocks).cur c.read_block.new.out
     (c.read_block.ensures.keeps.content told) same
-    (g.K.Kept.kept c.args.kept.now (part_no (KeyedShape part))) c.have_rooms.result
+    (g.K.Kept.kept c.args.kept.now (area_part part)) c.have_rooms.result
     (c.have_rooms.ensures.rooms told)
 
 pub returns-clause-keeps : goal.returns-clause-keeps

@@ -14,7 +14,7 @@ use Rattle.vr_keyed.proofs.Refreshing.{first-met, places-refreshed, some-given}
 use Rattle.vr_keyed.proofs.set.put_set.Goals as goal
 
 pub returns-then-not-write_set-clause-may : goal.returns-then-not-write_set-clause-may
-returns-then-not-write_set-clause-may g c told kept known ready =
+returns-then-not-write_set-clause-may g c told kept split ready =
     let part = c.args.layout.now in
     let slots = c.args.slots.now in
     let met = met_in slots.first in
@@ -24,15 +24,15 @@ returns-then-not-write_set-clause-may g c told kept known ready =
     let left : Left a a.cur = g.met.B.Blocks.cur_may c.args.blocks.now told in
     let is : IsMet part a.cur met = first-met (IsMet part a.cur) slots.filled met
     (met_in slots.second) c.requires.first.some (c.requires.met told) in
-    let fits = room-to-write part kept known place item met a ready is c.requires.first.here left in
+    let fits = room-to-write part kept split place item met a ready is c.requires.first.here left in
     absurd (true≢false (sym (c.write_set.ensures.written
-    (old-holds part kept known place item met a ready is c.requires.first.here left)
+    (old-holds part kept split place item met a ready is c.requires.first.here left)
     (some-given part (block_at a.cur part.head) place item
-    (now-head part kept known place item met a ready is c.requires.first.here left) ready.valid)
+    (now-head part kept split place item met a ready is c.requires.first.here left) ready.valid)
     (omega (arith, fits, c.requires.out))).0 ∙ c.if-not-write_set.true))
 
 pub returns-then-not-write_set-clause-done : goal.returns-then-not-write_set-clause-done
-returns-then-not-write_set-clause-done g c told kept known ready =
+returns-then-not-write_set-clause-done g c told kept split ready =
     let part = c.args.layout.now in
     let slots = c.args.slots.now in
     let met = met_in slots.first in
@@ -42,15 +42,15 @@ returns-then-not-write_set-clause-done g c told kept known ready =
     let left : Left a a.cur = g.met.B.Blocks.cur_may c.args.blocks.now told in
     let is : IsMet part a.cur met = first-met (IsMet part a.cur) slots.filled met
     (met_in slots.second) c.requires.first.some (c.requires.met told) in
-    let fits = room-to-write part kept known place item met a ready is c.requires.first.here left in
+    let fits = room-to-write part kept split place item met a ready is c.requires.first.here left in
     absurd (true≢false (sym (c.write_set.ensures.written
-    (old-holds part kept known place item met a ready is c.requires.first.here left)
+    (old-holds part kept split place item met a ready is c.requires.first.here left)
     (some-given part (block_at a.cur part.head) place item
-    (now-head part kept known place item met a ready is c.requires.first.here left) ready.valid)
+    (now-head part kept split place item met a ready is c.requires.first.here left) ready.valid)
     (omega (arith, fits, c.requires.out))).0 ∙ c.if-not-write_set.true))
 
 pub returns-in_err-put-clause-may : goal.returns-in_err-put-clause-may
-returns-in_err-put-clause-may g c told kept known ready =
+returns-in_err-put-clause-may g c told kept split ready =
     let part = c.args.layout.now in
     let slots = c.args.slots.now in
     let met = met_in slots.first in
@@ -60,18 +60,18 @@ returns-in_err-put-clause-may g c told kept known ready =
     let left : Left a a.cur = g.met.B.Blocks.cur_may c.args.blocks.now told in
     let is : IsMet part a.cur met = first-met (IsMet part a.cur) slots.filled met
     (met_in slots.second) c.requires.first.some (c.requires.met told) in
-    let fits = room-to-write part kept known place item met a ready is c.requires.first.here left in
+    let fits = room-to-write part kept split place item met a ready is c.requires.first.here left in
     let written = c.write_set.ensures.written
-    (old-holds part kept known place item met a ready is c.requires.first.here left)
+    (old-holds part kept split place item met a ready is c.requires.first.here left)
     (some-given part (block_at a.cur part.head) place item
-    (now-head part kept known place item met a ready is c.requires.first.here left) ready.valid)
+    (now-head part kept split place item met a ready is c.requires.first.here left) ready.valid)
     (omega (arith, fits, c.requires.out)) in
-    may-set part kept known place item met a ready is c.requires.first.here left
+    may-set part kept split place item met a ready is c.requires.first.here left
     c.write_set.new.out (search rules) written.1 g.B.Blocks.tells told
     (g.B.Blocks.seen c.put.new.self) c.put.ensures.after
 
 pub returns-clause-may : goal.returns-clause-may
-returns-clause-may g c told kept known ready =
+returns-clause-may g c told kept split ready =
     let part = c.args.layout.now in
     let slots = c.args.slots.now in
     let met = met_in slots.first in
@@ -81,13 +81,13 @@ returns-clause-may g c told kept known ready =
     let left : Left a a.cur = g.met.B.Blocks.cur_may c.args.blocks.now told in
     let is : IsMet part a.cur met = first-met (IsMet part a.cur) slots.filled met
     (met_in slots.second) c.requires.first.some (c.requires.met told) in
-    let fits = room-to-write part kept known place item met a ready is c.requires.first.here left in
+    let fits = room-to-write part kept split place item met a ready is c.requires.first.here left in
     let written = c.write_set.ensures.written
-    (old-holds part kept known place item met a ready is c.requires.first.here left)
+    (old-holds part kept split place item met a ready is c.requires.first.here left)
     (some-given part (block_at a.cur part.head) place item
-    (now-head part kept known place item met a ready is c.requires.first.here left) ready.valid)
+    (now-head part kept split place item met a ready is c.requires.first.here left) ready.valid)
     (omega (arith, fits, c.requires.out)) in
-    may-set part kept known place item met a ready is c.requires.first.here left
+    may-set part kept split place item met a ready is c.requires.first.here left
     c.write_set.new.out (search rules) written.1 g.B.Blocks.tells told
     (g.B.Blocks.seen c.put.new.self) c.put.ensures.after
 
@@ -97,7 +97,7 @@ returns-clause-places g c =
     ∙ places-refreshed c.args.slots.now.first.number c.write_set.new.out (mets c.args.slots.now)
 
 pub returns-clause-done : goal.returns-clause-done
-returns-clause-done g c told kept known ready =
+returns-clause-done g c told kept split ready =
     let part = c.args.layout.now in
     let slots = c.args.slots.now in
     let met = met_in slots.first in
@@ -108,21 +108,21 @@ returns-clause-done g c told kept known ready =
     let left : Left a a.cur = g.met.B.Blocks.cur_may c.args.blocks.now told in
     let is : IsMet part a.cur met = first-met (IsMet part a.cur) slots.filled met
     (met_in slots.second) c.requires.first.some (c.requires.met told) in
-    let fits = room-to-write part kept known place item met a ready is c.requires.first.here left in
+    let fits = room-to-write part kept split place item met a ready is c.requires.first.here left in
     let written = c.write_set.ensures.written
-    (old-holds part kept known place item met a ready is c.requires.first.here left)
+    (old-holds part kept split place item met a ready is c.requires.first.here left)
     (some-given part (block_at a.cur part.head) place item
-    (now-head part kept known place item met a ready is c.requires.first.here left) ready.valid)
+    (now-head part kept split place item met a ready is c.requires.first.here left) ready.valid)
     (omega (arith, fits, c.requires.out)) in
     let below : slots.first.number < a.count =
     omega (arith, c.requires.on.0, c.requires.room.first.number.1) in
-    done-set part kept known place item met a ready is c.requires.first.here left
+    done-set part kept split place item met a ready is c.requires.first.here left
     c.write_set.new.out (search rules) written.1 g.B.Blocks.tells told b c.put.ensures.after
     (cur-put a slots.first.number c.write_set.new.out below left.length_is b.cur
     (c.in_ok-put.ensures.put told))
 
 pub returns-clause-met : goal.returns-clause-met
-returns-clause-met g c told kept known ready =
+returns-clause-met g c told kept split ready =
     let part = c.args.layout.now in
     let slots = c.args.slots.now in
     let met = met_in slots.first in
@@ -133,11 +133,11 @@ returns-clause-met g c told kept known ready =
     let left : Left a a.cur = g.met.B.Blocks.cur_may c.args.blocks.now told in
     let is : IsMet part a.cur met = first-met (IsMet part a.cur) slots.filled met
     (met_in slots.second) c.requires.first.some (c.requires.met told) in
-    let fits = room-to-write part kept known place item met a ready is c.requires.first.here left in
+    let fits = room-to-write part kept split place item met a ready is c.requires.first.here left in
     let written = c.write_set.ensures.written
-    (old-holds part kept known place item met a ready is c.requires.first.here left)
+    (old-holds part kept split place item met a ready is c.requires.first.here left)
     (some-given part (block_at a.cur part.head) place item
-    (now-head part kept known place item met a ready is c.requires.first.here left) ready.valid)
+    (now-head part kept split place item met a ready is c.requires.first.here left) ready.valid)
     (omega (arith, fits, c.requires.out)) in
     let below : slots.first.number < a.count =
     omega (arith, c.requires.on.0, c.requires.room.first.number.1) in
@@ -149,6 +149,6 @@ returns-clause-met g c told kept known ready =
     (mets slots)
     (All-weaker (IsMet part a.cur)
     (λ (one : Met). IsMet part b.cur (refreshed slots.first.number c.write_set.new.out one))
-    (refresh-met part kept known place item met a ready is c.requires.first.here left
+    (refresh-met part kept split place item met a ready is c.requires.first.here left
     c.write_set.new.out (search rules) written.1 g.B.Blocks.tells told b c.put.ensures.after now)
     (mets slots) (c.requires.met told)))

@@ -9,15 +9,15 @@ use Rattle.vr_keyed.proofs.SetThen.{ready-keeps, may-keeps, may-then, done-then,
 use Rattle.vr_keyed.proofs.set.set.Goals as goal
 
 pub returns-in_err-meet-clause-may : goal.returns-in_err-meet-clause-may
-returns-in_err-meet-clause-may g c told kept known ready =
+returns-in_err-meet-clause-may g c told kept split ready =
     let B = g.B.Blocks in
     let a = B.seen c.args.blocks.now in
     let left : Left a a.cur = g.met.B.Blocks.cur_may c.args.blocks.now told in
-    may-keeps c.args.layout.now kept known c.args.place.now (given c.args.bytes) B.tells told a
+    may-keeps c.args.layout.now kept split c.args.place.now (given c.args.bytes) B.tells told a
     (B.seen c.meet.new.blocks) c.meet.ensures.keeps left ready
 
 pub returns-clause-may : goal.returns-clause-may
-returns-clause-may g c told kept known ready =
+returns-clause-may g c told kept split ready =
     let B = g.B.Blocks in
     let part = c.args.layout.now in
     let place = c.args.place.now in
@@ -25,10 +25,10 @@ returns-clause-may g c told kept known ready =
     let a = B.seen c.args.blocks.now in
     let m = B.seen c.meet.new.blocks in
     let left : Left a a.cur = g.met.B.Blocks.cur_may c.args.blocks.now told in
-    may-then part kept known place item B.tells told a m c.meet.ensures.keeps left ready
+    may-then part kept split place item B.tells told a m c.meet.ensures.keeps left ready
     (B.seen c.put_set.new.blocks)
-    (c.put_set.ensures.may told kept known
-    (ready-keeps part kept known place item B.tells told a m c.meet.ensures.keeps left ready))
+    (c.put_set.ensures.may told kept split
+    (ready-keeps part kept split place item B.tells told a m c.meet.ensures.keeps left ready))
 
 pub returns-clause-done : goal.returns-clause-done
 returns-clause-done g c told =
@@ -40,11 +40,11 @@ returns-clause-done g c told =
     let m = B.seen c.meet.new.blocks in
     let left : Left a a.cur = g.met.B.Blocks.cur_may c.args.blocks.now told in
     if-ok-map c.put_set.result _ _
-    (λ put done kept known ready.
-    done-then part kept known place item B.tells told a m c.meet.ensures.keeps left ready
+    (λ put done kept split ready.
+    done-then part kept split place item B.tells told a m c.meet.ensures.keeps left ready
     (B.seen c.put_set.new.blocks) (put_of put)
-    (done kept known
-    (ready-keeps part kept known place item B.tells told a m c.meet.ensures.keeps left ready)))
+    (done kept split
+    (ready-keeps part kept split place item B.tells told a m c.meet.ensures.keeps left ready)))
     (c.put_set.ensures.done told)
 
 pub returns-clause-met : goal.returns-clause-met
@@ -57,8 +57,8 @@ returns-clause-met g c told =
     let m = B.seen c.meet.new.blocks in
     let left : Left a a.cur = g.met.B.Blocks.cur_may c.args.blocks.now told in
     on-ok-map c.put_set.result _ _
-    (λ all kept known ready. all kept known
-    (ready-keeps part kept known place item B.tells told a m c.meet.ensures.keeps left ready))
+    (λ all kept split ready. all kept split
+    (ready-keeps part kept split place item B.tells told a m c.meet.ensures.keeps left ready))
     (c.put_set.ensures.met told)
 
 pub returns-clause-places : goal.returns-clause-places

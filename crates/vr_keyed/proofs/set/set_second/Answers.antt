@@ -38,10 +38,10 @@ returns-clause-met g c told =
     let two : put.filled ≡ 2 = c.put_set-put.ensures.filled ∙ c.turn.ensures.filled
     ∙ c.requires.second.0 in
     on-ok-map c.put_set-put.result _ _
-    (λ all kept known ready.
+    (λ all kept split ready.
     subst (λ (n : ℕ). All P (take n (met_in last.first ∷ met_in last.second ∷ [])))
     (sym c.turn-2.ensures.filled)
     (all-turned P put.filled (met_in put.first) (met_in put.second) (met_in last.first)
     (met_in last.second) two (ap met_in c.turn-2.ensures.first)
-    (ap met_in c.turn-2.ensures.second) (all kept known ready)))
+    (ap met_in c.turn-2.ensures.second) (all kept split ready)))
     (c.put_set-put.ensures.met told)

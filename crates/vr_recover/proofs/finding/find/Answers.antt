@@ -10,6 +10,7 @@ use Rattle.vr_space.specs.Part.{IsOn, Shape}
 use Rattle.vr_volume.specs.PutBack.{images_of}
 use Rattle.vr_recover.specs.Found.{AllStand, AreKnown, HasRoomOf, IsBackNo, IsFound}
 use Rattle.vr_recover.specs.Found.{IsPlanned, MayGoBack, ShowsOnly}
+use Rattle.vr_recover.specs.Opening.{HasNoSplit}
 use Rattle.vr_recover.proofs.Attaching.{of-still}
 use Rattle.vr_recover.proofs.NumberOrder.{shapes-lay}
 use Rattle.vr_recover.proofs.Owning.{known-know, owners-reached}
@@ -135,6 +136,20 @@ returns-clause-found g c told number header spelled =
           (shapes-lay geometry entries (map shape_any parts) mounted.may.distinct mounted.shapes)
           mounted.owned a (known-know parts a (c.in_ok-mounted.ensures.known told));
     })
+
+pub returns-clause-split : goal.returns-clause-split
+returns-clause-split g c =
+    let parts : List AnyPart = c.mount.new.parts.items in
+    subst (All HasNoSplit)
+    (sym (lent-back c.images_to_undo.new.parts parts c.mount.new.parts.len
+    (c.images_to_undo.ensures.same ∙ c.deref_mut.ensures.value) c.mount.new.parts.ok.0))
+    c.in_ok-mounted.ensures.mounted.split
+
+pub returns-in_err-undo-clause-keeps : goal.returns-in_err-undo-clause-keeps
+returns-in_err-undo-clause-keeps g c =
+    keeps-then g.B.Blocks.tells (g.B.Blocks.seen c.args.blocks.now)
+    (g.B.Blocks.seen c.mount.new.blocks) (g.B.Blocks.seen c.images_to_undo.new.blocks)
+    c.mount.ensures.keeps c.images_to_undo.ensures.keeps
 
 pub returns-clause-keeps : goal.returns-clause-keeps
 returns-clause-keeps g c =

@@ -1,7 +1,9 @@
-use Rattle.std.proofs.Common.{List, ◌∙◌, subst, sym}
+use Rattle.std.proofs.Common.{List, ◌∙◌, ap, subst, sym}
 use Rattle.std.specs.Prelude.{All}
 use Rattle.std.proofs.lemmas.List.Elements.{All-nil}
-use Rattle.vr_space.specs.Met.{IsMet, Met}
+use Rattle.vr_attach.proofs.CallerLemmas.{alone-knows}
+use Rattle.vr_keyed.specs.Owned.{split_of}
+use Rattle.vr_space.specs.Met.{IsChainMet, Met}
 use Rattle.vr_recover.proofs.mounted.list.Goals as goal
 
 pub records_of_part-requires-clause-places : goal.records_of_part-requires-clause-places
@@ -12,7 +14,10 @@ records_of_part-requires-clause-knows g c told =
     let part = c.args.part.now.part in
     let cur = (g.B.Blocks.seen c.args.blocks.now).cur in
     record {
-      no_split = c.requires.split;
-      met = subst (λ (met : List Met). All (IsMet part cur) met) (sym c.requires.met)
-          (All-nil (IsMet part cur));
+      no_split = ap (split_of part) c.requires.split;
+      met = (
+        alone-knows part cur (c.requires.stands told),
+        subst (λ (met : List Met). All (IsChainMet part cur) met) (sym c.requires.met)
+            (All-nil (IsChainMet part cur)),
+      );
     }

@@ -82,6 +82,21 @@ returns-in_err-put_record-clause-safe g c told geometry member owners committed 
     c.loop-rec-test.true c.rec-item.result c.rec-item.is) in
     (guards-then a b d (IsSafeImage geometry member owners log committed) before.0 call.0, call.1)
 
+pub returns-in_err-put_record-clause-touches : goal.returns-in_err-put_record-clause-touches
+returns-in_err-put_record-clause-touches g c told owners ready =
+    let shape = g.P.Part.shape c.args.part.now in
+    let a = g.B.Blocks.seen c.args.blocks.now in
+    let b = g.B.Blocks.seen c.loop-rec.blocks in
+    let d = g.B.Blocks.seen c.put_record.new.blocks in
+    let kept = g.K.Kept.kept c.args.kept.now c.args.number in
+    let same = c.loop-rec.invariant.shape in
+    touches-then (InPart shape owners) Anything a b d
+    (c.loop-rec.invariant.touches told owners ready)
+    (subst (λ (s : Shape). Touches (InPart s owners) Anything b d) same
+    (c.put_record.ensures.touches told owners
+    (subst (λ (s : Shape). IsReady s owners (g.P.Part.known c.loop-rec.part) kept b) (sym same)
+    (c.loop-rec.invariant.ready told owners ready))))
+
 pub loop-rec-preserved : goal.loop-rec-preserved
 loop-rec-preserved g c =
     let shape = g.P.Part.shape c.args.part.now in

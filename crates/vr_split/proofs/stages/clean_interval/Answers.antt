@@ -2,11 +2,10 @@ use Rattle.std.proofs.Common.{◌≢◌, sym, ap, ◌∙◌, ⊎_elim, arith}
 use Rattle.vr_types.specs.Content.{item_at}
 use Rattle.vr_types.specs.Image.{Block}
 use Rattle.vr_types.specs.Seen.{Left}
-use Rattle.vr_space.specs.Keyed.{AreWhole, IsOwned, records_of}
-use Rattle.vr_space.specs.Owners.{Owners}
-use Rattle.vr_space.specs.Part.{KeyedShape, AddsTo, Nothing, SameRecords}
+use Rattle.vr_space.specs.Keyed.{records_of}
+use Rattle.vr_space.specs.AreaCalls.{SameHere}
 use Rattle.vr_split.proofs.Puts.{interval-sound, rewrite-adds, rewrite-same, sound-put}
-use Rattle.vr_split.proofs.After.{ends-after, rest-after, room-after, rooms-after, due-put}
+use Rattle.vr_split.proofs.After.{current-after, rest-after, room-after, rooms-after, due-put}
 use Rattle.vr_split.proofs.stages.clean_interval.Goals as goal
 
 pub returns-clause-keeps : goal.returns-clause-keeps
@@ -19,17 +18,14 @@ returns-clause-keeps g c told part kept block resting settled can =
     let call = c.put.ensures.after in
     let left : Left a a.cur = g.met.B.Blocks.cur_may c.args.blocks.now told in
     let other : n ≢ part.head = λ same. omega (arith, block.low, same) in
-    let adds : AreWhole part a → (owners : Owners) → IsOwned part owners
-    → AddsTo (KeyedShape part) owners Nothing a b =
-    rewrite-adds part B.tells told a b n bytes resting.rests left call other
-    (omega (arith, block.low), block.high) can.holds can.records in
-    let same : SameRecords (KeyedShape part) a.cur b.cur =
+    let same : SameHere part a.cur b.cur =
     rewrite-same part B.tells told a b n bytes call other c.requires.below left.length_is
     can.records in (
       record {
-        adds = adds;
+        adds = rewrite-adds part B.tells told a b n bytes resting.rests left call other
+            (omega (arith, block.low), block.high) can.holds can.records;
         same = same;
-        ends = ends-after part B.tells told a b n bytes resting.rests.sound call other;
+        current = current-after part B.tells told a b n bytes call other;
         room = room-after part B.tells told a b n bytes kept resting.rests call other resting.room
             can.room;
         rooms = rooms-after part B.tells told a b n bytes kept resting.rests call other

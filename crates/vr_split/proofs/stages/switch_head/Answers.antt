@@ -3,8 +3,8 @@ use Rattle.vr_types.specs.Image.{block_at}
 use Rattle.vr_types.specs.Seen.{Left, Only}
 use Rattle.vr_types.specs.Blocks.{Puts}
 use Rattle.vr_split.proofs.Puts.{sound-put}
-use Rattle.vr_split.proofs.Switch.{switch-adds, switch-ends, switch-same, switch-room, switch-rooms}
-use Rattle.vr_split.proofs.Switch.{switch-due, switch-rest, switch-sound}
+use Rattle.vr_split.proofs.Switch.{switch-adds, switch-current, switch-same, switch-room}
+use Rattle.vr_split.proofs.Switch.{switch-due, switch-rest, switch-rooms, switch-sound}
 use Rattle.vr_split.proofs.stages.switch_head.Goals as goal
 
 pub returns-in_err-settle-clause-keeps : goal.returns-in_err-settle-clause-keeps
@@ -20,8 +20,8 @@ returns-in_err-settle-clause-keeps g c told part kept head resting can =
           can;
       same = switch-same part B.tells told a b c.args.top.now kept resting.rests.sound left call
           can;
-      ends = switch-ends part B.tells told a b c.args.top.now kept resting.rests.sound left call
-          can;
+      current = switch-current part B.tells told a b c.args.top.now kept resting.rests.sound left
+          call can;
       room = switch-room part B.tells told a b c.args.top.now kept resting.rests.sound call can
           resting.room;
       rooms = switch-rooms part B.tells told a b c.args.top.now kept resting.rests.sound call can
@@ -41,8 +41,8 @@ returns-clause-keeps g c told part kept head resting can =
           can;
       same = switch-same part B.tells told a b c.args.top.now kept resting.rests.sound left call
           can;
-      ends = switch-ends part B.tells told a b c.args.top.now kept resting.rests.sound left call
-          can;
+      current = switch-current part B.tells told a b c.args.top.now kept resting.rests.sound left
+          call can;
       room = switch-room part B.tells told a b c.args.top.now kept resting.rests.sound call can
           resting.room;
       rooms = switch-rooms part B.tells told a b c.args.top.now kept resting.rests.sound call can

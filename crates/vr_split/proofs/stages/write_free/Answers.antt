@@ -2,11 +2,10 @@ use Rattle.std.proofs.Common.{◌≢◌, arith}
 use Rattle.vr_types.specs.Image.{block_at}
 use Rattle.vr_types.specs.Seen.{Left}
 use Rattle.vr_types.proofs.CallerLemmas.{cur-elsewhere}
-use Rattle.vr_space.specs.Keyed.{AreWhole, IsOwned, entries_of}
-use Rattle.vr_space.specs.Owners.{Owners}
-use Rattle.vr_space.specs.Part.{KeyedShape, AddsTo, Nothing, SameRecords}
+use Rattle.vr_space.specs.Keyed.{entries_of}
+use Rattle.vr_space.specs.AreaCalls.{SameHere}
 use Rattle.vr_split.proofs.Puts.{free-adds, interval-sound, of-found-in, rewrite-same, sound-put}
-use Rattle.vr_split.proofs.After.{ends-after, rest-after, room-after, rooms-after, due-put}
+use Rattle.vr_split.proofs.After.{current-after, rest-after, room-after, rooms-after, due-put}
 use Rattle.vr_split.proofs.After.{of-nothing}
 use Rattle.vr_split.proofs.stages.write_free.Goals as goal
 
@@ -20,18 +19,15 @@ returns-clause-keeps g c told part kept block resting free =
     let call = c.put.ensures.after in
     let left : Left a a.cur = g.met.B.Blocks.cur_may c.args.blocks.now told in
     let other : n ≢ part.head = λ same. omega (arith, block.low, same) in
-    let adds : AreWhole part a → (owners : Owners) → IsOwned part owners
-    → AddsTo (KeyedShape part) owners Nothing a b =
-    free-adds part B.tells told a b n bytes resting.rests left call other
-    (omega (arith, block.low), block.high) free in
-    let same : SameRecords (KeyedShape part) a.cur b.cur =
+    let same : SameHere part a.cur b.cur =
     rewrite-same part B.tells told a b n bytes call other c.requires.below left.length_is
     (λ place at leads here. absurd
     (of-found-in part n (block_at a.cur part.head) (λ range. ⊥) place at free leads here)) in (
       record {
-        adds = adds;
+        adds = free-adds part B.tells told a b n bytes resting.rests left call other
+            (omega (arith, block.low), block.high) free;
         same = same;
-        ends = ends-after part B.tells told a b n bytes resting.rests.sound call other;
+        current = current-after part B.tells told a b n bytes call other;
         room = room-after part B.tells told a b n bytes kept resting.rests call other resting.room
             (of-nothing part n _ _ (entries_of (block_at a.cur part.head)) free);
         rooms = rooms-after part B.tells told a b n bytes kept resting.rests call other

@@ -6,6 +6,9 @@ returns-in-Keyed-clause-adds g c = rw c.in-Keyed.is c.set.ensures.adds
 pub returns-in-Keyed-clause-due : goal.returns-in-Keyed-clause-due
 returns-in-Keyed-clause-due g c = rw c.in-Keyed.is c.set.ensures.due
 
+pub returns-in-Keyed-clause-put : goal.returns-in-Keyed-clause-put
+returns-in-Keyed-clause-put g c = rw c.in-Keyed.is c.set.ensures.put
+
 pub returns-in-Keyed-clause-rooms : goal.returns-in-Keyed-clause-rooms
 returns-in-Keyed-clause-rooms g c = rw c.in-Keyed.is c.set.ensures.rooms
 
