@@ -17,9 +17,9 @@ use vr_types::{FileRef, Geometry, PartNo, Place, Request, Stand, Unit};
 /// locks; the place that the request's file holds for update, and where the file stands, None where
 /// its deck hasn't used it yet, so that it stands at its start; the stamp of the write fault that
 /// stopped the volume; the number of free areas and the bytes of the log in use; the address that
-/// the record of an add gets in an entry-sequenced data set, as a place, and the number of areas of
-/// a data set that is entry-sequenced or relative, None and 0 of others; the unit of recovery that
-/// asks; and whether a live unit of the utilities changed the catalog.
+/// the record of an add gets in an entry-sequenced data set, as a place, None of others, and the
+/// number of areas of the data set, which counts where it is entry-sequenced or relative; the unit
+/// of recovery that asks; and whether a live unit of the utilities changed the catalog.
 #[derive(Clone, Copy)]
 pub struct Case<'a> {
     pub geometry: Geometry,

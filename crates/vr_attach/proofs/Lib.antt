@@ -1,8 +1,15 @@
 pub mod Rules
-pub mod Heads
+pub mod LinkRules
 pub mod Intervals
 pub mod Walks
-pub mod Alone
+pub mod AreaDamage
+pub mod Links
+pub mod LinkDamage
+pub mod LinkWalk
+pub mod AreaLists
+pub mod Taking
+pub mod WalkedOn
+pub mod Stepping
 pub mod Passing
 pub mod Owning
 pub mod Reaching

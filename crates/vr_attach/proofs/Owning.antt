@@ -19,12 +19,13 @@ use Rattle.vr_catalog.specs.Catalog.{cluster_definition, entry_with_part}
 use Rattle.vr_catalog.specs.Definition.{catalog_definition}
 use Rattle.vr_catalog.specs.declared.definition.Definition.{Definition}
 use Rattle.vr_catalog.specs.declared.entry.CatEntry.{CatEntry}
+use Rattle.vr_space.specs.Areas.{IsOwnedArea}
 use Rattle.vr_space.specs.Owners.{Owners}
 use Rattle.vr_space.specs.Part.{InFirstArea, InPart, KeyedShape, NumberedShape, Shape, StaysIn}
 use Rattle.vr_space.specs.Part.{part_no}
 use Rattle.vr_space.specs.Rosters.{IsOf, IsOwnArea}
 use Rattle.vr_space.specs.Numbered.{IsFilled}
-use Rattle.vr_space.proofs.CallerLemmas.{chain-here}
+use Rattle.vr_space.proofs.CallerLemmas.{chain-here, each-here}
 use Rattle.vr_attach.specs.Laid.{AreApart, catalog_shape, keyed_shape, numbered_part}
 use Rattle.vr_attach.specs.Laid.{shape_by_kind, shape_from, shape_in, shape_of}
 use Rattle.vr_attach.specs.Owning.{IsPastLog, owner_of}
@@ -173,7 +174,9 @@ laid-as geometry entries part shape is =
 pub stays-owned : (geometry : Geometry) (shape : Shape) (owners : Owners) (image : Image)
     → 0 < area_count geometry → IsOnAreas geometry shape → StaysIn shape owners image
     → (n : ℕ) → InFirstArea shape n → InPart shape owners n
-stays-owned geometry (KeyedShape part) owners image some on stays = stays.0.owned
+stays-owned geometry (KeyedShape part) owners image some on stays =
+    (each-here part (IsOwnedArea part owners) (IsOf image) (area_count part.geometry) part.first
+    (subst (λ (g : Geometry). 0 < area_count g) (sym on) some) stays).owned
 stays-owned geometry (NumberedShape part) owners image some on stays =
     (chain-here part (IsOwnArea part owners) (IsFilled part) (IsOf image)
     (area_count part.geometry) part.first stays).owned

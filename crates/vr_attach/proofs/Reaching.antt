@@ -10,9 +10,9 @@ use Rattle.vr_types.specs.declared.geometry.Geometry.{Geometry}
 use Rattle.vr_types.specs.declared.unit.PartNo.{PartNo}
 use Rattle.vr_catalog.specs.declared.entry.CatEntry.{CatEntry}
 use Rattle.vr_seqset.specs.Reading.{record_in}
-use Rattle.vr_space.specs.Areas.{EachAfter, EachArea, IsOwnedArea, KeyedChain, areas_after, areas_in}
+use Rattle.vr_space.specs.Areas.{EachAfter, EachArea, IsOwnedArea, KeyedChain, areas_after}
+use Rattle.vr_space.specs.Areas.{areas_in}
 use Rattle.vr_space.specs.Areas.{head_in}
-use Rattle.vr_space.specs.Areas.{most_areas}
 use Rattle.vr_space.specs.Known.{Known}
 use Rattle.vr_space.specs.Owners.{Owners}
 use Rattle.vr_space.specs.Part.{KeyedShape, NumberedShape, Shape, Stands, StaysIn, part_no}
@@ -132,7 +132,7 @@ stands-among : (part : KeyedChain) (image : Image) → Stands (KeyedShape part) 
     → EachArea part (λ at. IsLinkedArea part image at × Contains (areas_in part image) at)
     (IsOf image)
 stands-among part image stands =
-    let count : ℕ = most_areas in
+    let count : ℕ = area_count part.geometry in
     each-after-both part (IsLinkedArea part image) (Contains (areas_in part image)) (IsOf image)
     count part.first (links-in-each part image count part.first None stands.1.chain)
     (each-among part image count part.first)
@@ -156,7 +156,7 @@ by-shape geometry (KeyedShape part) areas image on stands owns =
           (owns at both.1) n (subst (λ (g : Geometry). head_block g at ≤ n) on inside.0)
           (subst (λ (g : Geometry). n ≤ head_block g at + g.area) on inside.1);
     })
-    (λ at both top may. may) most_areas part.first
+    (λ at both top may. may) (area_count part.geometry) part.first
     (stands-among part image stands)
 by-shape geometry (NumberedShape part) areas image on stands owns =
     chain-less part (λ at. (at < area_count part.geometry) × Contains (chain_of part image) at)
@@ -186,7 +186,7 @@ owned-by-shape : (geometry : Geometry) (shape : Shape) (owners : Owners) (image 
     → (n : ℕ) → head_block geometry area ≤ n → n ≤ head_block geometry area + geometry.area
     → owners n ≡ Some (part_no shape).0
 owned-by-shape geometry (KeyedShape part) owners image area on stays reaches n from to =
-    (area-each part (IsOwnedArea part owners) image most_areas part.first area
+    (area-each part (IsOwnedArea part owners) image (area_count part.geometry) part.first area
     stays reaches).owned n (
       subst (λ (g : Geometry). head_block g area ≤ n) (sym on) from,
       subst (λ (g : Geometry). n ≤ head_block g area + g.area) (sym on) to,

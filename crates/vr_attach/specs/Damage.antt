@@ -1,13 +1,9 @@
--- Where the blocks of a keyed part stand for no content: the first block of the walk
--- with a broken rule, and the least rule that is broken there. The walk is the head of the part's
--- first area, and then the interval of each entry in their order. Written over what the blocks
--- spell, apart from the walk of the code. The rules and their numbers are this project's own.
-use Rattle.std.specs.Prelude.{◌≡◌, ◌⊎◌, ℕ, ◌<◌, true, false, IsTrue, List, [], ◌∷◌, ◌++◌, length}
-use Rattle.std.specs.Prelude.{All, Some, None, IfSome, map, replicate}
+-- Which rules a block of one area of a keyed part breaks, written over what the block spells, apart
+-- from the walk of the code. The rules and their numbers are this project's own.
+use Rattle.std.specs.Prelude.{◌≡◌, ℕ, ◌<◌, false, IsTrue, length, All, Some, IfSome, map}
 use Rattle.std.specs.List.{slice_get}
 use Rattle.std.specs.List.Sorted.{IsStrictlySortedBy}
-use Rattle.vr_types.specs.Content.{Content, place_cmp}
-use Rattle.vr_types.specs.Geometry.{area_count}
+use Rattle.vr_types.specs.Content.{place_cmp}
 use Rattle.vr_types.specs.Image.{Block, Image, block_at}
 use Rattle.vr_ci_match.specs.declared.form.Form.TheVariants.{Plain}
 use Rattle.vr_ci_match.specs.declared.form.Shape.TheVariants as shapes
@@ -16,10 +12,9 @@ use Rattle.vr_seqset.specs.Entry.{Entry}
 use Rattle.vr_seqset.specs.SequenceSet.{SequenceSet, IsSequenceSet}
 use Rattle.vr_seqset.specs.Reading.{record_in}
 use Rattle.vr_space.specs.Room.{Range, is_in}
-use Rattle.vr_space.specs.Keyed.{Keyed, KeyedStandsFor, IsHead, IsKept, HoldsRange, entries_of}
-use Rattle.vr_space.specs.Keyed.{entry_block, key_of, low_of, range_of}
+use Rattle.vr_space.specs.Keyed.{Keyed, IsKept, HoldsRange, entries_of, entry_block, key_of, low_of}
+use Rattle.vr_space.specs.Keyed.{range_of}
 use Rattle.vr_space.specs.Search.{low_before}
-use Rattle.vr_space.specs.Areas.{KeyedChain, area_of}
 use Rattle.vr_attach.specs.declared.rule.Rule.{Rule}
 use Rattle.vr_attach.specs.declared.rule.Rule.TheVariants as rules
 
@@ -54,61 +49,10 @@ pub record NamesAreas (areas : ℕ) (s : SequenceSet) : Type 0 where
   pub next : IfSome s.next (λ area. area < areas)
   pub index : IfSome s.index_area (λ area. area < areas)
 
--- A record that the head of a part may be: it has the flag of the first. Parts have no index yet,
--- and no records of several intervals: so it names no index, and each entry has one interval.
-pub record IsFirstRecord (part : Keyed) (top : Block) : Type 0 where
-  pub spells : SpellsRecord part top
-  pub first : (record_in top).first ≡ true
-  pub index : (record_in top).top ≡ 0
-  pub index_area : (record_in top).index_area ≡ None
-  pub single : All (λ (entry : Entry). length entry.intervals ≡ 1) (entries_of top)
-
 -- the part and the place length are those of the catalog
 pub record IsOfPart (part : Keyed) (s : SequenceSet) : Type 0 where
   pub number : s.part ≡ part.part
   pub key : length s.low ≡ part.key
-
--- The ranges end at the greatest place. Parts have one area yet: so a head that names another one
--- doesn't end its part.
-pub record EndsPart (part : Keyed) (s : SequenceSet) : Type 0 where
-  pub next : s.next ≡ None
-  pub last : (before : List Entry) (entry : Entry) → s.entries ≡ before ++ entry ∷ []
-      → entry.high ≡ replicate part.key 255
-
--- Which rules a head breaks, in area `area` of `areas`. What isn't spelled names no area. An area
--- number of the catalog is no matter of the head.
-abbrev pub HeadBreaks : Keyed → ℕ → ℕ → Block → Rule → Type 0
-HeadBreaks part area areas top rules.AreaNumber =
-    SpellsRecord part top × (NamesAreas areas (record_in top) → ⊥)
-HeadBreaks part area areas top rules.AreaTwice =
-    SpellsRecord part top × ((record_in top).next ≡ Some area)
-HeadBreaks part area areas top rules.SequenceSet = IsFirstRecord part top → ⊥
-HeadBreaks part area areas top rules.PartNumber = IsOfPart part (record_in top) → ⊥
-HeadBreaks part area areas top rules.Places = EndsPart part (record_in top) → ⊥
-HeadBreaks part area areas top rules.ControlInterval = ⊥
-HeadBreaks part area areas top rules.EndOfFile = ⊥
-HeadBreaks part area areas top rules.Record = ⊥
-HeadBreaks part area areas top rules.Order = ⊥
-HeadBreaks part area areas top rules.Roster = ⊥
-HeadBreaks part area areas top rules.Slots = ⊥
-
--- It is the head of a part of one area: the first and the last of its chain, and its last range
--- goes up to the greatest key.
-pub record IsWhole (part : Keyed) (top : Block) : Type 0 where
-  pub first : (record_in top).first ≡ true
-  pub next : (record_in top).next ≡ None
-  pub last : (before : List Entry) (entry : Entry) → entries_of top ≡ before ++ entry ∷ []
-      → entry.high ≡ replicate part.key 255
-
--- the head of a part of one area, which breaks none
-abbrev pub IsWholeHead : Keyed → Block → Type 0
-IsWholeHead part top = IsHead part top × IsWhole part top
-
--- The blocks of the area stand for a content, under such a head.
-pub record StandsWhole (part : Keyed) (image : Image) : Type 0 where
-  pub content : Content
-  pub stands : KeyedStandsFor part image content
-  pub whole : IsWhole part (block_at image part.head)
 
 -- ---- an interval
 
@@ -147,7 +91,7 @@ IntervalBreaks part range block rules.Order =
 IntervalBreaks part range block rules.Roster = ⊥
 IntervalBreaks part range block rules.Slots = ⊥
 
--- ---- the walk
+-- ---- the intervals of a head
 
 -- the interval of the entry of this number is one of its range
 abbrev pub HoldsNth : Keyed → Block → Image → ℕ → Type 0
@@ -166,25 +110,3 @@ pub record IsBadInterval (part : Keyed) (top : Block) (image : Image) (n : ℕ) 
     pub block : n ≡ entry_block part entry
     pub rule_is : IsLeastBroken (IntervalBreaks part
         (range_of (low_before (low_of top) (entries_of top) number) entry) (block_at image n)) rule
-
--- Block n is the head of the part, and breaks the rule.
-pub record IsBadHead (part : Keyed) (area areas : ℕ) (image : Image) (n : ℕ) (rule : Rule) : Type 0
-  where
-    pub block : n ≡ part.head
-    pub rule_is : IsLeastBroken (HeadBreaks part area areas (block_at image part.head)) rule
-
--- The area, which is `area` of `areas`, is no part of one area: block n is the first that breaks a
--- rule, and this is the least that it breaks.
-abbrev pub IsDamagedAt : Keyed → ℕ → ℕ → Image → ℕ → Rule → Type 0
-IsDamagedAt part area areas image n rule =
-    IsBadHead part area areas image n rule
-    ⊎ (IsWholeHead part (block_at image part.head)
-    × IsBadInterval part (block_at image part.head) image n rule)
-
--- ---- the same of a part
-
--- The blocks of the part stand for no content: block n is the first that breaks a rule, and this is
--- the least that it breaks. Its chain has one area: the first.
-abbrev pub IsDamagedIn : KeyedChain → Image → ℕ → Rule → Type 0
-IsDamagedIn part image n rule = IsDamagedAt (area_of part part.first) part.first
-    (area_count part.geometry) image n rule

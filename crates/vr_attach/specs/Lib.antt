@@ -3,5 +3,9 @@ pub mod CatalogRules
 pub mod Laid
 pub mod Owning
 pub mod Damage
+pub mod Linked
+pub mod Marked
+pub mod Areas
+pub mod Walked
 pub mod Chain
 pub mod Attached

@@ -1,19 +1,16 @@
-//! The walk over the blocks of a keyed part: its head, and then the interval of each entry.
-ghost use Rattle.std.specs.Prelude.{◌≡◌, ◌<◌, ◌≤◌, ◌+◌, ℕ, IsTrue, IfOk, OnOk, MatchOption, length};
+//! The walk over the intervals of a head, each of an entry.
+ghost use Rattle.std.specs.Prelude.{◌<◌, ℕ, IsTrue, IfOk, MatchOption, length};
 ghost use Rattle.vr_types.specs.Image.{block_at};
 ghost use Rattle.vr_types.specs.Blocks.{Keeps};
 ghost use Rattle.vr_types.specs.Faults.{HasCause};
 ghost use Rattle.vr_space.specs.AreaCalls.{IsAreaOn};
 ghost use Rattle.vr_space.specs.Keyed.{HoldsRange, InArea, IsHead, entries_of};
 ghost use Rattle.vr_space.specs.Lent.{range_lent};
-ghost use Rattle.vr_space.specs.Part.{KeyedShape, IsOn, Stands};
-ghost use Rattle.vr_attach.specs.Damage.{HoldsNth, IntervalBreaks, IsBadInterval, IsDamagedAt};
-ghost use Rattle.vr_attach.specs.Damage.{IsDamagedIn, IsLeastBroken, StandsWhole};
+ghost use Rattle.vr_attach.specs.Damage.{HoldsNth, IntervalBreaks, IsBadInterval, IsLeastBroken};
 
-use crate::head::head_rule;
 use crate::interval::interval_rule;
 use crate::rule::Rule;
-use vr_space::{KeyedLayout, Layout, LentRange, entry_at, entry_count, read_block};
+use vr_space::{Layout, LentRange, entry_at, entry_count};
 use vr_types::{Blocks, DeviceFault};
 
 /// The first block of a part that breaks a rule, and the least rule that it breaks.
@@ -75,7 +72,7 @@ fn damage_at<B: Blocks>(
 }
 
 /// The first damage of the intervals of a head, if there is one.
-fn damage_under<B: Blocks>(
+pub(crate) fn damage_under<B: Blocks>(
     blocks: &mut B,
     layout: &Layout,
     top: &[u8],
@@ -98,56 +95,4 @@ fn damage_under<B: Blocks>(
         }
     }
     Ok(None)
-}
-
-/// The first block of a part that breaks a rule, and the least rule that it breaks: its head, or
-/// the interval of an entry. None where the blocks stand for a content. It reads each block once,
-/// the head into a buffer.
-pub fn first_damage<B: Blocks>(
-    blocks: &mut B,
-    layout: &KeyedLayout,
-    top: &mut [u8],
-) -> Result<Option<Damage>, DeviceFault>
-    requires on { IsOn (KeyedShape layout.now) (B.seen blocks.old) }
-    requires top { length top.old ≡ layout.now.geometry.size }
-    ensures found { IsTrue B.tells → IfOk result (λ found. MatchOption found
-        (Stands (KeyedShape layout.now) (B.seen blocks.old).cur)
-        (λ damage. IsDamagedIn layout.now (B.seen blocks.old).cur damage.block damage.rule)) }
-    ensures keeps { Keeps B.tells (B.seen blocks.old) (B.seen blocks.new) }
-    ensures cause { HasCause (B.faults blocks.old) (B.faults blocks.new) result }
-{
-    damage_of(
-        blocks,
-        &layout.area(layout.first),
-        layout.first,
-        layout.geometry.areas(),
-        top,
-    )
-}
-
-/// The same of its first area, which is the one of this number of `areas`.
-fn damage_of<B: Blocks>(
-    blocks: &mut B,
-    layout: &Layout,
-    area: u32,
-    areas: u32,
-    top: &mut [u8],
-) -> Result<Option<Damage>, DeviceFault>
-    requires on { IsAreaOn layout.now (B.seen blocks.old) }
-    requires top { length top.old ≡ layout.now.size }
-    ensures found { IsTrue B.tells → IfOk result (λ found. MatchOption found
-        (StandsWhole layout.now (B.seen blocks.old).cur)
-        (λ damage. IsDamagedAt layout.now area areas (B.seen blocks.old).cur
-        damage.block damage.rule)) }
-    ensures keeps { Keeps B.tells (B.seen blocks.old) (B.seen blocks.new) }
-    ensures cause { HasCause (B.faults blocks.old) (B.faults blocks.new) result }
-{
-    read_block(blocks, layout.head, top)?;
-    match head_rule(layout, area, areas, top) {
-        Some(rule) => Ok(Some(Damage {
-            block: layout.head,
-            rule,
-        })),
-        None => damage_under(blocks, layout, top),
-    }
 }

@@ -11,12 +11,13 @@ use Rattle.vr_space.specs.Rosters.{IsChained, IsNumbered, IsOf, Numbered, interv
 use Rattle.vr_space.specs.Numbered.{IsFilled, items_from, start_of}
 use Rattle.vr_attach.specs.Chain.{IsChainDamagedAt, FilledBreaks}
 use Rattle.vr_attach.specs.Damage.{IsLeastBroken}
+use Rattle.vr_attach.specs.Marked.{IsTakenIn}
 use Rattle.vr_attach.specs.declared.damage.Damage.{Damage}
 use Rattle.vr_attach.specs.declared.rule.Rule.{Rule}
+use Rattle.vr_attach.proofs.CallerLemmas.{free-below, marks-first}
 use Rattle.vr_chained.specs.Chain.{ChainNow}
-use Rattle.vr_chained.specs.Walked.{AreMarked, IsBadUnder, IsOpen, IsTakenIn, IsThere, IsWalkedAt}
+use Rattle.vr_chained.specs.Walked.{AreChainMarked, IsBadUnder, IsOpen, IsThere, IsWalkedAt}
 use Rattle.vr_chained.specs.Walked.{IsWalkedOver}
-use Rattle.vr_chained.proofs.Taking.{free-below, marks-first}
 use Rattle.vr_chained.proofs.WalkedOn.{walk-first}
 
 -- ---- the intervals of an area
@@ -62,9 +63,9 @@ module _ (part : Numbered) (taken : List (Option PartNo)) (chain : ChainNow)
   })
 
   pub start-marked : owned_count (part_no (NumberedShape part)) taken ≡ 1
-      → AreMarked chain.part chain.areas taken taken
-  start-marked alone = subst (λ (c : ChainNow). AreMarked c.part c.areas taken taken) (sym is)
-      (marks-first part taken first alone)
+      → AreChainMarked chain.part chain.areas taken taken
+  start-marked alone = subst (λ (c : ChainNow). AreChainMarked c.part c.areas taken taken) (sym is)
+      (marks-first (part_no (NumberedShape part)) part.first taken first alone)
 
   pub start-walk : (image : Image) → part.first < area_count part.geometry
       → IsWalkedAt (IsTakenIn taken) image chain
@@ -99,16 +100,16 @@ module _ (part : Numbered) (taken after : List (Option PartNo)) (chain new : Cha
   same-part : chain.part ≡ part
   same-part = ap (λ (c : ChainNow). c.part) is
 
-  marks : AreMarked chain.part chain.areas taken taken
+  marks : AreChainMarked chain.part chain.areas taken taken
   marks = start-marked part taken chain is first alone
 
-  pub attached-marks : (AreMarked chain.part chain.areas taken taken → found ≡ None
-      → AreMarked chain.part new.areas taken after) → AreMarked part new.areas taken after
-  attached-marks walked = subst (λ (p : Numbered). AreMarked p new.areas taken after) same-part
+  pub attached-marks : (AreChainMarked chain.part chain.areas taken taken → found ≡ None
+      → AreChainMarked chain.part new.areas taken after) → AreChainMarked part new.areas taken after
+  attached-marks walked = subst (λ (p : Numbered). AreChainMarked p new.areas taken after) same-part
       (walked marks none)
 
   pub attached-over : (image : Image) → part.first < area_count part.geometry
-      → (AreMarked chain.part chain.areas taken taken
+      → (AreChainMarked chain.part chain.areas taken taken
       → IsWalkedAt (IsTakenIn taken) image chain
       → IsFound chain.part (IsTakenIn taken) image new found) → IsWalkedOver image new
   attached-over image below walked =

@@ -33,7 +33,6 @@ pub mod LinkArea
 pub mod Owning
 pub mod MoreDue
 pub mod AddArea
-pub mod Taking
 pub mod WalkedOn
 pub mod RosterRules
 pub mod SlotRules

@@ -1,20 +1,23 @@
 -- One step of a walk: by what was read of the last area, and who owns the next one.
-use Rattle.std.proofs.Common.{Bool, ◌≡◌, ◌<◌, ◌≤◌, ◌+◌, ◌++◌, ℕ, List, [], ◌∷◌, length, Option, Some, None}
+use Rattle.std.proofs.Common.{Bool, ◌≡◌, ◌<◌, ◌≤◌, ◌+◌, ◌++◌, ℕ, List, [], ◌∷◌, length, Option}
+use Rattle.std.proofs.Common.{Some, None}
 use Rattle.std.proofs.Common.{get_or, sym, ap, subst, ◌∙◌, arith}
 use Rattle.std.specs.Prelude.{Err, IfErr, IfOk, IfSome, Ok, OnOk, Result}
 use Rattle.vr_types.specs.Geometry.{area_count}
 use Rattle.vr_types.specs.Image.{Block, Image, block_at}
 use Rattle.vr_types.specs.declared.unit.PartNo.{PartNo}
+use Rattle.vr_space.specs.Part.{NumberedShape, part_no}
 use Rattle.vr_space.specs.Rosters.{Numbered, roster_block}
 use Rattle.vr_attach.specs.Chain.{IsAreaSound, IsChainDamagedAt}
+use Rattle.vr_attach.specs.Marked.{IsTakenIn}
 use Rattle.vr_attach.specs.declared.damage.Damage.{Damage}
 use Rattle.vr_attach.specs.declared.rule.Rule.{Rule}
 use Rattle.vr_attach.specs.declared.rule.Rule.TheVariants as rules
+use Rattle.vr_attach.proofs.CallerLemmas.{free-new, taken-before}
 use Rattle.vr_chained.specs.Chain.{ChainNow}
 use Rattle.vr_chained.specs.declared.rules.AreaRoster.{AreaRoster}
-use Rattle.vr_chained.specs.Walked.{AreMarked, IsAreaBad, IsReadOf, IsTakenIn}
+use Rattle.vr_chained.specs.Walked.{AreChainMarked, IsAreaBad, IsReadOf}
 use Rattle.vr_chained.specs.Walked.{IsWalkedAt, IsWalkedBy, IsWalkedOver}
-use Rattle.vr_chained.proofs.Taking.{free-new, taken-before}
 use Rattle.vr_chained.proofs.WalkedOn.{area-bad, area-twice, walked-on, walked-over}
 
 -- ---- what is read
@@ -67,7 +70,7 @@ further chain used area = record {
 -- ---- by the image
 
 module _ (before taken : List (Option PartNo)) (image : Image) (chain : ChainNow) (area : ℕ)
-    (marks : AreMarked chain.part chain.areas before taken)
+    (marks : AreChainMarked chain.part chain.areas before taken)
     (walk : IsWalkedAt (IsTakenIn before) image chain) (same : area ≡ walk.area) where
   abbrev part : Numbered
   part = chain.part
@@ -100,14 +103,16 @@ module _ (before taken : List (Option PartNo)) (image : Image) (chain : ChainNow
         → IsWalkedAt (IsTakenIn before) image (further chain used after)
     step-on after is free room = walked-on (IsTakenIn before) image chain walk is-sound is-read.good
         after (sym is-read.next_is ∙ is)
-        (free-new part chain.areas before taken after marks free) room used is-read.used_is
+        (free-new (part_no (NumberedShape part)) part.first chain.areas before taken after marks
+        free) room used is-read.used_is
 
     pub step-twice : (after : ℕ) → next ≡ Some after → IsTakenIn taken after → (n : ℕ)
         → n ≡ roster_block part after → (rule : Rule) → rule ≡ rules.AreaTwice
         → IsChainDamagedAt part (IsTakenIn before) image n rule
     step-twice after is had n block rule twice =
         area-twice (IsTakenIn before) image chain walk is-sound after (sym is-read.next_is ∙ is)
-        (taken-before part chain.areas before taken after marks had) n block rule twice
+        (taken-before (part_no (NumberedShape part)) part.first chain.areas before taken after marks
+        had) n block rule twice
 
 -- ---- from step to step
 
@@ -115,22 +120,24 @@ module _ (before taken : List (Option PartNo)) (image : Image) (chain : ChainNow
 module _ (part lay : Numbered) (same : lay ≡ part) (chain : ChainNow)
     (before taken : List (Option PartNo)) (found : Result Bool Damage) where
   pub marked-on : (new : ChainNow) (after : List (Option PartNo)) (more : Bool) → found ≡ Ok more
-      → (AreMarked lay chain.areas before taken → OnOk found (AreMarked lay new.areas before after))
-      → AreMarked part chain.areas before taken → AreMarked part new.areas before after
+      → (AreChainMarked lay chain.areas before taken
+      → OnOk found (AreChainMarked lay new.areas before after))
+      → AreChainMarked part chain.areas before taken → AreChainMarked part new.areas before after
   marked-on new after more is step marks =
-      subst (λ (p : Numbered). AreMarked p new.areas before after) same
-      (subst (λ (f : Result Bool Damage). OnOk f (AreMarked lay new.areas before after)) is
-      (step (subst (λ (p : Numbered). AreMarked p chain.areas before taken) (sym same) marks)))
+      subst (λ (p : Numbered). AreChainMarked p new.areas before after) same
+      (subst (λ (f : Result Bool Damage). OnOk f (AreChainMarked lay new.areas before after)) is
+      (step (subst (λ (p : Numbered). AreChainMarked p chain.areas before taken) (sym same) marks)))
 
   module _ (now image : Image) (cur : now ≡ image)
-      (marks : AreMarked part chain.areas before taken)
+      (marks : AreChainMarked part chain.areas before taken)
       (walk : IsWalkedAt (IsTakenIn before) image chain) where
     abbrev Step : Type 0 → Type 0
-    Step X = AreMarked lay chain.areas before taken → IsWalkedAt (IsTakenIn before) now chain → X
+    Step X = AreChainMarked lay chain.areas before taken → IsWalkedAt (IsTakenIn before) now chain
+        → X
 
     stepped : {X : Type 0} → Step X → X
     stepped step = step
-        (subst (λ (p : Numbered). AreMarked p chain.areas before taken) (sym same) marks)
+        (subst (λ (p : Numbered). AreChainMarked p chain.areas before taken) (sym same) marks)
         (subst (λ (i : Image). IsWalkedAt (IsTakenIn before) i chain) (sym cur) walk)
 
     pub walked-by : (new : ChainNow) (more : Bool) → found ≡ Ok more
@@ -148,6 +155,7 @@ module _ (part lay : Numbered) (same : lay ≡ part) (chain : ChainNow)
     bad-by damage is step =
         subst (λ (p : Numbered).
         IsChainDamagedAt p (IsTakenIn before) image damage.block damage.rule) same
-        (subst (λ (i : Image). IsChainDamagedAt lay (IsTakenIn before) i damage.block damage.rule) cur
+        (subst (λ (i : Image). IsChainDamagedAt lay (IsTakenIn before) i damage.block damage.rule)
+        cur
         (subst (λ (f : Result Bool Damage). IfErr f (λ (d : Damage).
         IsChainDamagedAt lay (IsTakenIn before) now d.block d.rule)) is (stepped step)))

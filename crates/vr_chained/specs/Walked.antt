@@ -1,19 +1,21 @@
 -- A walk over the areas of a chain, from the first one on: what it found so far, which areas are
 -- marked as the part's, and how it ends. The rules are this project's own.
-use Rattle.std.specs.Prelude.{◌≡◌, ◌≢◌, ◌⊎◌, ℕ, ◌+◌, ◌*◌, ◌<◌, ◌≤◌, suc, Bool, true, false, List, []}
-use Rattle.std.specs.Prelude.{◌∷◌, ◌++◌, length, Option, Some, None, IfSome, Contains, slice_index_or}
+use Rattle.std.specs.Prelude.{◌≡◌, ◌⊎◌, ℕ, ◌+◌, ◌*◌, ◌<◌, ◌≤◌, suc, Bool, true, false, List, []}
+use Rattle.std.specs.Prelude.{◌∷◌, ◌++◌, length, Option, IfSome}
 use Rattle.vr_types.specs.Geometry.{area_count}
 use Rattle.vr_types.specs.Image.{Block, Image, block_at}
 use Rattle.vr_types.specs.Space.{free_count}
 use Rattle.vr_types.specs.declared.unit.PartNo.{PartNo}
 use Rattle.vr_seqset.specs.Reading.{roster_in}
-use Rattle.vr_space.specs.Part.{NumberedShape, owned_count, part_no}
-use Rattle.vr_space.specs.Rosters.{Chains, IsChained, IsOf, Numbered, areas_from, chain_of, used_from}
+use Rattle.vr_space.specs.Part.{NumberedShape, part_no}
+use Rattle.vr_space.specs.Rosters.{Chains, IsChained, IsOf, Numbered, areas_from, chain_of}
+use Rattle.vr_space.specs.Rosters.{used_from}
 use Rattle.vr_space.specs.Rosters.{interval_in, used_of}
 use Rattle.vr_space.specs.Numbered.{IsFilled}
 use Rattle.vr_attach.specs.Chain.{IsBadRoster, IsBadFilled, IsChainShown, IsWalkedTo, LeadsOn}
 use Rattle.vr_attach.specs.Chain.{FilledBreaks}
 use Rattle.vr_attach.specs.Damage.{IsLeastBroken}
+use Rattle.vr_attach.specs.Marked.{AreMarked}
 use Rattle.vr_attach.specs.declared.part_no.PartNo2.{PartNo2}
 use Rattle.vr_attach.specs.declared.part_no.PartNo2.TheVariants.{Damaged, Fault, Memory}
 use Rattle.vr_attach.specs.declared.rule.Rule.{Rule}
@@ -58,22 +60,10 @@ IsChainNo part Taken image Memory = Unit {0}
 
 -- ---- the areas that are marked
 
--- the area has an owner
-abbrev pub IsTakenIn : List (Option PartNo) → ℕ → Type 0
-IsTakenIn taken area = slice_index_or taken area None ≢ None
-
--- The areas that a walk came to, from the first one on, are marked as the part's, which owns no
--- other; each of them but the first was free.
-pub record AreMarked (part : Numbered) (areas : List ℕ) (old new : List (Option PartNo)) : Type 0
-  where
-    pub first : Contains areas part.first
-    pub owns : owned_count (part_no (NumberedShape part)) new ≡ length areas
-    pub marked : (area : ℕ) → Contains areas area
-        → slice_index_or new area None ≡ Some (part_no (NumberedShape part))
-    pub others : (area : ℕ) → (Contains areas area → ⊥)
-        → slice_index_or new area None ≡ slice_index_or old area None
-    pub free : (area : ℕ) → Contains areas area → area ≢ part.first
-        → slice_index_or old area None ≡ None
+-- the areas of a chain, from the first one on, are marked as its part's
+abbrev pub AreChainMarked : Numbered → List ℕ → List (Option PartNo) → List (Option PartNo) → Type 0
+AreChainMarked part areas old new =
+    AreMarked (part_no (NumberedShape part)) part.first areas old new
 
 -- The chain has room for each area that is free; and the intervals of its last area aren't counted
 -- yet.
@@ -100,7 +90,8 @@ pub record IsWalkedAt (Taken : ℕ → Type 0) (image : Image) (chain : ChainNow
   pub used : used_of chain.part image ≡ chain.used + used_from chain.part image (suc left) area
   pub walked : IsWalkedTo chain.part Taken image (length before)
   pub there : IsThere chain.part area
-  pub goes : Chains chain.part (IsThere chain.part) (IsFilled chain.part) (IsOf image) (suc left) area
+  pub goes : Chains chain.part (IsThere chain.part) (IsFilled chain.part) (IsOf image) (suc left)
+      area
       → IsChained chain.part (IsThere chain.part) (IsFilled chain.part) (IsOf image)
 
 -- The walk came to the end of the chain.

@@ -12,11 +12,12 @@ ghost use Rattle.vr_space.specs.Numbered.{IsNumberedOn, KnowsTail, numbered_fits
 ghost use Rattle.vr_types.specs.Faults.{HasCause};
 ghost use Rattle.vr_chained.specs.Met.{HasMetPlace, mets_in};
 ghost use Rattle.vr_attach.specs.Attached.{HasPartCause};
+ghost use Rattle.vr_attach.specs.Marked.{IsTakenIn};
 ghost use Rattle.std.specs.Option.{option_map};
 ghost use Rattle.vr_chained.specs.Chain.{IsChainOf, IsTailIn};
 ghost use Rattle.vr_chained.specs.Setting.{put_of};
 ghost use Rattle.vr_chained.specs.Tail.{tail_of};
-ghost use Rattle.vr_chained.specs.Walked.{AreMarked, IsChainNo, IsTakenIn};
+ghost use Rattle.vr_chained.specs.Walked.{AreChainMarked, IsChainNo};
 
 use crate::chain::{Chain, first_chain};
 use crate::extend::extend;
@@ -193,7 +194,7 @@ impl Chained {
         ensures tail { IsTrue B.tells → IfOk result (λ part. KnowsTail layout.relative layout
             (B.seen blocks.old).cur part.tail) }
         ensures marked { IfOk result (λ part.
-            AreMarked layout part.chain.areas taken.old taken.new) }
+            AreChainMarked layout part.chain.areas taken.old taken.new) }
         ensures count { length taken.new ≡ length taken.old }
         ensures damaged { IsTrue B.tells → IfErr result
             (IsChainNo layout (IsTakenIn taken.old) (B.seen blocks.old).cur) }

@@ -13,15 +13,16 @@ ghost use Rattle.vr_space.specs.Rosters.{interval_in, roster_at, roster_block};
 ghost use Rattle.vr_space.specs.Numbered.{IsFilled, IsNumberedOn};
 ghost use Rattle.vr_attach.specs.Chain.{IsAreaSound, IsChainDamagedAt, IsRosterSound, FilledBreaks};
 ghost use Rattle.vr_attach.specs.Damage.{IsLeastBroken};
+ghost use Rattle.vr_attach.specs.Marked.{IsTakenIn};
 ghost use Rattle.vr_attach.specs.declared.rule.Rule.TheVariants as rules;
-ghost use Rattle.vr_chained.specs.Walked.{AreMarked, IsAreaBad, IsBadUnder, IsOpen, IsReadOf};
-ghost use Rattle.vr_chained.specs.Walked.{IsTakenIn, IsWalkedAt, IsWalkedBy, IsWalkedOver};
+ghost use Rattle.vr_chained.specs.Walked.{AreChainMarked, IsAreaBad, IsBadUnder, IsOpen};
+ghost use Rattle.vr_chained.specs.Walked.{IsReadOf, IsWalkedAt, IsWalkedBy, IsWalkedOver};
 
 use crate::chain::Chain;
 use crate::rules::{AreaRoster, filled_rule, roster_of};
-use vr_attach::{Damage, Rule};
+use vr_attach::{Damage, Rule, take_area};
 use vr_space::{ChainLayout, read_block};
-use vr_types::{AreaNo, Blocks, DeviceFault, PartNo, Space};
+use vr_types::{Blocks, DeviceFault, Space};
 
 /// The least rule that an interval of an area breaks.
 fn rule_at<B: Blocks>(
@@ -111,20 +112,6 @@ fn walk_area<B: Blocks>(
     }
 }
 
-/// Makes the part the owner of an area; whether that was free. Who owns an area is not told, so
-/// this counts those that are free.
-fn take_area(taken: &mut Space, area: u32, part: PartNo) -> bool
-    requires { area < length taken.old }
-    ensures taken { taken.new ≡ slice_set taken.old area (Some part) }
-    ensures free { IsTrue result → slice_index_or taken.old area None ≡ None }
-    ensures fewer { IsTrue result → free_count taken.new + 1 ≡ free_count taken.old }
-    ensures owned { result ≡ false → IsTakenIn taken.old area }
-{
-    let before = taken.free();
-    taken.mark(AreaNo(area), part);
-    taken.free() < before
-}
-
 /// Goes on to the area that the last one leads to; or its damage, where that one has an owner.
 fn go_on(chain: &mut Chain, taken: &mut Space, next: u32) -> Result<(), Damage>
     requires there { next < area_count chain.old.part.geometry }
@@ -172,16 +159,16 @@ fn step<B: Blocks>(
     ensures longer { IfOk result (λ found. IfOk found (λ more. IsTrue more
         → length chain.new.areas ≡ length chain.old.areas + 1)) }
     ensures marked { (before : List (Option PartNumber))
-        → AreMarked chain.old.part chain.old.areas before taken.old
+        → AreChainMarked chain.old.part chain.old.areas before taken.old
         → IfOk result (λ found. OnOk found
-        (AreMarked chain.old.part chain.new.areas before taken.new)) }
+        (AreChainMarked chain.old.part chain.new.areas before taken.new)) }
     ensures walked { IsTrue B.tells → (before : List (Option PartNumber))
-        → AreMarked chain.old.part chain.old.areas before taken.old
+        → AreChainMarked chain.old.part chain.old.areas before taken.old
         → IsWalkedAt (IsTakenIn before) (B.seen blocks.old).cur chain.old
         → IfOk result (λ found. IfOk found (λ more.
         IsWalkedBy more (IsTakenIn before) (B.seen blocks.old).cur chain.new)) }
     ensures bad { IsTrue B.tells → (before : List (Option PartNumber))
-        → AreMarked chain.old.part chain.old.areas before taken.old
+        → AreChainMarked chain.old.part chain.old.areas before taken.old
         → IsWalkedAt (IsTakenIn before) (B.seen blocks.old).cur chain.old
         → IfOk result (λ found. IfErr found (λ damage.
         IsChainDamagedAt chain.old.part (IsTakenIn before) (B.seen blocks.old).cur
@@ -219,11 +206,11 @@ pub(crate) fn walk<B: Blocks>(
     requires top { length top.old ≡ chain.old.part.geometry.size }
     requires ready { IsOpen chain.old taken.old }
     ensures marked { (before : List (Option PartNumber))
-        → AreMarked chain.old.part chain.old.areas before taken.old
+        → AreChainMarked chain.old.part chain.old.areas before taken.old
         → IfOk result (λ found. found ≡ None
-        → AreMarked chain.old.part chain.new.areas before taken.new) }
+        → AreChainMarked chain.old.part chain.new.areas before taken.new) }
     ensures found { IsTrue B.tells → (before : List (Option PartNumber))
-        → AreMarked chain.old.part chain.old.areas before taken.old
+        → AreChainMarked chain.old.part chain.old.areas before taken.old
         → IsWalkedAt (IsTakenIn before) (B.seen blocks.old).cur chain.old
         → IfOk result (λ found. MatchOption found
         (IsWalkedOver (B.seen blocks.old).cur chain.new)

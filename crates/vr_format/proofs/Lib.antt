@@ -2,6 +2,7 @@ pub mod Tops
 pub mod NewParts
 pub mod Records
 pub mod OneInterval
+pub mod OneArea
 pub mod Steps
 pub mod NewVolume
 pub mod Safety

@@ -22,11 +22,11 @@ use Rattle.vr_space.specs.Numbered.{IsFilled, NumberedStandsFor, items_from, ite
 use Rattle.vr_space.specs.Numbered.{start_of}
 use Rattle.vr_attach.specs.Laid.{shape_by_kind}
 use Rattle.vr_volume.specs.Volume.{IsInside}
-use Rattle.vr_attach.proofs.CallerLemmas.{alone-reaches}
 use Rattle.vr_format.specs.Formatted.{HasOneArea}
 use Rattle.vr_format.specs.Planned.{BeginsEmpty, InAreaAt, IsCluster, IsClusterOf, IsNew, IsNewOf}
-use Rattle.vr_format.specs.Planned.{MayBeNumbered}
-use Rattle.vr_format.specs.Planned.{cluster_keyed, cluster_numbered, cluster_shape, first_roster}
+use Rattle.vr_format.specs.Planned.{MayBeNumbered, StandsInFirst, cluster_keyed, cluster_numbered}
+use Rattle.vr_format.specs.Planned.{cluster_shape, first_roster}
+use Rattle.vr_format.proofs.OneArea.{alone-reaches}
 
 -- ---- an entry-sequenced or relative part that begins empty
 
@@ -99,13 +99,13 @@ pub record IsMade (geometry : Geometry) (shape : Shape) (image : Image) : Type 0
   pub stands : StandsFor shape image []
   pub alone : HasOneArea geometry shape image
 
--- a keyed part reaches its first area alone
+-- a keyed part that stands in its first area reaches it alone
 pub one-alone : (geometry : Geometry) (part : KeyedChain) (image : Image) (content : Content)
-    → part.geometry ≡ geometry → StandsFor (KeyedShape part) image content
+    → part.geometry ≡ geometry → StandsInFirst part image content
     → HasOneArea geometry (KeyedShape part) image
 one-alone geometry part image content is stands = λ area reaches.
     ap (head_block part.geometry)
-    (sym (alone-reaches part image (content, stands) geometry area reaches))
+    (sym (alone-reaches part image stands.last geometry area reaches))
     ∙ ap (λ (g : Geometry). head_block g area) is
 
 some-shape : (x y : Shape) → Some x ≡ Some y → x ≡ y
@@ -135,7 +135,7 @@ module _ (geometry : Geometry) (allowed : IsAllowed geometry) (area : ℕ) (entr
       subst (λ (s : Shape). IsMade geometry s image)
       (some-shape (KeyedShape (cluster_keyed geometry area entry)) shape is) (record {
         inside = (record { allowed = allowed; first = there; fits = may.most }, refl);
-        stands = new;
+        stands = new.stands;
         alone = one-alone geometry (cluster_keyed geometry area entry) image [] refl new;
       })
   new-by kinds.Entry may image new shape is =

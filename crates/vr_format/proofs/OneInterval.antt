@@ -1,17 +1,14 @@
 -- What the blocks of an area stand for that has one interval in use, by its head and that interval.
-use Rattle.std.proofs.Common.{◌≡◌, ◌+◌, ℕ, Bool, List, [], ◌∷◌, ◌++◌, length, refl, sym, ap}
-use Rattle.std.proofs.Common.{subst, ◌∙◌, arith, Option, None, Some}
-use Rattle.std.specs.Prelude.{cond}
+use Rattle.std.proofs.Common.{◌≡◌, ◌+◌, ℕ, List, [], ◌∷◌, ◌++◌, length, refl, sym, ap}
+use Rattle.std.proofs.Common.{subst, ◌∙◌, arith, Option, None}
 use Rattle.vr_types.specs.Content.{Content}
 use Rattle.vr_types.specs.Image.{Block, Image, block_at}
 use Rattle.vr_ci_match.specs.declared.form.Form.TheVariants.{Plain}
 use Rattle.vr_ci.specs.Interval as ci
-use Rattle.vr_seqset.specs.Reading.{record_in}
 use Rattle.vr_space.specs.Keyed.{HoldRanges, HoldsRange, IsHead, Keyed, content_from}
 use Rattle.vr_space.specs.Keyed.{entries_of, entry_block, low_of, records_in}
 use Rattle.vr_catalog.specs.declared.entry.CatEntry.{CatEntry}
-use Rattle.vr_attach.specs.Damage.{IsWhole}
-use Rattle.vr_format.specs.Planned.{MayStand, StandsWholeFor, all_places, content_of}
+use Rattle.vr_format.specs.Planned.{IsOnlyHead, MayStand, StandsAlone, all_places, content_of}
 use Rattle.vr_format.proofs.Records.{holds-all, records-are, value_of, whole_range}
 
 append-none : (content : Content) → content ++ [] ≡ content
@@ -20,12 +17,12 @@ append-none (placed ∷ content) = ap (λ c. placed ∷ c) (append-none content)
 
 -- by a head of one entry and its interval
 pub one-stands : (part : Keyed) (entries : List CatEntry) (image : Image) (top block : Block)
-    → IsHead part top → IsWhole part top → entries_of top ≡ all_places part.key ∷ []
+    → IsHead part top → IsOnlyHead part.key top → entries_of top ≡ all_places part.key ∷ []
     → MayStand part entries → length block ≡ part.size
     → ci.IsInterval Plain block (value_of entries)
     → block_at image part.head ≡ top → block_at image (part.head + 1) ≡ block
-    → StandsWholeFor part image (content_of part entries)
-one-stands part entries image top block head whole one stand size interval at-head at-block =
+    → StandsAlone part image (content_of part entries)
+one-stands part entries image top block head only one stand size interval at-head at-block =
     record {
       stands = record {
         head = subst (IsHead part) (sym at-head) head;
@@ -44,12 +41,11 @@ one-stands part entries image top block head whole one stand size interval at-he
             ∙ ap (records_in part (whole_range part)) here
             ∙ records-are part entries block stand size interval);
       };
-      whole = subst (IsWhole part) (sym at-head) whole;
+      only = subst (IsOnlyHead part.key) (sym at-head) only;
     }
   where
     no-low : low_of (block_at image part.head) ≡ None
-    no-low = ap low_of at-head
-        ∙ ap (λ (b : Bool). cond b None (Some (record_in top).low)) whole.first
+    no-low = ap low_of at-head ∙ only.begins
 
     both : entries_of (block_at image part.head) ≡ all_places part.key ∷ []
     both = ap entries_of at-head ∙ one

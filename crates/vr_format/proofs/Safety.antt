@@ -11,7 +11,7 @@ use Rattle.vr_types.specs.Image.{Image}
 use Rattle.vr_types.specs.Space.{all_free}
 use Rattle.vr_types.specs.declared.geometry.Geometry.{Geometry}
 use Rattle.vr_types.specs.declared.unit.PartNo.{PartNo}
-use Rattle.vr_space.specs.Areas.{KeyedChain, areas_after, areas_in, most_areas}
+use Rattle.vr_space.specs.Areas.{KeyedChain, areas_after, areas_in}
 use Rattle.vr_space.specs.Part.{KeyedShape, NumberedShape, Shape, Stands}
 use Rattle.vr_space.specs.Rosters.{Numbered, areas_from, chain_of}
 use Rattle.vr_space.proofs.CallerLemmas.{content_item, item-read, stands_content}
@@ -84,7 +84,7 @@ first-reached : (geometry : Geometry) (area : ℕ) (shape : Shape) (image : Imag
 first-reached geometry area (KeyedShape part) image inside begins =
     subst (λ (at : ℕ). Contains (areas_in part image) at)
     (begins-at geometry part.geometry part.first area inside.1 begins)
-    (first-of-areas part image most_areas (omega arith))
+    (first-of-areas part image (area_count part.geometry) (omega arith))
 first-reached geometry area (NumberedShape part) image inside begins =
     subst (λ (at : ℕ). Contains (chain_of part image) at)
     (begins-at geometry part.geometry part.first area inside.1 begins)

@@ -20,7 +20,7 @@ use Rattle.vr_types.proofs.CallerLemmas.{block_size_least, during-weaken, puts-t
 use Rattle.vr_catalog.specs.declared.entry.CatEntry.{CatEntry}
 use Rattle.vr_space.specs.Areas.{IsKeyedChain, KeyedChain}
 use Rattle.vr_space.specs.Keyed.{InArea}
-use Rattle.vr_space.specs.Part.{KeyedShape, Shape, StandsFor}
+use Rattle.vr_space.specs.Part.{Shape, StandsFor}
 use Rattle.vr_space.specs.Rosters.{Numbered, roster_block}
 use Rattle.vr_seqset.specs.Roster.{IsRoster}
 use Rattle.vr_volume.specs.Header.{header_block}
@@ -28,14 +28,14 @@ use Rattle.vr_catalog.specs.Catalog.{definition_in, entries_in, entry_with_part}
 use Rattle.vr_volume.specs.Laid.{catalog_shape, shape_by, shape_of}
 use Rattle.vr_volume.specs.Volume.{IsInside}
 use Rattle.vr_mount.specs.Touched.{Anything}
-use Rattle.vr_attach.proofs.CallerLemmas.{alone-each}
-use Rattle.vr_mount.proofs.CallerLemmas.{IsAreaSame, area-before, keyed-same, two-areas}
+use Rattle.vr_mount.proofs.CallerLemmas.{area-before, two-areas}
 use Rattle.vr_format.specs.Formatted.{HasOneArea, IsFormatted, IsWritten, catalog_of}
 use Rattle.vr_format.specs.Planned.{AreNew, ArePlanned, BeginsEmpty, InAreaAt, InClusters}
-use Rattle.vr_format.specs.Planned.{IsCluster, IsNew, IsNewOf, IsOneOf, catalog_area}
-use Rattle.vr_format.specs.Planned.{catalog_keyed, cluster_keyed, cluster_numbered, content_of}
-use Rattle.vr_format.specs.Planned.{first_area, first_roster}
+use Rattle.vr_format.specs.Planned.{IsCluster, IsNew, IsNewOf, IsOneOf, StandsInFirst}
+use Rattle.vr_format.specs.Planned.{catalog_area, catalog_keyed, cluster_keyed, cluster_numbered}
+use Rattle.vr_format.specs.Planned.{content_of, first_area, first_roster}
 use Rattle.vr_format.proofs.NewParts.{IsMade, new-made, one-alone}
+use Rattle.vr_format.proofs.OneArea.{alone-stays}
 
 -- what puts into some blocks puts into more
 pub touches-more : (less more : ℕ → Type 0) (old new : Seen) → ((n : ℕ) → less n → more n)
@@ -70,18 +70,12 @@ pub touches-put : (tells : Bool) (region : ℕ → Type 0) (n : ℕ) (bytes : Bl
 touches-put tells region n bytes a b told inside call =
     puts-touches tells region Anything n bytes a b told inside call (λ image left. tt)
 
--- a keyed part stays where its first area isn't written
-one-stays : (part : KeyedChain) (old new : Image) (content : Content)
-    → IsAreaSame part old new part.first → StandsFor (KeyedShape part) old content
-    → StandsFor (KeyedShape part) new content
-one-stays part old new content same stands = keyed-same part old new
-    (alone-each part old (content, stands) (IsAreaSame part old new) same) content stands
-
+-- a keyed part of one area stays where that isn't written
 pub part-stays : (part : KeyedChain) (region : ℕ → Type 0) (old new : Seen) (content : Content)
     → ((n : ℕ) → InArea (first_area part) n → region n → ⊥) → Touches region Anything old new
-    → StandsFor (KeyedShape part) old.cur content → StandsFor (KeyedShape part) new.cur content
+    → StandsInFirst part old.cur content → StandsInFirst part new.cur content
 part-stays part region old new content apart call =
-    one-stays part old.cur new.cur content (λ n here. call.content n (apart n here))
+    alone-stays part old.cur new.cur content (λ n here. call.content n (apart n here))
 
 -- ---- clusters
 
@@ -119,7 +113,7 @@ new-stays : (geometry : Geometry) (area : ℕ) (entry : CatEntry) (kind : Kind) 
     → ((n : ℕ) → InAreaAt geometry area n → block_at new n ≡ block_at old n)
     → IsNewOf geometry area entry old kind → IsNewOf geometry area entry new kind
 new-stays geometry area entry kinds.Keyed old new same is =
-    one-stays (cluster_keyed geometry area entry) old new [] same is
+    alone-stays (cluster_keyed geometry area entry) old new [] same is
 new-stays geometry area entry kinds.Entry old new same is =
     begins-stays (cluster_numbered geometry area entry) old new
     (same (head_block geometry area) (omega arith, omega arith)) is
@@ -169,7 +163,7 @@ pub record Steps (geometry : Geometry) (number : ℕ) (entries clusters : List C
     (first second third last : Seen) : Type 0 where
   pub header : block_at second.cur 0 ≡ header_block geometry number
   pub log : block_at second.cur 1 ≡ replicate geometry.size 0
-  pub catalog : StandsFor (KeyedShape (catalog_keyed geometry)) third.cur
+  pub catalog : StandsInFirst (catalog_keyed geometry) third.cur
       (content_of (catalog_area geometry) entries)
   pub to_third : Touches (InArea (catalog_area geometry)) Anything second third
   pub new : AreNew geometry clusters (length clusters) last.cur
@@ -187,7 +181,7 @@ module _ (geometry : Geometry) (number : ℕ) (entries clusters : List CatEntry)
       ∙ steps.to_third.content n
       (λ inside. absurd (omega (arith, inside.0, small, allowed.some_log)))
 
-  catalog-stays : StandsFor (KeyedShape (catalog_keyed geometry)) last.cur
+  catalog-stays : StandsInFirst (catalog_keyed geometry) last.cur
       (content_of (catalog_area geometry) entries)
   catalog-stays =
       part-stays (catalog_keyed geometry) (InClusters geometry (length clusters))
@@ -197,7 +191,7 @@ module _ (geometry : Geometry) (number : ℕ) (entries clusters : List CatEntry)
 
   catalog-stands : StandsFor (catalog_shape geometry) last.cur (catalog_of entries)
   catalog-stands = subst (StandsFor (catalog_shape geometry) last.cur) (sym planned.content)
-      catalog-stays
+      catalog-stays.stands
 
   -- the catalog's part is there, and its records have room
   catalog-chain : IsKeyedChain (catalog_keyed geometry)
@@ -247,7 +241,8 @@ module _ (geometry : Geometry) (number : ℕ) (entries clusters : List CatEntry)
   laid-by : (part : ℕ) (shape : Shape) (is : Bool) → nat_eq part 0 ≡ is
       → shape_by geometry (catalog_of entries) part ≡ Some shape
       → StandsFor shape last.cur (cond is (catalog_of entries) [])
-  laid-by part shape true is there = subst (λ (s : Shape). StandsFor s last.cur (catalog_of entries))
+  laid-by part shape true is there = subst
+      (λ (s : Shape). StandsFor s last.cur (catalog_of entries))
       (catalog-is part shape is there) catalog-stands
   laid-by part shape false is there = (cluster-made shape (one-of part shape is there)).stands
 

@@ -1,5 +1,5 @@
 -- The head of a part that has one interval in use.
-use Rattle.std.proofs.Common.{◌≡◌, ◌<◌, ◌≤◌, ◌+◌, ◌-◌, ◌*◌, ◌/◌, ℕ, Bool, true, List, [], ◌∷◌, ◌++◌}
+use Rattle.std.proofs.Common.{◌≡◌, ◌<◌, ◌≤◌, ◌+◌, ◌-◌, ◌*◌, ◌/◌, ℕ, Bool, true, List, [], ◌∷◌}
 use Rattle.std.proofs.Common.{length, refl, sym, ap, subst, ◌∙◌, arith, All, None}
 use Rattle.std.specs.Prelude.{replicate, min}
 use Rattle.std.specs.List.{IsDistinct, flat_map}
@@ -19,9 +19,8 @@ use Rattle.vr_seqset.specs.SequenceSet.{IsSequenceSet, KeepsRules, SequenceSet, 
 use Rattle.vr_seqset.proofs.CallerLemmas.{length-entry_bytes, length-spelling, record_is}
 use Rattle.vr_seqset.specs.Writing.{with_entry}
 use Rattle.vr_seqset.proofs.CallerLemmas.{earlier_keep}
-use Rattle.vr_space.specs.Keyed.{IsHead, Keyed, entries_of}
-use Rattle.vr_attach.specs.Damage.{IsWhole as IsWholePart}
-use Rattle.vr_format.specs.Planned.{HasHead, all_places, one_head}
+use Rattle.vr_space.specs.Keyed.{IsHead, Keyed, entries_of, last_high, low_in}
+use Rattle.vr_format.specs.Planned.{HasHead, IsOnlyHead, all_places, one_head}
 
 -- an area of which an interval is used has room for its entry
 room-of : (area size key : ℕ) → 0 < min area ((size - 32 - key) / (4 + key))
@@ -67,7 +66,8 @@ one_rules part has = record {
     block = has.size;
     place = omega (arith, length-replicate {A = ℕ} part.key 0, has.key);
     whole = All-cons (IsWhole (length (one_head part).low)) (all_places part.key) []
-        (subst (λ (k : ℕ). IsWhole k (all_places part.key)) (sym (length-replicate {A = ℕ} part.key 0))
+        (subst (λ (k : ℕ). IsWhole k (all_places part.key))
+        (sym (length-replicate {A = ℕ} part.key 0))
         (one_whole part.key))
         (All-nil (IsWhole (length (one_head part).low)));
     room = omega (
@@ -143,18 +143,10 @@ added_keeps part cis size number s low high has cis-is size-is number-is low-is 
     (subst (KeepsRules part.area part.size) (sym (added_is part number s low high number-is low-is
     high-is is)) (one_rules part has)))
 
-last-of : (one : Entry) (P : Entry → Type 0) → P one → (before : List Entry) (entry : Entry)
-    → one ∷ [] ≡ before ++ entry ∷ [] → P entry
-last-of one P holds [] entry same =
-    subst P (let e : one ≡ entry = cc in e) holds
-last-of one P holds (first ∷ []) entry same = absurd (omega (arith, ap length same))
-last-of one P holds (first ∷ second ∷ before) entry same =
-    absurd (omega (arith, ap length same))
-
 -- a block that is the record's is the head of a part of one area
 pub one_top : (part : Keyed) (block : Block) → HasHead part → length block ≡ part.size
     → IsSequenceSet part.area block (one_head part)
-    → IsHead part block × IsWholePart part block × (entries_of block ≡ all_places part.key ∷ [])
+    → IsHead part block × IsOnlyHead part.key block × (entries_of block ≡ all_places part.key ∷ [])
 one_top part block has size is = (
   record {
     spelled = subst (IsSequenceSet part.area block) (sym same) is;
@@ -168,10 +160,9 @@ one_top part block has size is = (
         (All-nil (λ (entry : Entry). length entry.intervals ≡ 1)));
   },
   record {
-    first = ap (λ (s : SequenceSet). s.first) same;
+    begins = ap low_in same;
     next = ap (λ (s : SequenceSet). s.next) same;
-    last = λ before entry is-last. last-of (all_places part.key)
-        (λ (e : Entry). e.high ≡ replicate part.key 255) refl before entry (sym entries ∙ is-last);
+    ends = ap last_high entries;
   },
   entries,
 )

@@ -7,17 +7,18 @@ use Rattle.std.specs.Ordering.{is_le}
 use Rattle.vr_types.specs.BlockSize.{IsBlockSize}
 use Rattle.vr_types.specs.Content.{Content, Placed, Standing, place_cmp}
 use Rattle.vr_types.specs.Geometry.{head_block, area_count}
-use Rattle.vr_types.specs.Image.{Image, block_at}
+use Rattle.vr_types.specs.Image.{Block, Image, block_at}
 use Rattle.vr_types.specs.declared.geometry.Geometry.{Geometry}
 use Rattle.vr_types.specs.declared.unit.Kind.{Kind}
 use Rattle.vr_types.specs.declared.unit.Kind.TheVariants as kinds
 use Rattle.vr_ci.specs.Interval as ci
 use Rattle.vr_seqset.specs.Entry.{Entry}
 use Rattle.vr_seqset.specs.Numbers.{intervals_used}
+use Rattle.vr_seqset.specs.Reading.{record_in}
 use Rattle.vr_seqset.specs.Roster.{IsRoster, Roster}
 use Rattle.vr_seqset.specs.SequenceSet.{SequenceSet}
-use Rattle.vr_space.specs.Areas.{KeyedChain, area_of}
-use Rattle.vr_space.specs.Keyed.{Keyed, KeyedStandsFor, IsValid, key_of}
+use Rattle.vr_space.specs.Areas.{KeyedChain, area_of, end_of, head_in}
+use Rattle.vr_space.specs.Keyed.{Keyed, KeyedStandsFor, IsValid, key_of, low_of}
 use Rattle.vr_space.specs.Part.{Shape, KeyedShape, StandsFor}
 use Rattle.vr_space.specs.Rosters.{Numbered, roster_block}
 use Rattle.vr_catalog.specs.Catalog.{definition_in}
@@ -25,7 +26,6 @@ use Rattle.vr_catalog.specs.Definition.{catalog_definition}
 use Rattle.vr_catalog.specs.Record.{spelling}
 use Rattle.vr_catalog.specs.declared.entry.CatEntry.{CatEntry}
 use Rattle.vr_catalog.specs.declared.entry.EntryKind.TheVariants.{Cluster}
-use Rattle.vr_attach.specs.Damage.{IsWhole}
 use Rattle.vr_attach.specs.Laid.{AreApart, keyed_part, numbered_part, shape_by_kind}
 use Rattle.vr_volume.specs.CatalogRules.{IsCatalog}
 use Rattle.vr_volume.specs.Laid.{shape_by}
@@ -77,15 +77,27 @@ pub record MayStand (part : Keyed) (entries : List CatEntry) : Type 0 where
       IsTrue (is_le (place_cmp (key_of part (spelling entry)) (replicate part.key 255)))) entries
   pub room : 207 * length entries ≤ part.size - 4
 
--- The blocks of an area stand for the content, under the head of a part of one area.
-pub record StandsWholeFor (part : Keyed) (image : Image) (content : Content) : Type 0 where
+-- The head of the one area of a part with keys of this length: no area comes before it and none
+-- after it, and its ranges end at the greatest key.
+pub record IsOnlyHead (key : ℕ) (top : Block) : Type 0 where
+  pub begins : low_of top ≡ None
+  pub next : (record_in top).next ≡ None
+  pub ends : end_of top ≡ Some (replicate key 255)
+
+-- The blocks of an area stand for the content, under such a head.
+pub record StandsAlone (part : Keyed) (image : Image) (content : Content) : Type 0 where
   pub stands : KeyedStandsFor part image content
-  pub whole : IsWhole part (block_at image part.head)
+  pub only : IsOnlyHead part.key (block_at image part.head)
 
 -- ---- a part of one area
 
 abbrev pub first_area : KeyedChain → Keyed
 first_area part = area_of part part.first
+
+-- The part stands for the content in its first area, after which none comes.
+pub record StandsInFirst (part : KeyedChain) (image : Image) (content : Content) : Type 0 where
+  pub stands : StandsFor (KeyedShape part) image content
+  pub last : (record_in (head_in part image part.first)).next ≡ None
 
 -- ---- a volume
 
@@ -144,7 +156,7 @@ pub record BeginsEmpty (part : Numbered) (image : Image) : Type 0 where
 -- the cluster in the area is new
 abbrev pub IsNewOf : Geometry → ℕ → CatEntry → Image → Kind → Type 0
 IsNewOf geometry area entry image kinds.Keyed =
-    StandsFor (KeyedShape (cluster_keyed geometry area entry)) image []
+    StandsInFirst (cluster_keyed geometry area entry) image []
 IsNewOf geometry area entry image kinds.Entry =
     BeginsEmpty (cluster_numbered geometry area entry) image
 IsNewOf geometry area entry image kinds.Relative =
@@ -181,8 +193,8 @@ pub record ArePlanned (geometry : Geometry) (entries clusters : List CatEntry) :
   pub laid : (part : ℕ) (shape : Shape) → part ≢ 0
       → shape_by geometry (catalog_of entries) part ≡ Some shape → IsOneOf geometry clusters shape
 
--- A volume may be formatted with these clusters, which the entries are taken as, and with this order
--- of them in its catalog.
+-- A volume may be formatted with these clusters, which the entries are taken as, and with this
+-- order of them in its catalog.
 pub record ArePlannedFor (geometry : Geometry) (entries clusters ordered : List CatEntry) : Type 0
   where
     pub taken : AreTaken geometry entries clusters

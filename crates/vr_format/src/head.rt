@@ -2,8 +2,7 @@
 ghost use Rattle.std.specs.Prelude.{◌≡◌, ◌∷◌, [], length, replicate};
 ghost use Rattle.vr_seqset.specs.SequenceSet.{IsSequenceSet};
 ghost use Rattle.vr_space.specs.Keyed.{IsHead, entries_of};
-ghost use Rattle.vr_attach.specs.Damage.{IsWhole};
-ghost use Rattle.vr_format.specs.Planned.{HasHead, all_places, one_head};
+ghost use Rattle.vr_format.specs.Planned.{HasHead, IsOnlyHead, all_places, one_head};
 
 use vr_seqset::{SeqHead, SeqWriter};
 use vr_space::Layout;
@@ -37,7 +36,7 @@ pub(crate) fn write_head(layout: &Layout, lowest: &[u8], highest: &[u8], out: &m
     requires lowest { lowest.now ≡ replicate layout.now.key 0 }
     requires highest { highest.now ≡ replicate layout.now.key 255 }
     ensures head { IsHead layout.now out.new }
-    ensures whole { IsWhole layout.now out.new }
+    ensures only { IsOnlyHead layout.now.key out.new }
     ensures entries { entries_of out.new ≡ all_places layout.now.key ∷ [] }
 {
     write_record(layout, lowest, highest, out);

@@ -4,9 +4,9 @@ ghost use Rattle.vr_types.specs.Faults.{CountsWrite};
 ghost use Rattle.vr_types.specs.Regions.{Touches};
 ghost use Rattle.vr_space.specs.AreaCalls.{IsAreaOn};
 ghost use Rattle.vr_space.specs.Keyed.{InArea};
-ghost use Rattle.vr_space.specs.Part.{KeyedShape, IsOn, StandsFor};
+ghost use Rattle.vr_space.specs.Part.{KeyedShape, IsOn};
 ghost use Rattle.vr_mount.specs.Touched.{Anything};
-ghost use Rattle.vr_format.specs.Planned.{HasHead, MayStand, StandsWholeFor};
+ghost use Rattle.vr_format.specs.Planned.{HasHead, MayStand, StandsAlone, StandsInFirst};
 ghost use Rattle.vr_format.specs.Planned.{content_of, first_area};
 
 use crate::fillers::Fillers;
@@ -17,8 +17,8 @@ use vr_device::BlockDevice;
 use vr_space::{KeyedLayout, Layout};
 use vr_types::Failed;
 
-/// Writes an area whose records are those of these entries, all in interval 0. The block is a buffer
-/// of its size.
+/// Writes an area whose records are those of these entries, all in interval 0. The block is a
+/// buffer of its size.
 fn write_area<D: BlockDevice>(
     device: &mut D,
     layout: &Layout,
@@ -31,7 +31,7 @@ fn write_area<D: BlockDevice>(
     requires records { MayStand layout.now entries.now }
     requires fillers { fillers.now.size ≡ layout.now.size }
     requires buffer { length block.old ≡ layout.now.size }
-    ensures stands { IsTrue D.tells → OnOk result (StandsWholeFor layout.now
+    ensures stands { IsTrue D.tells → OnOk result (StandsAlone layout.now
         (D.seen device.new).cur (content_of layout.now entries.now)) }
     ensures after { IsTrue D.tells → Touches (InArea layout.now) Anything
         (D.seen device.old) (D.seen device.new) }
@@ -61,7 +61,7 @@ pub(crate) fn write_part<D: BlockDevice>(
     requires records { MayStand (first_area layout.now) entries.now }
     requires fillers { fillers.now.size ≡ layout.now.geometry.size }
     requires buffer { length block.old ≡ layout.now.geometry.size }
-    ensures stands { IsTrue D.tells → OnOk result (StandsFor (KeyedShape layout.now)
+    ensures stands { IsTrue D.tells → OnOk result (StandsInFirst layout.now
         (D.seen device.new).cur (content_of (first_area layout.now) entries.now)) }
     ensures after { IsTrue D.tells → Touches (InArea (first_area layout.now)) Anything
         (D.seen device.old) (D.seen device.new) }

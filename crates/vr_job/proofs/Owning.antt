@@ -25,7 +25,7 @@ use Rattle.vr_attach.proofs.CallerLemmas.{area-owner, laid-as, stays-reached}
 use Rattle.vr_chained.proofs.Reached.{chain-once}
 use Rattle.vr_history.specs.State.{State}
 use Rattle.vr_mount.specs.Areas.{AreOwners, IsReachedIn}
-use Rattle.vr_space.specs.Areas.{areas_in, most_areas}
+use Rattle.vr_space.specs.Areas.{areas_in}
 use Rattle.vr_space.specs.Known.{Known}
 use Rattle.vr_space.specs.Numbered.{IsFilled}
 use Rattle.vr_space.specs.Part.{HasOnly, KeyedShape, Knows, MayHold, NumberedShape, OwnsChain}
@@ -203,7 +203,7 @@ module _ (number : ℕ) (store : StoreNow) (state : State) (now : Seen) (set : I
       → ReachesArea geometry shape now.cur area
   own-reached part (KeyedShape keyed) laid area is =
       owned-all part store.space (areas_in keyed now.cur)
-      (areas-once keyed now.cur most_areas keyed.first None
+      (areas-once keyed now.cur (area_count keyed.geometry) keyed.first None
       (stands part (KeyedShape keyed) laid).1.chain)
       (All-weaker (Contains (areas_in keyed now.cur))
       (λ (one : ℕ). get_or store.space one None ≡ Some part)

@@ -72,15 +72,6 @@ pub record IsAdding (part : Keyed) (stretch : Stretch) (items all left : List ci
   pub whole : done ++ items_in part stretch left ≡ items_in part stretch all
   pub holds : Holds w (items ++ done)
 
-pub adding-starts : (part : Keyed) (stretch : Stretch) (items all : List ci.Item) (w : CiWriter)
-    → All (IsKept part) all → Holds w items → IsAdding part stretch items all all w
-adding-starts part stretch items all w kept holds = record {
-  kept = kept;
-  done = [];
-  whole = refl;
-  holds = subst (Holds w) (sym (append-nil items)) holds;
-}
-
 module _ (part : Keyed) (stretch : Stretch) (items all old left : List ci.Item) (item : ci.Item)
     (w : CiWriter) where
   cut-whole : old ≡ item ∷ left → (done : List ci.Item)
@@ -157,6 +148,10 @@ on-ok-map (Err e) P Q more is = is
 pub on-ok-from : {X E : Type 0} (r : Result X E) (P : Type 0) → P → OnOk r P
 on-ok-from (Ok x) P is = is
 on-ok-from (Err e) P is = tt
+
+pub on-err-from : {X E : Type 0} (r : Result X E) (P : Type 0) → P → OnErr r P
+on-err-from (Ok x) P is = tt
+on-err-from (Err e) P is = is
 
 pub on-ok-both : {X E : Type 0} (r : Result X E) (P Q : Type 0) → OnOk r P → OnOk r Q
     → OnOk r (P × Q)

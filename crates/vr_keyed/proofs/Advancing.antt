@@ -1,8 +1,7 @@
 -- Where a stage is due and no split is under way, the interval that was met lacks room.
 use Rattle.std.proofs.Common.{◌≡◌, ℕ, ◌+◌, ◌≤◌, Bool, true, false, List, length, refl, sym, ap}
-use Rattle.std.proofs.Common.{subst, ◌∙◌, arith, Option, Some, None, unwrap_or}
-use Rattle.std.proofs.Common.{IsTrue, [], ◌||◌, is_some}
-use Rattle.std.specs.Prelude.{slice_index, cond, nat_eq}
+use Rattle.std.proofs.Common.{subst, ◌∙◌, arith, Option, Some, None, IsTrue, [], ◌||◌}
+use Rattle.std.specs.Prelude.{IfSome, slice_index, cond, nat_eq}
 use Rattle.vr_types.specs.Image.{Block, Image, block_at}
 use Rattle.vr_types.specs.Seen.{Seen, Left}
 use Rattle.vr_types.specs.Blocks.{Keeps}
@@ -15,7 +14,7 @@ use Rattle.vr_space.specs.Room.{Lengths, Range, HaveRoom, have_room, with_length
 use Rattle.vr_space.specs.Keyed.{EachMayLeave, HasEnds, HoldsRange, InArea, IsHead, IsKeyedAtRest}
 use Rattle.vr_space.specs.Keyed.{KeepsRoom, Keyed}
 use Rattle.vr_space.specs.Keyed.{entries_of, entry_block, entry_in, lengths_of, low_of}
-use Rattle.vr_space.specs.Split.{SplitNow, free_interval, room_by, room_by_split}
+use Rattle.vr_space.specs.Split.{SplitNow, area_room, free_interval, room_by, room_by_split}
 use Rattle.vr_space.specs.Met.{Met, IsMet}
 use Rattle.vr_space.specs.Split.{room_after, stage_in, fits_in}
 use Rattle.vr_space.specs.Part.{Nothing}
@@ -24,7 +23,6 @@ use Rattle.vr_space.proofs.CallerLemmas.{due-here-keeps, due-here-then, found-in
 use Rattle.vr_space.proofs.CallerLemmas.{nothing-then-here, room-here-keeps, rooms-here-keep}
 use Rattle.vr_space.proofs.CallerLemmas.{same-here-keeps, same-here-then}
 use Rattle.vr_split.specs.Switching.{KeepsPart, IsStageDone}
-use Rattle.vr_split.specs.Splits.{stage_now}
 use Rattle.vr_keyed.specs.Advance.{IsDue}
 use Rattle.vr_keyed.specs.Planned.{LacksRoom}
 use Rattle.vr_keyed.specs.Splits.{room_here}
@@ -79,7 +77,7 @@ module _ (part : Keyed) (now : Seen) (left : Left now now.cur) (rests : IsKeyedA
   due-new =
       new-due (have_room part.size (with_length (lengths_of part kept met.range met.block) place n))
       (free_interval part (block_at now.cur part.head)) due.0
-      (sym (answer-met part now.cur met known None kept n place None
+      (sym (answer-met part now.cur met known None None kept n place None
       (have_room part.size (with_length (lengths_of part kept met.range met.block) place n)) same
       refl refl) ∙ due.1)
 
@@ -117,41 +115,43 @@ module _ (part : Keyed) (now : Seen) (left : Left now now.cur) (rests : IsKeyedA
 
 -- ---- the stage that is answered
 
--- where a split is under way, its stage is the one that is due
-pub going-due : (part : Keyed) (split : SplitNow) (image : Image) (kept : Lengths) (place : List ℕ)
-    (n : ℕ) → (due : IsDue part (Some split) image kept place n)
-    → Stage split.stage ≡ room_here part (Some split) image kept place n
-going-due part split image kept place n due =
-    by (entry_in (block_at image part.head) place) due.1 ∙ sym due.1
+ready-other : (stage : StageKind) → Ready ≡ Stage stage → ⊥
+ready-other stage same = cc
+
+-- where a stage is due in an area and a split of the part is under way, in it or elsewhere, it is
+-- the stage of that split
+pub going-due : (part : Keyed) (split : Option SplitNow) (stage : StageKind) (image : Image)
+    (kept : Lengths) (place : List ℕ) (n : ℕ) (kind : StageKind)
+    → IfSome split (λ (now : SplitNow). now.stage ≡ stage)
+    → area_room part split (Some stage) image kept place n ≡ Stage kind → stage ≡ kind
+going-due part split stage image kept place n kind of_split due =
+    by split of_split (entry_in (block_at image part.head) place) due
   where
     free : Option ℕ
     free = free_interval part (block_at image part.head)
 
-    lacking : (fits : Bool) → room_by fits (room_by_split (Some split.stage) free) ≡ Stage due.0
-        → Stage split.stage ≡ Stage due.0
-    lacking true is = absurd (other is)
-      where
-        other : Ready ≡ Stage due.0 → ⊥
-        other same = cc
-    lacking false is = is
+    lacking : (fits : Bool) → room_by fits (room_by_split (Some stage) free) ≡ Stage kind
+        → stage ≡ kind
+    lacking true is = absurd (ready-other kind is)
+    lacking false is = stage-is stage kind is
 
-    of_stage : (b : Bool) (fits : Bool)
-        → room_after (cond b (Some split.stage) None)
-        (room_by fits (room_by_split (Some split.stage) free)) ≡ Stage due.0
-        → Stage split.stage ≡ Stage due.0
-    of_stage true fits is = is
-    of_stage false fits is = lacking fits is
+    of_stage : (now : SplitNow) → now.stage ≡ stage → (b : Bool) (fits : Bool)
+        → room_after (cond b (Some now.stage) None)
+        (room_by fits (room_by_split (Some stage) free)) ≡ Stage kind → stage ≡ kind
+    of_stage now same true fits is = sym same ∙ stage-is now.stage kind is
+    of_stage now same false fits is = lacking fits is
 
-    by : (found : Option (Range × Entry))
-        → room_after (stage_in (Some split) found)
-        (room_by (fits_in part image kept place n found) (room_by_split (Some split.stage) free))
-        ≡ Stage due.0
-        → Stage split.stage ≡ Stage due.0
-    by None is = lacking false is
-    by (Some found) is =
-        of_stage
-        (nat_eq (slice_index found.1.intervals 0) split.old
-        || nat_eq (slice_index found.1.intervals 0) split.into)
+    by : (split : Option SplitNow) → IfSome split (λ (now : SplitNow). now.stage ≡ stage)
+        → (found : Option (Range × Entry))
+        → room_after (stage_in split found)
+        (room_by (fits_in part image kept place n found) (room_by_split (Some stage) free))
+        ≡ Stage kind → stage ≡ kind
+    by split same None is = lacking false is
+    by None same (Some found) is = lacking (fits_in part image kept place n (Some found)) is
+    by (Some now) same (Some found) is =
+        of_stage now same
+        (nat_eq (slice_index found.1.intervals 0) now.old
+        || nat_eq (slice_index found.1.intervals 0) now.into)
         (fits_in part image kept place n (Some found)) is
 
 -- where none is, it is a copy
@@ -174,24 +174,6 @@ new-stage part image kept place n due =
         → Stage CiCopy ≡ Stage due.0
     by None is = copy false free is
     by (Some found) is = copy (fits_in part image kept place n (Some found)) free is
-
--- the stage that was done is the one that was due
-pub going-stage : (part : Keyed) (split : Option SplitNow) (image : Image) (kept : Lengths)
-    (place : List ℕ) (n : ℕ) → IsDue part split image kept place n → (kind : StageKind)
-    → stage_now split ≡ Some kind → Stage kind ≡ room_here part split image kept place n
-going-stage part None image kept place n due kind is = absurd cc
-going-stage part (Some split) image kept place n due kind is =
-    ap (λ (o : Option StageKind). Stage (unwrap_or o kind)) (sym is)
-    ∙ going-due part split image kept place n due
-
-pub copy-stage : (part : Keyed) (split after : Option SplitNow) (image : Image) (kept : Lengths)
-    (place : List ℕ) (n : ℕ) → is_some (stage_now split) ≡ false
-    → IsDue part split image kept place n → stage_now after ≡ Some CiCopy → (kind : StageKind)
-    → stage_now after ≡ Some kind → Stage kind ≡ room_here part split image kept place n
-copy-stage part None after image kept place n none due copy kind is =
-    ap (λ (o : Option StageKind). Stage (unwrap_or o kind)) (sym is ∙ copy)
-    ∙ new-stage part image kept place n due
-copy-stage part (Some split) after image kept place n none due copy kind is = absurd cc
 
 -- ---- calls that only read, and then a stage
 

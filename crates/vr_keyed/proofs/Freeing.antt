@@ -1,7 +1,7 @@
 -- The least interval that no entry of a head has.
 use Rattle.std.proofs.Common.{◌≡◌, ℕ, suc, ◌+◌, ◌-◌, ◌<◌, Bool, true, false, List, []}
 use Rattle.std.proofs.Common.{◌∷◌, ◌++◌, length, All, refl, sym, ap, subst, ◌∙◌, arith, Some}
-use Rattle.std.proofs.Common.{None, add-one}
+use Rattle.std.proofs.Common.{add-one}
 use Rattle.std.specs.Prelude.{cond, nat_eq, ◌||◌}
 use Rattle.std.specs.List.{list_any, flat_map}
 use Rattle.std.proofs.lemmas.List.Elements.{All-head, All-tail}
@@ -29,9 +29,6 @@ pub record IsLooking (n : ℕ) (all left : List Entry) (i : ℕ) : Type 0 where
   pub single : AreSingle left
   pub same : list_any (nat_eq n) (intervals_of left) ≡ list_any (nat_eq n) (intervals_of all)
   pub count : length left + i ≡ length all
-
-pub look-starts : (n : ℕ) (all : List Entry) → AreSingle all → IsLooking n all all 0
-look-starts n all single = record { single = single; same = refl; count = omega arith }
 
 module _ (n : ℕ) (all old left : List Entry) (i : ℕ) (entry : Entry) (cut : old ≡ entry ∷ left)
     (look : IsLooking n all old i) where
@@ -61,11 +58,6 @@ module _ (n : ℕ) (all old left : List Entry) (i : ℕ) (entry : Entry) (cut : 
   look-finds some =
       sym (ap (λ (b : Bool). b || list_any (nat_eq n) (intervals_of left)) some) ∙ joined
 
-pub look-ends : (n : ℕ) (all left : List Entry) (i : ℕ) → length left ≡ 0
-    → IsLooking n all left i → false ≡ list_any (nat_eq n) (intervals_of all)
-look-ends n all [] i none look = look.same
-look-ends n all (x ∷ left) i none look = absurd (omega (arith, none))
-
 -- ---- numbers in turn
 
 -- a number that is used is passed
@@ -89,9 +81,3 @@ free-here limit n used below is more =
     let left : limit - n ≡ suc (limit - (n + 1)) = omega (arith, below) in
     sym more ∙ ap (λ (k : ℕ). free_from k n used) left
     ∙ ap (λ (b : Bool). cond b (free_from (limit - (n + 1)) (suc n) used) (Some n)) (sym is)
-
-pub free-none : (limit n : ℕ) (used : List ℕ) → n ≡ limit
-    → free_from (limit - n) n used ≡ free_from limit 0 used → free_from limit 0 used ≡ None
-free-none limit n used all more =
-    let left : limit - n ≡ 0 = omega (arith, all) in
-    sym more ∙ ap (λ (k : ℕ). free_from k n used) left

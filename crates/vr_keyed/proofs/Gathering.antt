@@ -27,7 +27,8 @@ use Rattle.vr_space.specs.Room.{with_lengths, lengths_in, length_at, length_by, 
 use Rattle.vr_space.specs.Keyed.{Keyed, IsKept, IsValid, key_of, placed, length_of}
 use Rattle.vr_space.specs.Keyed.{HoldsRange}
 use Rattle.vr_space.specs.Room.{have_room}
-use Rattle.vr_space.proofs.CallerLemmas.{items-read, above-more, in-above, in-most, in-both, in-past}
+use Rattle.vr_space.proofs.CallerLemmas.{items-read, above-more, in-above, in-most, in-both}
+use Rattle.vr_space.proofs.CallerLemmas.{in-past}
 use Rattle.vr_space.proofs.CallerLemmas.{is_past, not_past}
 use Rattle.vr_split.specs.Weights.{LengthsRoom, HasNoRoom}
 use Rattle.vr_split.proofs.CallerLemmas.{with_length-after, weight-with, weight_places}
@@ -111,14 +112,6 @@ pub record IsGathering (part : Keyed) (range : Range) (all left : List ci.Item)
   pub whole : lengths ++ lengths_among part range left ≡ lengths_among part range all
   pub count : length left + i ≡ length all
 
-pub gather-starts : (part : Keyed) (range : Range) (all : List ci.Item) (lengths : Lengths)
-    → lengths ≡ [] → All (IsKept part) all → IsGathering part range all all lengths 0
-gather-starts part range all lengths none kept = record {
-  kept = kept;
-  whole = ap (λ (l : Lengths). l ++ lengths_among part range all) none;
-  count = omega arith;
-}
-
 module _ (part : Keyed) (range : Range) (all old left : List ci.Item) (lengths : Lengths)
     (i : ℕ) (item : ci.Item) where
   -- the next record
@@ -152,13 +145,6 @@ module _ (part : Keyed) (range : Range) (all old left : List ci.Item) (lengths :
           added_last lengths (map length_of rest) (key_in part item) (length item.bytes)
           (subst AscendLengths (sym whole) ascend) ∙ whole
       by false whole = whole
-
--- none is left
-pub gather-ends : (part : Keyed) (range : Range) (all left : List ci.Item) (lengths : Lengths)
-    (i : ℕ) → length left ≡ 0 → IsGathering part range all left lengths i
-    → lengths ≡ lengths_among part range all
-gather-ends part range all [] lengths i none gathering = sym (append-nil lengths) ∙ gathering.whole
-gather-ends part range all (x ∷ left) lengths i none gathering = absurd (omega (arith, none))
 
 pub length-key : (part : Keyed) (bytes : List ℕ) → IsValid part bytes
     → length (key_of part bytes) ≡ part.key

@@ -1,91 +1,232 @@
--- What a keyed part of one area keeps in memory: what is said of the area is said of the part.
-use Rattle.std.proofs.Common.{◌≡◌, ℕ, List, [], ◌∷◌, Option, Some, None, All, refl, sym, subst}
-use Rattle.std.proofs.Common.{◌∙◌, ⊎_elim, inl, inr, arith}
-use Rattle.std.specs.Prelude.{Contains, length, replicate}
+-- What a keyed part keeps in memory of its blocks: which area a place comes to, the split that is
+-- under way, and what was met.
+use Rattle.std.proofs.Common.{◌≡◌, ◌<◌, ℕ, Bool, true, false, IsTrue, List, [], ◌∷◌, Option}
+use Rattle.std.proofs.Common.{Some, None, All, refl, sym, ap, subst, ◌∙◌, arith, take}
+use Rattle.std.specs.Prelude.{Contains, IsSome, bytes_eq, cond, filter, not}
+use Rattle.std.specs.Ordering.{is_le}
+use Rattle.std.proofs.lemmas.List.Elements.{All-cons, All-filter, All-take, All-weaker}
+use Rattle.std.proofs.lemmas.List.Elements.{Contains-append_right}
+use Rattle.vr_types.specs.Blocks.{Keeps}
+use Rattle.vr_types.specs.Content.{place_cmp}
+use Rattle.vr_types.specs.Geometry.{area_count}
 use Rattle.vr_types.specs.Image.{Image}
 use Rattle.vr_types.specs.Seen.{Seen}
-use Rattle.vr_space.specs.Areas.{KeyedChain, KnowsAreas, area_of, areas_in}
-use Rattle.vr_space.specs.Met.{IsMet}
-use Rattle.vr_space.specs.Part.{CanSet, HasRoomFor, KeyedShape, Knows, Stands}
+use Rattle.vr_space.specs.Areas.{ChainKeepsRoom, IsChainOn, KeyedChain, KnowsAreas, area_by}
+use Rattle.vr_space.specs.Areas.{area_for, area_of, areas_in}
+use Rattle.vr_space.specs.Keyed.{InArea, KeepsRoom, Keyed}
+use Rattle.vr_space.specs.Met.{IsChainMet, IsMet, Met, met_next}
+use Rattle.vr_space.specs.Part.{KeyedShape, Knows, Stands}
 use Rattle.vr_space.specs.Room.{Lengths}
-use Rattle.vr_space.specs.Split.{SplitNow}
+use Rattle.vr_space.specs.Split.{AreaSplit, SplitNow}
 use Rattle.vr_space.specs.UnderWay.{AreaUnderWay, KeyedUnderWay}
-use Rattle.vr_keyed.specs.Owned.{Owned, known_of, split_of}
-use Rattle.vr_keyed.specs.Ready.{CanSetHere, HasRoomToSet}
-use Rattle.vr_keyed.proofs.Alone.{fits-alone, met-here, met-there, stage-alone}
+use Rattle.vr_space.proofs.CallerLemmas.{ComesTo, IsLinkedArea, area-on, comes-to, each-here}
+use Rattle.vr_space.proofs.CallerLemmas.{knows-area, links-in-area}
+use Rattle.vr_attach.specs.Areas.{AreasNow}
+use Rattle.vr_keyed.specs.Lent.{ArePlaces}
+use Rattle.vr_keyed.specs.Owned.{InAreas, IsMine, known_by, split_at}
+use Rattle.vr_keyed.specs.Slots.{IsMetAt, IsNewlyMet, LeavesAll, LeavesLast, LeavesMet, LeavesNew}
+use Rattle.vr_keyed.specs.Slots.{MeetsAt, met_places, mets, others_met}
+use Rattle.vr_keyed.specs.declared.slots.Slots.{Slots}
+use Rattle.vr_keyed.proofs.Keeping.{way-still}
 
--- the areas and their ends, as such a part keeps them
-abbrev pub KnowsOne : KeyedChain → Image → Type 0
-KnowsOne part image =
-    KnowsAreas part (part.first ∷ []) (replicate part.key 255 ∷ []) image
+-- ---- the area of a place
 
--- the first area is one of them
-pub first-inside : (part : KeyedChain) (areas : List ℕ) → areas ≡ part.first ∷ []
-    → Contains areas part.first
-first-inside part areas is =
-    subst (λ (list : List ℕ). Contains list part.first) (sym is) (0, omega arith, refl)
+-- it is one of those that the part keeps
+area-kept : (areas : List ℕ) (ends : List (List ℕ)) (place : List ℕ) (area : ℕ)
+    → area_by areas ends place ≡ Some area → Contains areas area
+area-kept [] ends place area is = absurd cc
+area-kept (first ∷ areas) [] place area is = absurd cc
+area-kept (first ∷ areas) (end ∷ ends) place area is =
+    by_test (is_le (place_cmp place end)) is (area-kept areas ends place area)
+  where
+    by_test : (test : Bool) → cond test (Some first) (area_by areas ends place) ≡ Some area
+        → (area_by areas ends place ≡ Some area → Contains areas area)
+        → Contains (first ∷ areas) area
+    by_test true same more = (0, omega arith, cc)
+    by_test false same more = Contains-append_right (first ∷ []) areas area (more same)
 
--- a split of the part under way is one of the area,
-way-here : (part : KeyedChain) (split : Option SplitNow) (now : Seen)
-    → KeyedUnderWay part (split_of part split) now
-    → AreaUnderWay (area_of part part.first) split now
-way-here part None now way = tt
-way-here part (Some split) now way = way.1
+-- the layout of an area is that of the part, by where it was read
+pub layout-at : (layout : Keyed) (here part : KeyedChain) (area : ℕ) → layout ≡ area_of here area
+    → here ≡ part → layout ≡ area_of part area
+layout-at layout here part area is same = is ∙ ap (λ (one : KeyedChain). area_of one area) same
 
--- and the other way round
-way-there : (part : KeyedChain) (split : Option SplitNow) (now : Seen)
-    → Contains (areas_in part now.cur) part.first
-    → AreaUnderWay (area_of part part.first) split now
-    → KeyedUnderWay part (split_of part split) now
-way-there part None now inside way = tt
-way-there part (Some split) now inside way = (inside, way)
+-- a place that is another comes to the area of that
+pub area-at : (chain : AreasNow) (at place : List ℕ) (area : ℕ) → at ≡ place
+    → area_by chain.areas chain.ends at ≡ Some area
+    → area_by chain.areas chain.ends place ≡ Some area
+area-at chain at place area same is = ap (area_by chain.areas chain.ends) (sym same) ∙ is
 
-module _ (keyed : Owned) (now : Seen)
-    (knows : Knows (KeyedShape keyed.part) (known_of keyed) now) where
-  pub known-areas : areas_in keyed.part now.cur ≡ keyed.part.first ∷ []
-  known-areas = sym knows.blocks.0.areas_are
+-- blocks of the area are blocks of the part
+pub blocks-kept : (chain : AreasNow) (place : List ℕ) (area : ℕ)
+    → area_by chain.areas chain.ends place ≡ Some area → (blocks : List ℕ)
+    → All (InArea (area_of chain.part area)) blocks → All (InAreas chain) blocks
+blocks-kept chain place area is blocks inside =
+    All-weaker (InArea (area_of chain.part area)) (InAreas chain)
+    (λ n here. (area, area-kept chain.areas chain.ends place area is, here)) blocks inside
 
-  pub known-way : AreaUnderWay (area_of keyed.part keyed.part.first) keyed.split now
-  known-way = way-here keyed.part keyed.split now knows.way
+-- that are on the volume
+pub blocks-on : (part : KeyedChain) (now : Seen) (count : ℕ) → IsChainOn part now → (area : ℕ)
+    → area < area_count part.geometry → count ≡ now.count → (blocks : List ℕ)
+    → All (InArea (area_of part area)) blocks → All (λ n. n < count) blocks
+blocks-on part now count on area below same blocks inside =
+    let there = (area-on part now on area below).0 in
+    All-weaker (InArea (area_of part area)) (λ n. n < count)
+    (λ n here. omega (arith, here.1, there, same)) blocks inside
 
-  pub known-met : Stands (KeyedShape keyed.part) now.cur
-      → All (IsMet (area_of keyed.part keyed.part.first) now.cur) keyed.met
-  known-met stands = met-here keyed.part now.cur stands keyed.met knows.blocks.1
+module _ (chain : AreasNow) (image : Image)
+    (knows : KnowsAreas chain.part chain.areas chain.ends image) (place : List ℕ) (area : ℕ)
+    (is : area_by chain.areas chain.ends place ≡ Some area) where
+  -- The place comes to the area in the image, too,
+  pub area-known : area_for chain.part image place ≡ Some area
+  area-known = knows-area chain.part chain.areas chain.ends image knows place ∙ is
 
--- What it keeps is as the blocks are, where the area is as it keeps it.
-pub knows-now : (keyed : Owned) (part : KeyedChain) (now : Seen) → keyed.part ≡ part
-    → KnowsOne part now.cur → Stands (KeyedShape part) now.cur
-    → AreaUnderWay (area_of part part.first) keyed.split now
-    → All (IsMet (area_of part part.first) now.cur) keyed.met
-    → Knows (KeyedShape part) (known_of keyed) now
-knows-now keyed part now same =
-    subst (λ (p : KeyedChain). KnowsOne p now.cur → Stands (KeyedShape p) now.cur
-    → AreaUnderWay (area_of p p.first) keyed.split now
-    → All (IsMet (area_of p p.first) now.cur) keyed.met
-    → Knows (KeyedShape p) (known_of keyed) now) same
-    (λ areas alone way met. record {
-      way = way-there keyed.part keyed.split now
-          (first-inside keyed.part (areas_in keyed.part now.cur) (sym areas.areas_are)) way;
-      blocks = (areas, met-there keyed.part now.cur alone keyed.met met);
+  -- which has it in its chain.
+  pub area-inside : Contains (areas_in chain.part image) area
+  area-inside = subst (λ (areas : List ℕ). Contains areas area) knows.areas_are
+      (area-kept chain.areas chain.ends place area is)
+
+  -- Where the blocks stand for a content, an entry of its head has the place.
+  pub area-comes : Stands (KeyedShape chain.part) image → ComesTo chain.part image place area
+  area-comes stands = comes-to chain.part image stands.0 stands.1 place area area-known
+
+-- what is kept for the part is kept for places of it
+pub kept-places : (part : KeyedChain) (kept : Lengths) (now : Seen) → IsChainOn part now
+    → ChainKeepsRoom part kept now → ArePlaces part.key kept
+kept-places part kept now on room =
+    (each-here part (λ area. KeepsRoom (area_of part area) kept now) now.may
+    (area_count part.geometry) part.first (omega (arith, on.part_is.first)) room).places
+
+-- ---- the split that is under way
+
+-- its area is one of the chain,
+pub way-inside : (part : KeyedChain) (area : ℕ) (split : Option SplitNow) (now : Seen)
+    → IsSome split → KeyedUnderWay part (split_at area split) now
+    → Contains (areas_in part now.cur) area
+way-inside part area None now some way = absurd cc
+way-inside part area (Some split) now some way = way.0
+
+-- and where the blocks of one of its areas are as a split left them, it is under way
+pub way-there : (part : KeyedChain) (area : ℕ) (split : Option SplitNow) (now : Seen)
+    → Contains (areas_in part now.cur) area → AreaUnderWay (area_of part area) split now
+    → KeyedUnderWay part (split_at area split) now
+way-there part area None now inside way = tt
+way-there part area (Some split) now inside way = (inside, way)
+
+-- ---- after a call that puts nothing
+
+module _ (chain : AreasNow) (tells : Bool) (told : IsTrue tells) (a b : Seen)
+    (call : Keeps tells a b) (on : IsChainOn chain.part a)
+    (stands : Stands (KeyedShape chain.part) a.cur) where
+  -- a split stays under way,
+  pub under-still : (split : Option AreaSplit) → KeyedUnderWay chain.part split a
+      → KeyedUnderWay chain.part split b
+  under-still None way = tt
+  under-still (Some split) way =
+      let linked : IsLinkedArea chain.part a.cur split.area =
+      links-in-area chain.part a.cur (area_count chain.part.geometry) chain.part.first None
+      stands.1.chain split.area way.0 in (
+        subst (λ (image : Image). Contains (areas_in chain.part image) split.area)
+            (sym (call.content told)) way.0,
+        way-still (area_of chain.part split.area) tells told a b call
+            (area-on chain.part a on split.area linked.there).0 linked.stands.head
+            (Some split.split) way.1,
+      )
+
+  -- and what the part keeps is right, whatever it met of the blocks.
+  pub knows-still : (split : Option AreaSplit) (old new : List Met)
+      → Knows (KeyedShape chain.part) (known_by chain split old) a
+      → All (IsChainMet chain.part a.cur) new
+      → Knows (KeyedShape chain.part) (known_by chain split new) b
+  knows-still split old new knows met = record {
+    way = under-still split knows.way;
+    blocks = (
+      subst (KnowsAreas chain.part chain.areas chain.ends) (sym (call.content told))
+          knows.blocks.0,
+      subst (λ (image : Image). All (IsChainMet chain.part image) new) (sym (call.content told))
+          met,
+    );
+  }
+
+-- ---- what was met
+
+-- what was met of a place that comes to an area is as it was in that area
+pub met-at : (part : KeyedChain) (image : Image) (place : List ℕ) (area : ℕ)
+    → area_for part image place ≡ Some area → (met : List Met) → All (IsChainMet part image) met
+    → All (IsMetAt (area_of part area) image place) met
+met-at part image place area found met all =
+    All-weaker (IsChainMet part image) (IsMetAt (area_of part area) image place)
+    (λ one is same.
+    let there : Some is.area ≡ Some area =
+    sym is.there ∙ ap (area_for part image) same ∙ found in
+    let it : is.area ≡ area = cc in
+    subst (λ (at : ℕ). IsMet (area_of part at) image one) it is.is_met)
+    met all
+
+-- What is true of what is met now, and was of all that was met, is true of what is left of it.
+pub leaves-each : (part : Keyed) (tells : Bool) (image : Image) (place : List ℕ)
+    (P : Met → Type 0) → ((one : Met) → IsNewlyMet part tells image place one → P one)
+    → (old new : List Met) → LeavesMet part tells image place old new → All P old → All P new
+leaves-each part tells image place P newly old new (LeavesAll same) all =
+    subst (All P) (sym same) all
+leaves-each part tells image place P newly old new (LeavesLast same) all =
+    subst (All P) (sym same) (All-take P 1 old all)
+leaves-each part tells image place P newly old new (LeavesNew met is same) all =
+    let test = λ (one : Met). not (bytes_eq one.place place) in
+    subst (All P) (sym same)
+    (All-cons P met (others_met place old) (newly met is)
+    (All-take P 1 (filter test old) (All-filter test P old all)))
+
+-- So each is a block of the area of its place,
+pub leaves-mine : (chain : AreasNow) (tells : Bool) (image : Image) (place : List ℕ) (area : ℕ)
+    → area_by chain.areas chain.ends place ≡ Some area → (old new : List Met)
+    → LeavesMet (area_of chain.part area) tells image place old new → All (IsMine chain) old
+    → All (IsMine chain) new
+leaves-mine chain tells image place area is =
+    leaves-each (area_of chain.part area) tells image place (IsMine chain)
+    (λ one newly. record {
+      area = area;
+      is = ap (area_by chain.areas chain.ends) newly.place_is ∙ is;
+      inside = newly.inside;
     })
 
--- What may be set in the part may be set in the area.
-pub can-here : (keyed : Owned) (image : Image) → Stands (KeyedShape keyed.part) image → (kept : Lengths)
-    (place : List ℕ) (bytes : Option (List ℕ))
-    → CanSet (KeyedShape keyed.part) (known_of keyed) image kept place bytes
-    → CanSetHere (area_of keyed.part keyed.part.first) keyed.split image kept place bytes
-can-here keyed image alone kept place bytes can = record {
-  no_stage = sym (stage-alone keyed.part image alone keyed.split place) ∙ can.no_stage;
-  room = by bytes can.room;
-}
+-- and as it was met.
+pub leaves-met : (part : KeyedChain) (tells : Bool) (image : Image) (place : List ℕ) (area : ℕ)
+    → IsTrue tells → area_for part image place ≡ Some area → (old new : List Met)
+    → LeavesMet (area_of part area) tells image place old new → All (IsChainMet part image) old
+    → All (IsChainMet part image) new
+leaves-met part tells image place area told found =
+    leaves-each (area_of part area) tells image place (IsChainMet part image)
+    (λ one newly. record {
+      area = area;
+      there = ap (area_for part image) newly.place_is ∙ found;
+      is_met = newly.is_met told;
+    })
+
+-- the places of the others
+others-places : (place : List ℕ) (met : List Met)
+    → met_places (others_met place met)
+    ≡ take 1 (filter (λ (other : List ℕ). not (bytes_eq other place)) (met_places met))
+others-places place [] = refl
+others-places place (one ∷ met) =
+    by_test (bytes_eq one.place place) (others-places place met)
   where
-    by : (given : Option (List ℕ))
-        → HasRoomFor (KeyedShape keyed.part) (known_of keyed) image kept
-        place given
-        → HasRoomToSet (area_of keyed.part keyed.part.first) image kept place given
-    by None room = tt
-    by (Some record_given) room = ⊎_elim
-        (λ fits. inl (sym (fits-alone keyed.part image alone kept place (length record_given))
-        ∙ fits))
-        (λ covered. inr covered)
-        room
+    rest : List Met
+    rest = filter (λ (other : Met). not (bytes_eq other.place place)) met
+
+    places : List (List ℕ)
+    places = filter (λ (other : List ℕ). not (bytes_eq other place)) (met_places met)
+
+    by_test : (test : Bool) → met_places (take 1 rest) ≡ take 1 places
+        → met_places (take 1 (cond (not test) (one ∷ rest) rest))
+        ≡ take 1 (cond (not test) (one.place ∷ places) places)
+    by_test true more = more
+    by_test false more = refl
+
+-- What was met before comes after the place that is met now.
+pub meets-places : (part : Keyed) (tells : Bool) (image : Image) (place : List ℕ)
+    (old : List Met) (slots : Slots) → MeetsAt part tells image place old slots
+    → met_places (mets slots) ≡ met_next (met_places old) place
+meets-places part tells image place old slots meets =
+    ap met_places meets.rest
+    ∙ ap (λ (at : List ℕ). at ∷ met_places (others_met place old)) meets.newly.place_is
+    ∙ ap (λ (places : List (List ℕ)). place ∷ places) (others-places place old)

@@ -18,9 +18,9 @@ pub mod PlanLemmas
 pub mod Advancing
 pub mod StageKinds
 pub mod Keeping
-pub mod Attaching
-pub mod Walking
-pub mod Alone
-pub mod Owning
 pub mod Known
 pub mod Lifted
+pub mod Changing
+pub mod Walking
+pub mod Places
+pub mod Over

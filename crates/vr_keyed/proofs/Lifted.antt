@@ -1,113 +1,256 @@
--- What a call that puts into the one area of a keyed part at rest leaves of the part.
-use Rattle.std.proofs.Common.{◌≡◌, ◌∷◌, [], ℕ, List, Option, sym, subst, ◌∙◌}
-use Rattle.std.specs.Prelude.{Contains, IfSome, replicate}
+-- What a call that puts into one area of a keyed part at rest leaves of the part: a stage of a
+-- split, or a record that is set.
+use Rattle.std.proofs.Common.{◌≡◌, ◌≢◌, ⊎_elim, inl, inr, ℕ, Bool, List, [], Option}
+use Rattle.std.proofs.Common.{Some, None, All, refl, sym, ap, subst, ◌∙◌, arith, length, map}
+use Rattle.std.specs.Prelude.{Contains, IfSome, cond}
+use Rattle.std.specs.Option.{option_map}
+use Rattle.std.proofs.lemmas.Bool.{cases_eq, ne_eqb}
+use Rattle.std.proofs.lemmas.List.Elements.{All-head, All-map, All-nil, All-weaker}
 use Rattle.vr_types.specs.Content.{Item}
-use Rattle.vr_types.specs.Image.{Image}
-use Rattle.vr_types.specs.Regions.{Touches}
+use Rattle.vr_types.specs.Content.Item.{Standing}
+use Rattle.vr_types.specs.Image.{Block, Image}
 use Rattle.vr_types.specs.Seen.{Left, Seen}
-use Rattle.vr_space.specs.AreaCalls.{AddsHere, DueMoreAtHere, DueMoreHere, HasRoomHere, SameHere}
-use Rattle.vr_space.specs.AreaCalls.{SetsHere}
-use Rattle.vr_space.specs.Areas.{ChainKeepsRoom, IsChainAtRest, KeyedChain, area_of, areas_in}
-use Rattle.vr_space.specs.Areas.{head_in}
-use Rattle.vr_space.specs.Keyed.{HasEnds, InArea, IsKeyedAtRest, KeepsRoom, Keyed as Areas}
-use Rattle.vr_space.specs.Owners.{Owners}
-use Rattle.vr_space.specs.Part.{AddsTo, CanSet, DueMore, DueMoreAt, HasRoom, InPart, IsQuiet}
-use Rattle.vr_space.specs.Part.{IsRecordOf, KeyedShape, Knows, SameRecords, SetsOne}
+use Rattle.vr_space.specs.Areas.{ChainKeepsRoom, KeyedChain, area_for, area_of}
+use Rattle.vr_space.specs.Areas.{areas_in, head_in, head_of}
+use Rattle.vr_space.specs.Keyed.{InArea, IsHead}
+use Rattle.vr_space.specs.Known.{Known}
+use Rattle.vr_space.specs.Met.{IsChainMet, IsMet, Met}
+use Rattle.vr_space.specs.Part.{HasRoomFor, IsQuiet}
+use Rattle.vr_space.specs.Part.{IsRecordOf, Just, KeyedShape, Knows, Nothing, Stands}
 use Rattle.vr_space.specs.Room.{Lengths}
-use Rattle.vr_space.specs.Part.{Stands}
-use Rattle.vr_space.proofs.CallerLemmas.{ChangesArea, PutsInto, adds-puts, lift-adds}
-use Rattle.vr_space.proofs.CallerLemmas.{lift-due, lift-due-at, lift-rest, lift-room, lift-rooms}
-use Rattle.vr_space.proofs.CallerLemmas.{lift-same, rest-here, resting-stands, same-known}
-use Rattle.vr_keyed.proofs.Alone.{item-alone}
-use Rattle.vr_keyed.specs.Owned.{Owned, known_of}
-use Rattle.vr_keyed.specs.Ready.{IsReady}
-use Rattle.vr_keyed.proofs.Known.{KnowsOne, can-here, first-inside}
-use Rattle.vr_keyed.proofs.Known.{known-areas, known-way}
-use Rattle.vr_keyed.proofs.Owning.{area-room}
+use Rattle.vr_space.specs.Split.{AreaSplit, SplitNow, split_in}
+use Rattle.vr_space.specs.UnderWay.{AreaUnderWay}
+use Rattle.vr_space.proofs.CallerLemmas.{ChangesArea, PutsInto, adds-puts, areas-apart, found-in}
+use Rattle.vr_space.proofs.CallerLemmas.{fits-of-area, lift-adds, lift-due, lift-due-at, lift-met}
+use Rattle.vr_space.proofs.CallerLemmas.{lift-rest, lift-room, lift-rooms, lift-same, lift-sets}
+use Rattle.vr_space.proofs.CallerLemmas.{lift-under, record-of-area, rest-here, resting-for}
+use Rattle.vr_space.proofs.CallerLemmas.{resting-stands, room-here, same-area, same-areas}
+use Rattle.vr_space.proofs.CallerLemmas.{same-known, stage-of-area, under-here}
+use Rattle.vr_split.specs.Switching.{IsStageDone, KeepsPart}
+use Rattle.vr_attach.specs.Areas.{AreasNow}
+use Rattle.vr_keyed.specs.Changed.{IsDoneIn, IsReadyIn, IsSetIn, KeepsIn, MaySetIn}
+use Rattle.vr_keyed.specs.Owned.{IsMine, known_by, split_at}
+use Rattle.vr_keyed.specs.Ready.{HasRoomToSet, IsReady, IsSetNow, MaySet, again, put_of}
+use Rattle.vr_keyed.specs.Setting.{IsRecordHere}
+use Rattle.vr_keyed.proofs.Known.{way-there}
 
-module _ (part : KeyedChain) (owners : Owners) (old new : Seen)
-    (rests : IsChainAtRest part owners old) (left : Left old old.cur)
-    (one : areas_in part old.cur ≡ part.first ∷ []) (A : List ℕ → Option Item → Type 0)
-    (call : AddsHere (area_of part part.first) A old new) where
-  inside : Contains (areas_in part old.cur) part.first
-  inside = first-inside part (areas_in part old.cur) one
+-- ---- what was met, once a block is put
 
-  puts : PutsInto part part.first old new
-  puts = adds-puts part part.first A old new call
+-- it is at the same place, of the same block
+pub again-mine : (chain : AreasNow) (put : Option ℕ) (bytes : Block) (one : Met)
+    → IsMine chain one → IsMine chain (again put bytes one)
+again-mine chain None bytes one is = is
+again-mine chain (Some n) bytes one is =
+    record { area = is.area; is = is.is; inside = is.inside }
 
-  pub part-adds : AddsTo (KeyedShape part) owners A old new
-  part-adds = lift-adds part owners part.first old new rests left inside A call
+pub all-mine : (chain : AreasNow) (put : Option ℕ) (bytes : Block) (mid new : List Met)
+    → new ≡ map (again put bytes) mid → All (IsMine chain) mid → All (IsMine chain) new
+all-mine chain put bytes mid new same mine =
+    subst (All (IsMine chain)) (sym same)
+    (All-map (IsMine chain) (again put bytes) mid
+    (All-weaker (IsMine chain) (λ one. IsMine chain (again put bytes one))
+    (again-mine chain put bytes) mid mine))
 
-  pub part-rests : IsKeyedAtRest (area_of part part.first) new → IsChainAtRest part owners new
-  part-rests = lift-rest part owners part.first old new rests left inside puts
+-- as it was, where it is none of the blocks that were put
+again-other : (put : Option ℕ) (bytes : Block) (one : Met)
+    → All (λ (n : ℕ). one.number ≢ n) (put_of put) → again put bytes one ≡ one
+again-other None bytes one other = refl
+again-other (Some n) bytes one other =
+    let apart : one.number ≢ n = All-head (λ (m : ℕ). one.number ≢ m) n [] other in
+    ap (λ (test : Bool). record {
+      place = one.place;
+      range = one.range;
+      number = one.number;
+      block = cond test bytes one.block;
+    }) (ne_eqb one.number n apart)
 
-  pub part-room : (kept : Lengths) → KeepsRoom (area_of part part.first) kept new
-      → ChainKeepsRoom part kept old → ChainKeepsRoom part kept new
-  part-room = lift-room part owners part.first old new rests left inside puts
+again-place : (put : Option ℕ) (bytes : Block) (one : Met)
+    → (again put bytes one).place ≡ one.place
+again-place None bytes one = refl
+again-place (Some n) bytes one = refl
 
-  pub part-rooms : (kept : Lengths) → ChainKeepsRoom part kept old
-      → Touches (InArea (area_of part part.first)) (HasRoomHere (area_of part part.first) kept)
-      old new
-      → Touches (InPart (KeyedShape part) owners) (HasRoom (KeyedShape part) kept) old new
-  part-rooms kept = lift-rooms part owners part.first old new rests left inside A kept call
+-- a block that was met is one of its area
+met-inside : (part : KeyedChain) (image : Image) (area : ℕ) (one : Met)
+    → IsHead (area_of part area) (head_in part image area) → IsMet (area_of part area) image one
+    → InArea (area_of part area) one.number
+met-inside part image area one head is =
+    let below = found-in (area_of part area) (head_in part image area) one.place
+    (one.range, is.entry) head is.leads in
+    (omega (arith, is.number), omega (arith, is.number, below))
 
-  module _ (ends : HasEnds (head_in part old.cur part.first) (head_in part new.cur part.first))
-    where
-      changes : ChangesArea part part.first old.cur new.cur
-      changes = record { others = puts.content; ends = ends }
+-- ---- what a call in an area leaves
 
-      pub part-same : SameHere (area_of part part.first) old.cur new.cur
-          → SameRecords (KeyedShape part) old.cur new.cur
-      part-same = lift-same part part.first old.cur new.cur changes
-          (resting-stands part owners old rests left)
+module _ (part : KeyedChain) (area : ℕ) (old new : Seen) (quiet : IsQuiet (KeyedShape part) old)
+    (left : Left old old.cur) (inside : Contains (areas_in part old.cur) area) where
+  pub quiet-stands : Stands (KeyedShape part) old.cur
+  quiet-stands = resting-stands part quiet.0 old quiet.1 left
 
-      pub part-due : (put : List ℕ) → DueMoreHere (area_of part part.first) put old new
-          → DueMore (KeyedShape part) put old new
-      part-due = lift-due part owners part.first old new rests left inside puts changes
+  -- ---- a stage of a split
 
-      pub part-due-at : (at put : List ℕ)
-          → DueMoreAtHere (area_of part part.first) at put old new
-          → DueMoreAt (KeyedShape part) at put old new
-      part-due-at = lift-due-at part owners part.first old new rests left inside puts changes
+  module _ (kept : Lengths) (keeps : KeepsPart (area_of part area) kept old new) where
+    puts : PutsInto part area old new
+    puts = adds-puts part area Nothing old new keeps.adds
 
-      -- it has the areas that it had
-      pub part-areas : KnowsOne part old.cur → KnowsOne part new.cur
-      part-areas = same-known part part.first old.cur new.cur changes (part.first ∷ [])
-          (replicate part.key 255 ∷ [])
+    changes : ChangesArea part area old.cur new.cur
+    changes = record { others = puts.content; ends = keeps.current }
 
--- a record that is set in the area is set in the part
-pub set-alone : (part : KeyedChain) (old new : Image) → Stands (KeyedShape part) old
-    → Stands (KeyedShape part) new → (at : List ℕ) (bytes : Option (List ℕ)) → SetsHere (area_of part part.first) at bytes old new
-    → SetsOne (KeyedShape part) at bytes old new
-set-alone part old new before after at bytes sets = record {
-  here = item-alone part new after at ∙ sets.here;
-  others = λ place other. item-alone part new after place ∙ sets.others place other
-      ∙ sym (item-alone part old before place);
-}
+    -- What it keeps in the area it keeps in the part.
+    pub stage-keeps : ChainKeepsRoom part kept old → KeepsIn part kept old new
+    stage-keeps room = record {
+      adds = λ owners still.
+          lift-adds part owners area old new still left inside Nothing keeps.adds;
+      same = lift-same part area old.cur new.cur changes quiet-stands keeps.same;
+      room = lift-room part quiet.0 area old new quiet.1 left inside puts kept keeps.room room;
+      rooms = λ owners still. lift-rooms part owners area old new still left inside Nothing kept
+          keeps.adds room keeps.rooms;
+    }
 
--- A part at rest stands for a content,
-pub quiet-stands : (keyed : Owned) (now : Seen) → IsQuiet (KeyedShape keyed.part) now
-    → Left now now.cur → Stands (KeyedShape keyed.part) now.cur
-quiet-stands keyed now quiet left = resting-stands keyed.part quiet.0 now quiet.1 left
+    -- Once it is done, the split of the area is under way, and nothing is met.
+    pub stage-done : (areas : List ℕ) (ends : List (List ℕ)) (before : Option AreaSplit)
+        (split : Option SplitNow) (met after : List Met)
+        → Knows (KeyedShape part) (known_by (record { part = part; areas = areas; ends = ends })
+        before met) old
+        → IsStageDone (area_of part area) old new → AreaUnderWay (area_of part area) split new
+        → after ≡ []
+        → IsDoneIn part (known_by (record { part = part; areas = areas; ends = ends })
+        (split_at area split) after) old new
+    stage-done areas ends before split met after knows done way none = record {
+      due = lift-due part quiet.0 area old new quiet.1 left inside puts changes [] done.due;
+      rests = λ owners still.
+          lift-rest part owners area old new still left inside puts done.rests;
+      knows = record {
+        way = way-there part area split new
+            (subst (λ (those : List ℕ). Contains those area)
+            (sym (same-areas part area old.cur new.cur changes)) inside)
+            way;
+        blocks = (
+          same-known part area old.cur new.cur changes areas ends knows.blocks.0,
+          subst (All (IsChainMet part new.cur)) (sym none) (All-nil (IsChainMet part new.cur)),
+        );
+      };
+    }
 
--- and what may be set in the part may be set in the area.
-pub ready-here : (keyed : Owned) (kept : Lengths) (place : List ℕ) (bytes : Option (List ℕ))
-    (now : Seen) → IsQuiet (KeyedShape keyed.part) now → Left now now.cur
-    → Knows (KeyedShape keyed.part) (known_of keyed) now → ChainKeepsRoom keyed.part kept now
-    → CanSet (KeyedShape keyed.part) (known_of keyed) now.cur kept place bytes
-    → IfSome bytes (IsRecordOf (KeyedShape keyed.part) place)
-    → IsReady (area_of keyed.part keyed.part.first) kept keyed.split place bytes now
-ready-here keyed kept place bytes now quiet left knows room can valid = record {
-  rests = rest-here keyed.part quiet.0 now quiet.1 left keyed.part.first
-      (first-inside keyed.part (areas_in keyed.part now.cur) (known-areas keyed now knows));
-  room = area-room keyed.part now quiet.1.on kept room;
-  way = known-way keyed now knows;
-  can = can-here keyed now.cur (quiet-stands keyed now quiet left) kept place bytes can;
-  valid = valid;
-}
+  -- ---- a record that is set
 
--- what is said of an area and a place is said of those that they are
-pub moved : (P : Areas → List ℕ → Type 0) (one other : Areas) (here there : List ℕ)
-    → one ≡ other → here ≡ there → P one here → P other there
-moved P one other here there same spot has =
-    subst (λ (p : Areas). P p there) same (subst (P one) spot has)
+  -- There is room in the area where there is in the part,
+  room-to-set : (known : Known) (image : Image) (kept : Lengths) (place : List ℕ)
+      → area_for part image place ≡ Some area → (bytes : Option (List ℕ))
+      → HasRoomFor (KeyedShape part) known image kept place bytes
+      → HasRoomToSet (area_of part area) image kept place bytes
+  room-to-set known image kept place found None room = tt
+  room-to-set known image kept place found (Some bytes) room = ⊎_elim
+      (λ fits. inl (sym (fits-of-area part image kept place (length bytes) area found) ∙ fits))
+      (λ covered. inr covered)
+      room
+
+  valid-here : (place : List ℕ) (bytes : Option (List ℕ))
+      → IfSome bytes (IsRecordOf (KeyedShape part) place)
+      → IfSome bytes (IsRecordHere (area_of part area) place)
+  valid-here place None valid = tt
+  valid-here place (Some bytes) valid = record-of-area part area place bytes valid
+
+  -- so what may be set in the part may be set in the area.
+  pub ready-here : (known : Known) (kept : Lengths) (place : List ℕ) (bytes : Option (List ℕ))
+      → area_for part old.cur place ≡ Some area → IsReadyIn part known kept place bytes old
+      → IsReady (area_of part area) kept (split_in known.split area) place bytes old
+  ready-here known kept place bytes found ready = record {
+    rests = rest-here part quiet.0 old quiet.1 left area inside;
+    room = room-here part quiet.0 old quiet.1 left kept ready.room area inside;
+    way = under-here part known.split area old ready.knows.way;
+    can = record {
+      no_stage = sym (stage-of-area part known.split old.cur place area found)
+          ∙ ready.can.no_stage;
+      room = room-to-set known old.cur kept place found bytes ready.can.room;
+    };
+    valid = valid-here place bytes ready.valid;
+  }
+
+  module _ (kept : Lengths) (place : List ℕ) (bytes : Option (List ℕ))
+      (may : MaySet (area_of part area) kept place bytes old new) where
+    abbrev added : List ℕ → Option Item → Type 0
+    added = Just place (option_map Standing bytes)
+
+    set-puts : PutsInto part area old new
+    set-puts = adds-puts part area added old new may.adds
+
+    set-changes : ChangesArea part area old.cur new.cur
+    set-changes = record { others = set-puts.content; ends = may.current }
+
+    -- What it adds in the area it adds in the part.
+    pub may-set : ChainKeepsRoom part kept old → MaySetIn part kept place bytes old new
+    may-set room = record {
+      adds = λ owners still.
+          lift-adds part owners area old new still left inside added may.adds;
+      room = lift-room part quiet.0 area old new quiet.1 left inside set-puts kept may.room room;
+      rooms = λ owners still. lift-rooms part owners area old new still left inside added kept
+          may.adds room may.rooms;
+    }
+
+    -- what was met stays met where that of the area does,
+    again-met : (put : Option ℕ) (block : Block)
+        → All (InArea (area_of part area)) (put_of put) → (one : Met)
+        → (IsMet (area_of part area) old.cur one
+        → IsMet (area_of part area) new.cur (again put block one))
+        → IsChainMet part old.cur one → IsChainMet part new.cur (again put block one)
+    again-met put block within one here is = ⊎_elim
+        (λ same. record {
+          area = area;
+          there = ap (area_for part new.cur) (again-place put block one)
+              ∙ same-area part area old.cur new.cur set-changes one.place ∙ is.there
+              ∙ ap Some same;
+          is_met = here (subst (λ (at : ℕ). IsMet (area_of part at) old.cur one) same is.is_met);
+        })
+        (λ differ.
+        let resting = resting-for part quiet.0 old quiet.1 left one.place is.area is.there in
+        let head : IsHead (area_of part is.area) (head_in part old.cur is.area) =
+        resting.1.heads (head_in part old.cur is.area)
+        (left.each (head_of part is.area) (omega (arith, resting.1.area))) in
+        let its : InArea (area_of part is.area) one.number =
+        met-inside part old.cur is.area one head is.is_met in
+        subst (IsChainMet part new.cur)
+        (sym (again-other put block one
+        (All-weaker (InArea (area_of part area)) (λ (n : ℕ). one.number ≢ n)
+        (λ n there same. areas-apart part is.area area n differ
+        (subst (InArea (area_of part is.area)) same its) there)
+        (put_of put) within)))
+        (lift-met part quiet.0 area old new quiet.1 left set-puts set-changes one is
+        (λ found.
+        let both : Some is.area ≡ Some area = sym is.there ∙ found in
+        let it : is.area ≡ area = cc in
+        absurd (differ it))))
+        (cases_eq is.area area)
+
+    -- and the record is set in the part as it is in the area.
+    pub is-set : (areas : List ℕ) (ends : List (List ℕ)) (split : Option AreaSplit)
+        (met mid after : List Met) (put : Option ℕ) (block : Block)
+        → area_for part old.cur place ≡ Some area
+        → Knows (KeyedShape part) (known_by (record { part = part; areas = areas; ends = ends })
+        split met) old
+        → All (IsChainMet part old.cur) mid → after ≡ map (again put block) mid
+        → All (InArea (area_of part area)) (put_of put)
+        → ((one : Met) → IsMet (area_of part area) old.cur one
+        → IsMet (area_of part area) new.cur (again put block one))
+        → IsSetNow (area_of part area) (split_in split area) (put_of put) place bytes old new
+        → IsSetIn part (known_by (record { part = part; areas = areas; ends = ends }) split after)
+        (put_of put) place bytes old new
+    is-set areas ends split met mid after put block found knows were same within stays done =
+        record {
+          set = lift-sets part area old.cur new.cur set-changes quiet-stands place bytes found
+              done.set;
+          due = lift-due-at part quiet.0 area old new quiet.1 left inside set-puts set-changes place
+              (put_of put) done.due;
+          rests = λ owners still.
+              lift-rest part owners area old new still left inside set-puts done.rests;
+          knows = record {
+            way = lift-under part quiet.0 area old new quiet.1 left set-puts set-changes split
+                knows.way done.way;
+            blocks = (
+              same-known part area old.cur new.cur set-changes areas ends knows.blocks.0,
+              subst (All (IsChainMet part new.cur)) (sym same)
+                  (All-map (IsChainMet part new.cur) (again put block) mid
+                  (All-weaker (IsChainMet part old.cur)
+                  (λ one. IsChainMet part new.cur (again put block one))
+                  (λ one. again-met put block within one (stays one)) mid were)),
+            );
+          };
+        }

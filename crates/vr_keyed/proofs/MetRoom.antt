@@ -1,21 +1,18 @@
 -- What is answered at a place whose interval was met.
-use Rattle.std.proofs.Common.{◌≡◌, ℕ, Bool, List, [], ◌∷◌, Option, length}
-use Rattle.std.proofs.Common.{sym, ap, subst, ◌∙◌, All, take, zero, suc, ◌<◌, arith}
-use Rattle.std.proofs.lemmas.List.Elements.{All-head}
+use Rattle.std.proofs.Common.{◌≡◌, ℕ, Bool, List, Option, length}
+use Rattle.std.proofs.Common.{sym, ap, subst, ◌∙◌}
 use Rattle.vr_types.specs.Image.{Block, Image, block_at}
 use Rattle.vr_types.specs.declared.unit.StageKind.{StageKind}
 use Rattle.vr_seqset.specs.Entry.{Entry}
 use Rattle.vr_space.specs.declared.room.Room as answer
 use Rattle.vr_space.specs.Room.{Lengths, Range, with_length, have_room}
 use Rattle.vr_space.specs.Keyed.{Keyed, HoldsRange, entry_block, lengths_of}
-use Rattle.vr_space.specs.Split.{SplitNow, stage_at, stage_in, fits_in, room_after, room_by}
-use Rattle.vr_space.specs.Split.{room_by_split, free_interval}
-use Rattle.vr_split.specs.Splits.{stage_now}
+use Rattle.vr_space.specs.Split.{SplitNow, area_room, stage_at, stage_in, fits_in, room_after}
+use Rattle.vr_space.specs.Split.{room_by, room_by_split, free_interval}
 use Rattle.vr_space.specs.Met.{Met, IsMet}
 use Rattle.vr_split.specs.Weights.{LengthsRoom}
 use Rattle.vr_keyed.specs.Lent.{ArePlaces, HasRoomFor}
 use Rattle.vr_keyed.specs.Look.{AreaStands}
-use Rattle.vr_keyed.specs.Splits.{room_here}
 use Rattle.vr_keyed.proofs.Looking.{holds-in}
 
 module _ (part : Keyed) (image : Image) (met : Met) (is : IsMet part image met) where
@@ -28,16 +25,16 @@ module _ (part : Keyed) (image : Image) (met : Met) (is : IsMet part image met) 
       subst (HoldsRange part met.range) has
       (holds-in part image met.place (met.range, is.entry) stands is.leads)
 
-  -- the answer, by what was met
-  pub met-room : (split : Option SplitNow) (kept : Lengths) (n : ℕ)
-      → room_here part split image kept met.place n
+  -- the answer, by what was met: the split is that of the area, the stage that of the part
+  pub met-room : (split : Option SplitNow) (under : Option StageKind) (kept : Lengths) (n : ℕ)
+      → area_room part split under image kept met.place n
       ≡ room_after (stage_at split is.entry)
       (room_by
       (have_room part.size
       (with_length (lengths_of part kept met.range met.block) met.place n))
-      (room_by_split (stage_now split) (free_interval part (block_at image part.head))))
-  met-room split kept n =
-      let other : answer.Room = room_by_split (stage_now split)
+      (room_by_split under (free_interval part (block_at image part.head))))
+  met-room split under kept n =
+      let other : answer.Room = room_by_split under
       (free_interval part (block_at image part.head)) in
       ap (λ (o : Option (Range × Entry)). room_after (stage_in split o)
       (room_by (fits_in part image kept met.place n o) other)) is.leads
@@ -45,20 +42,20 @@ module _ (part : Keyed) (image : Image) (met : Met) (is : IsMet part image met) 
       (room_by (have_room part.size
       (with_length (lengths_of part kept met.range block) met.place n)) other)) has
 
-  pub answer-met : (split : Option SplitNow) (kept : Lengths) (n : ℕ) (place : List ℕ)
-      (stage : Option StageKind) (fits : Bool) → met.place ≡ place
+  pub answer-met : (split : Option SplitNow) (under : Option StageKind) (kept : Lengths) (n : ℕ)
+      (place : List ℕ) (stage : Option StageKind) (fits : Bool) → met.place ≡ place
       → stage ≡ stage_at split is.entry
       → fits ≡ have_room part.size
       (with_length (lengths_of part kept met.range met.block) place n)
-      → room_here part split image kept place n
+      → area_room part split under image kept place n
       ≡ room_after stage
       (room_by fits
-      (room_by_split (stage_now split) (free_interval part (block_at image part.head))))
-  answer-met split kept n place stage fits same stages fit =
-      let other : answer.Room = room_by_split (stage_now split)
+      (room_by_split under (free_interval part (block_at image part.head))))
+  answer-met split under kept n place stage fits same stages fit =
+      let other : answer.Room = room_by_split under
       (free_interval part (block_at image part.head)) in
-      ap (λ (p : List ℕ). room_here part split image kept p n) (sym same)
-      ∙ met-room split kept n
+      ap (λ (p : List ℕ). area_room part split under image kept p n) (sym same)
+      ∙ met-room split under kept n
       ∙ ap (λ (p : List ℕ). room_after (stage_at split is.entry)
       (room_by (have_room part.size
       (with_length (lengths_of part kept met.range met.block) p n)) other)) same
@@ -81,9 +78,3 @@ fits-met part kept met n room range block place fits says ranges blocks holds pl
     (with_length (lengths_of part kept r block) place n)) ranges
     ∙ ap (λ (b : Block). have_room part.size
     (with_length (lengths_of part kept met.range b) place n)) blocks
-
--- the interval that was met last is as it was
-pub first-met : (P : Met → Type 0) (first second : Met) (filled : ℕ) → 0 < filled
-    → All P (take filled (first ∷ second ∷ [])) → P first
-first-met P first second zero some all = absurd (omega (arith, some))
-first-met P first second (suc n) some all = All-head P first (take n (second ∷ [])) all

@@ -65,10 +65,6 @@ pub record IsLooking (part : Keyed) (range : Range) (from : Whence) (all left : 
       ≡ first_sought range from (map (item_key part) all)
   pub count : length left + i ≡ length all
 
-pub looking-starts : (part : Keyed) (range : Range) (from : Whence) (all : List ci.Item)
-    → All (IsKept part) all → IsLooking part range from all all 0
-looking-starts part range from all kept = record { kept = kept; same = refl; count = omega arith }
-
 module _ (part : Keyed) (range : Range) (from : Whence) (all old left : List ci.Item) (i : ℕ)
     (item : ci.Item) where
   first-by : (b : Bool) → is_sought range from (item_key part item) ≡ b → old ≡ item ∷ left
@@ -94,22 +90,9 @@ module _ (part : Keyed) (range : Range) (from : Whence) (all old left : List ci.
         count = omega (arith, ap length cut, looking.count);
       }
 
-  pub looking-finds : old ≡ item ∷ left → is_sought range from (item_key part item) ≡ true
-      → IsLooking part range from all old i
-      → first_sought range from (map (item_key part) all) ≡ Some (item_key part item)
-  looking-finds cut is looking = sym looking.same ∙ first-by true is cut
-
 no_items : (xs : List ci.Item) → length xs ≡ 0 → xs ≡ []
 no_items [] none = refl
 no_items (x ∷ xs) none = absurd (omega (arith, none))
-
-pub looking-ends : (part : Keyed) (range : Range) (from : Whence) (all left : List ci.Item) (i : ℕ)
-    → length left ≡ 0 → IsLooking part range from all left i
-    → first_sought range from (map (item_key part) all) ≡ None
-looking-ends part range from all left i none looking =
-    sym looking.same
-    ∙ ap (λ (xs : List ci.Item). first_sought range from (map (item_key part) xs))
-    (no_items left none)
 
 -- ---- what the first key says of the records
 

@@ -1,7 +1,6 @@
 -- A `set` after a call that puts nothing, and the order of what was met.
 use Rattle.std.proofs.Common.{◌≡◌, ◌<◌, ◌≤◌, ℕ, zero, suc, Bool, IsTrue, List, [], ◌∷◌, Option}
-use Rattle.std.proofs.Common.{take, All, refl, sym, ap, subst, ◌∙◌, arith}
-use Rattle.std.proofs.lemmas.List.Elements.{All-head, All-tail, All-cons, All-nil}
+use Rattle.std.proofs.Common.{take, map, refl, sym, ap, subst, ◌∙◌, arith}
 use Rattle.std.specs.Option.{option_map}
 use Rattle.vr_types.specs.Content.Item.{Standing}
 use Rattle.vr_types.specs.Image.{Block, Image, block_at}
@@ -17,7 +16,9 @@ use Rattle.vr_space.specs.Split.{SplitNow}
 use Rattle.vr_space.proofs.CallerLemmas.{adds-here-weaken, due-at-here-then, due-here-keeps}
 use Rattle.vr_space.proofs.CallerLemmas.{keeps-here, nothing-then-here, rest-here-keeps}
 use Rattle.vr_space.proofs.CallerLemmas.{room-here-keeps, rooms-here-keep}
-use Rattle.vr_keyed.specs.Slots.{HasMetPlace, met_places}
+use Rattle.vr_keyed.specs.declared.slot.Slot.{Slot}
+use Rattle.vr_keyed.specs.declared.slots.Slots.{Slots}
+use Rattle.vr_keyed.specs.Slots.{HasMetPlace, met_in, mets}
 use Rattle.vr_keyed.specs.Ready.{CanSetHere, IsReady, MaySet, IsSetNow}
 use Rattle.vr_keyed.proofs.Keeping.{way-still}
 use Rattle.vr_keyed.proofs.Reading.{still-current, still-head}
@@ -78,33 +79,33 @@ module _ (part : Keyed) (kept : Lengths) (split : Option SplitNow) (place : List
 
 -- ---- the order
 
--- all of both, in the other order
-pub all-turned : (P : Met → Type 0) (n : ℕ) (a b c d : Met) → n ≡ 2 → c ≡ b → d ≡ a
-    → All P (take n (a ∷ b ∷ [])) → All P (take n (c ∷ d ∷ []))
-all-turned P n a b c d two first second all =
-    let both : All P (a ∷ b ∷ []) = subst (λ (k : ℕ). All P (take k (a ∷ b ∷ []))) two all in
-    subst (λ (k : ℕ). All P (take k (c ∷ d ∷ []))) (sym two)
-    (All-cons P c (d ∷ [])
-    (subst P (sym first) (All-head P b [] (All-tail P a (b ∷ []) both)))
-    (All-cons P d [] (subst P (sym second) (All-head P a (b ∷ []) both)) (All-nil P)))
+full : (slots : Slots) → slots.filled ≡ 2
+    → mets slots ≡ met_in slots.first ∷ met_in slots.second ∷ []
+full slots two =
+    ap (λ (k : ℕ). take k (met_in slots.first ∷ met_in slots.second ∷ [])) two
 
--- places that were met, turned twice
-pub places-turned : (n k : ℕ) (a b c d e f : Met) → n ≡ 2 → k ≡ n
-    → met_places (take k (c ∷ d ∷ [])) ≡ met_places (take n (b ∷ a ∷ [])) → e ≡ d → f ≡ c
-    → met_places (take k (e ∷ f ∷ [])) ≡ met_places (take n (a ∷ b ∷ []))
-places-turned n k a b c d e f two same middle first second =
-    let k_two : k ≡ 2 = same ∙ two in
-    let now : c.place ∷ d.place ∷ [] ≡ b.place ∷ a.place ∷ [] =
-    sym (ap (λ (j : ℕ). met_places (take j (c ∷ d ∷ []))) k_two) ∙ middle
-    ∙ ap (λ (j : ℕ). met_places (take j (b ∷ a ∷ []))) two in
-    let one : c.place ≡ b.place = cc in
-    let other : d.place ≡ a.place = cc in
-    ap (λ (j : ℕ). met_places (take j (e ∷ f ∷ []))) k_two
-    ∙ ap (λ (x : Met). x.place ∷ f.place ∷ []) first
-    ∙ ap (λ (x : Met). d.place ∷ x.place ∷ []) second
-    ∙ ap (λ (p : List ℕ). p ∷ c.place ∷ []) other
-    ∙ ap (λ (p : List ℕ). a.place ∷ p ∷ []) one
-    ∙ sym (ap (λ (j : ℕ). met_places (take j (a ∷ b ∷ []))) two)
+-- what was met, turned twice: what is so in between is so of it
+pub turned-twice : (change : Met → Met) (old one put last : Slots) → old.filled ≡ 2
+    → one.filled ≡ old.filled → one.first ≡ old.second → one.second ≡ old.first
+    → put.filled ≡ one.filled → last.filled ≡ put.filled → last.first ≡ put.second
+    → last.second ≡ put.first → mets put ≡ map change (mets one)
+    → mets last ≡ map change (mets old)
+turned-twice change old one put last two count first second still count_last first_last
+    second_last changed =
+    let both : met_in put.first ∷ met_in put.second ∷ []
+    ≡ change (met_in one.first) ∷ change (met_in one.second) ∷ [] =
+    sym (full put (still ∙ count ∙ two)) ∙ changed
+    ∙ ap (map change) (full one (count ∙ two)) in
+    let one_changed : met_in put.first ≡ change (met_in one.first) = cc both in
+    let other_changed : met_in put.second ≡ change (met_in one.second) = cc both in
+    full last (count_last ∙ still ∙ count ∙ two)
+    ∙ ap (λ (s : Slot). met_in s ∷ met_in last.second ∷ []) first_last
+    ∙ ap (λ (s : Slot). met_in put.second ∷ met_in s ∷ []) second_last
+    ∙ ap (λ (m : Met). m ∷ met_in put.first ∷ []) other_changed
+    ∙ ap (λ (m : Met). change (met_in one.second) ∷ m ∷ []) one_changed
+    ∙ ap (λ (s : Slot). change (met_in s) ∷ change (met_in one.first) ∷ []) second
+    ∙ ap (λ (s : Slot). change (met_in old.first) ∷ change (met_in s) ∷ []) first
+    ∙ sym (ap (map change) (full old two))
 
 -- a place that was met, and not before the last, is the last
 pub has-first : (n : ℕ) (a b : Met) (place : List ℕ) → n ≤ 2

@@ -107,7 +107,8 @@ listed-or listed n = by (list_any (nat_eq n) listed) refl
     by : (b : Bool) → list_any (nat_eq n) listed ≡ b
         → Contains listed n ⊎ (Contains listed n → ⊥)
     by true it = inl (Contains-from_any Rattle.std.proofs.Common.eqb-true n listed it)
-    by false it = inr (λ there. true≢false (sym (list_any-from_Contains nat_eq_equiv n listed there) ∙ it))
+    by false it = inr (λ there.
+        true≢false (sym (list_any-from_Contains nat_eq_equiv n listed there) ∙ it))
 
 none_some : (o : Option StageKind) (stage : StageKind) → o ≡ None → o ≡ Some stage → ⊥
 none_some o stage none some = true≢false (ap is_some (sym some ∙ none))

@@ -1,15 +1,15 @@
 -- Which stages come next, and what a split under way is.
-use Rattle.std.proofs.Common.{◌≡◌, Option, Some, None, refl, sym, ap, subst, ◌∙◌}
+use Rattle.std.proofs.Common.{◌≡◌, List, Option, Some, None, refl, sym, ap, subst}
 use Rattle.std.specs.Prelude.{unwrap_or, IfSome}
 use Rattle.vr_types.specs.declared.unit.StageKind.{StageKind}
 use Rattle.vr_types.specs.declared.unit.StageKind.TheVariants.{CiCopy, CiSwitch, CiClean}
 use Rattle.vr_types.specs.declared.unit.PartNo.{PartNo}
-use Rattle.vr_space.specs.Split.{SplitNow}
+use Rattle.vr_space.specs.Split.{IsIntervalStage, SplitNow}
 use Rattle.vr_space.specs.Part.{OwnersAfter}
 use Rattle.vr_split.specs.Splits.{stage_now}
 use Rattle.vr_keyed.specs.declared.room.UnderWay.{UnderWay}
 use Rattle.vr_keyed.specs.Splits.{IsSplit}
-use Rattle.vr_keyed.specs.Advance.{IsLater, IsLaterStage, IsIntervalStage}
+use Rattle.vr_keyed.specs.Advance.{IsLater, IsLaterStage}
 
 same-kind : (one other : StageKind) → Some one ≡ Some other → one ≡ other
 same-kind one other same = ap (λ (o : Option StageKind). unwrap_or o one) same
@@ -26,15 +26,9 @@ later-kind None kind later is = absurd cc
 later-kind (Some split) kind later is =
     subst IsIntervalStage (same-kind split.stage kind is) (later-is split.stage later)
 
--- or of one that was begun
-pub copy-kind : (split : Option SplitNow) (kind : StageKind) → stage_now split ≡ Some CiCopy
-    → stage_now split ≡ Some kind → IsIntervalStage kind
-copy-kind split kind copy is =
-    subst IsIntervalStage (same-kind CiCopy kind (sym copy ∙ is)) tt
-
 -- such a stage leaves the owners of areas alone
-pub owners-same : (part : PartNo) (kind : StageKind) (owners : Rattle.std.proofs.Common.List
-    (Option PartNo)) → IsIntervalStage kind → OwnersAfter part kind owners owners
+pub owners-same : (part : PartNo) (kind : StageKind) (owners : List (Option PartNo))
+    → IsIntervalStage kind → OwnersAfter part kind owners owners
 owners-same part CiCopy owners is = refl
 owners-same part CiSwitch owners is = refl
 owners-same part CiClean owners is = refl

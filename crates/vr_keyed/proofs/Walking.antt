@@ -1,9 +1,8 @@
 -- Rooms of the intervals of a head, one by one and all.
-use Rattle.std.proofs.Common.{◌≡◌, ⊎_elim, ℕ, zero, suc, ◌+◌, ◌<◌, ◌≤◌, List, [], ◌∷◌, Option, Some}
+use Rattle.std.proofs.Common.{◌≡◌, ℕ, zero, suc, ◌<◌, List, [], ◌∷◌, Option, Some}
 use Rattle.std.proofs.Common.{length, refl, sym, ap, subst, arith}
 use Rattle.std.specs.Prelude.{unwrap_or, IfOk, Result, Ok, Err, IsTrue, ◌↔◌, Bool}
 use Rattle.std.specs.List.{slice_get}
-use Rattle.std.proofs.lemmas.Bool.{cases_lt}
 use Rattle.vr_types.specs.Image.{Block, Image, block_at}
 use Rattle.vr_seqset.specs.Entry.{Entry}
 use Rattle.vr_types.specs.declared.fault.DeviceFault.{DeviceFault}
@@ -14,17 +13,7 @@ use Rattle.vr_space.proofs.CallerLemmas.{holds-nth}
 use Rattle.vr_attach.specs.Damage.{HoldsNth}
 use Rattle.vr_types.specs.Content.{Content}
 use Rattle.vr_space.specs.Search.{low_before}
-use Rattle.vr_keyed.specs.Rooms.{HasRoomIn, HasRoomNth, HaveRoomsAll}
-
--- of one entry more
-pub room-more : (part : Keyed) (kept : Lengths) (top : Block) (image : Image) (n : ℕ)
-    → ((i : ℕ) → i < n → HasRoomNth part kept top image i) → HasRoomNth part kept top image n
-    → (i : ℕ) → i < n + 1 → HasRoomNth part kept top image i
-room-more part kept top image n so_far here i less = ⊎_elim
-    (λ (below : i < n). so_far i below)
-    (λ (most : n ≤ i). let same : n ≡ i = omega (arith, most, less) in
-    subst (HasRoomNth part kept top image) same here)
-    (cases_lt i n)
+use Rattle.vr_keyed.specs.Rooms.{HasRoomIn, HaveRoomsAll}
 
 abbrev EachRoom : Keyed → Lengths → Image → Option (List ℕ) → List Entry → Type 0
 EachRoom part kept image low entries = (i : ℕ) (entry : Entry) → slice_get entries i ≡ Some entry

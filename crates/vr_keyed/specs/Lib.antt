@@ -10,3 +10,4 @@ pub mod Advance
 pub mod Owned
 pub mod Attached
 pub mod Rooms
+pub mod Changed

@@ -1,7 +1,9 @@
 -- Searching for the next place with a record. The rules are this project's own.
 use Rattle.std.specs.Prelude.{◌≡◌, ◌⊎◌, ◌≤◌, ℕ, Bool, IsTrue, true, false, ◌&&◌, List}
-use Rattle.std.specs.Prelude.{Option, Some, None, filter, length, slice_get}
+use Rattle.std.specs.Prelude.{Option, Some, None, All, filter, length, slice_get}
 use Rattle.std.specs.List.{position}
+use Rattle.std.specs.declared.cmp.Ordering.TheVariants.{Less}
+use Rattle.vr_types.specs.Content.{place_cmp}
 use Rattle.vr_types.specs.Image.{Block, Image, block_at}
 use Rattle.vr_seqset.specs.Entry.{Entry}
 use Rattle.vr_seqset.specs.Search.{reaches}
@@ -58,3 +60,8 @@ abbrev pub NextNth : Keyed → Image → ℕ → Whence → Bool → List ℕ �
 NextNth part image n from true place = HasNth part image n from (Some place)
 NextNth part image n from false place = HasNth part image n from None
     ⊎ (length (entries_of (block_at image part.head)) ≤ n)
+
+-- Areas with these ends have no place that the search may find: each such place is past the ends.
+abbrev pub AreBefore : Whence → List (List ℕ) → Type 0
+AreBefore from ends = (place : List ℕ) → IsTrue (allows from place)
+    → All (λ (end : List ℕ). place_cmp end place ≡ Less) ends

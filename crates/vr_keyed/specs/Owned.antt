@@ -1,32 +1,48 @@
--- What is seen of a keyed part of one area on blocks.
-use Rattle.std.specs.Prelude.{ℕ, List, [], ◌∷◌, Option, None, replicate}
+-- What is seen of a keyed part on blocks.
+use Rattle.std.specs.Prelude.{◌≡◌, ℕ, List, Option, None, Some, Contains}
 use Rattle.std.specs.Option.{option_map}
-use Rattle.vr_space.specs.Areas.{KeyedChain}
+use Rattle.vr_space.specs.Areas.{KeyedChain, area_by, area_of}
+use Rattle.vr_space.specs.Keyed.{InArea}
 use Rattle.vr_space.specs.Split.{AreaSplit, SplitNow}
 use Rattle.vr_space.specs.Met.{Met}
 use Rattle.vr_space.specs.Known.{Known}
+use Rattle.vr_attach.specs.Areas.{AreasNow}
 
--- where it is, the split that is under way, what it met last, and which blocks its last `set` put
+-- Where it is, its areas in the order of their chain and where the ranges of each end, the split
+-- that is under way, what it met last, and which blocks its last `set` put.
 pub record Owned : Type 0 where
   pub part : KeyedChain
-  pub split : Option SplitNow
+  pub areas : List ℕ
+  pub ends : List (List ℕ)
+  pub split : Option AreaSplit
   pub met : List Met
   pub put : List ℕ
 
--- a split of its one area
-abbrev pub split_here : KeyedChain → SplitNow → AreaSplit
-split_here part split = record { area = part.first; split = split }
+-- a split of one of its areas
+abbrev pub split_at : ℕ → Option SplitNow → Option AreaSplit
+split_at area split = option_map (λ (now : SplitNow). record { area = area; split = now }) split
 
-abbrev pub split_of : KeyedChain → Option SplitNow → Option AreaSplit
-split_of part split = option_map (split_here part) split
-
--- what it keeps in memory of its blocks: its one area, whose ranges go up to the greatest key
-abbrev pub known_of : Owned → Known
-known_of keyed = record {
-  split = split_of keyed.part keyed.split;
-  met = keyed.met;
-  areas = keyed.part.first ∷ [];
-  ends = replicate keyed.part.key 255 ∷ [];
+-- what it keeps in memory of its blocks
+abbrev pub known_by : AreasNow → Option AreaSplit → List Met → Known
+known_by chain split met = record {
+  split = split;
+  met = met;
+  areas = chain.areas;
+  ends = chain.ends;
   used = 0;
   tail = None;
 }
+
+abbrev pub known_of : Owned → Known
+known_of keyed = known_by (record { part = keyed.part; areas = keyed.areas; ends = keyed.ends })
+    keyed.split keyed.met
+
+-- what was met is a block of the area of its place, by the areas in memory
+pub record IsMine (chain : AreasNow) (met : Met) : Type 0 where
+  pub area : ℕ
+  pub is : area_by chain.areas chain.ends met.place ≡ Some area
+  pub inside : InArea (area_of chain.part area) met.number
+
+-- a block of one of the areas in memory
+abbrev pub InAreas : AreasNow → ℕ → Type 0
+InAreas chain n = (area : ℕ) × Contains chain.areas area × InArea (area_of chain.part area) n

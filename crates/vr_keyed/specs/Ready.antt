@@ -70,3 +70,8 @@ refreshed n bytes met = record {
   number = met.number;
   block = cond (nat_eq met.number n) bytes met.block;
 }
+
+-- once these bytes are put into the block that was put, if one was
+abbrev pub again : Option ℕ → Block → Met → Met
+again None bytes met = met
+again (Some n) bytes met = refreshed n bytes met

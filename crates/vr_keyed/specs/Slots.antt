@@ -1,10 +1,10 @@
 -- What is kept of the intervals that were met last. The rules are this project's own.
 use Rattle.std.specs.Prelude.{◌≡◌, ◌<◌, ℕ, Bool, true, false, List, [], ◌∷◌, Option, Some}
-use Rattle.std.specs.Prelude.{None, Contains, map, take, vec_len}
-use Rattle.vr_types.specs.Image.{Block}
+use Rattle.std.specs.Prelude.{None, Contains, IsTrue, bytes_eq, filter, map, not, take, vec_len}
+use Rattle.vr_types.specs.Image.{Block, Image}
 use Rattle.vr_seqset.specs.Entry.{Entry}
 use Rattle.vr_space.specs.Keyed.{InArea, Keyed, entry_block, entry_in}
-use Rattle.vr_space.specs.Met.{Met}
+use Rattle.vr_space.specs.Met.{IsMet, Met}
 use Rattle.vr_keyed.specs.declared.slot.Slot.{Slot}
 use Rattle.vr_keyed.specs.declared.slots.Slots.{Slots}
 
@@ -22,12 +22,11 @@ met_in slot = record {
   block = slot.bytes.items;
 }
 
--- It has room for places and for a block of the part, and names one of its blocks.
+-- It has room for places and for a block of the part.
 pub record IsSlotOf (part : Keyed) (slot : Slot) : Type 0 where
   pub place : slot.place.room ≡ part.key
   pub low : slot.low.room ≡ part.key
   pub high : slot.high.room ≡ part.key
-  pub number : InArea part slot.number
   pub bytes : vec_len slot.bytes ≡ part.size
 
 -- The head leads from the place to the block, by an entry of the range.
@@ -56,3 +55,41 @@ pub record AreSlotsOf (part : Keyed) (slots : Slots) : Type 0 where
 pub record IsFirst (place : List ℕ) (slots : Slots) : Type 0 where
   pub some : 0 < slots.filled
   pub here : slots.first.place.place ≡ place
+
+-- ---- what was met of the place that a call is for
+
+-- what was met of this place, if it was, is a block of the area
+abbrev pub IsInside : Keyed → List ℕ → Met → Type 0
+IsInside part place met = met.place ≡ place → InArea part met.number
+
+-- and the head leads to it, which still has what it had
+abbrev pub IsMetAt : Keyed → Image → List ℕ → Met → Type 0
+IsMetAt part image place met = met.place ≡ place → IsMet part image met
+
+-- the last one that was met at another place
+abbrev pub others_met : List ℕ → List Met → List Met
+others_met place met = take 1 (filter (λ (one : Met). not (bytes_eq one.place place)) met)
+
+-- The interval of the place, as it is met now.
+pub record IsNewlyMet (part : Keyed) (tells : Bool) (image : Image) (place : List ℕ) (met : Met)
+    : Type 0 where
+  pub place_is : met.place ≡ place
+  pub inside : InArea part met.number
+  pub is_met : IsTrue tells → IsMet part image met
+
+-- What is left of what was met by a call that meets the interval of the place: all of it, where it
+-- didn't come so far; the last one, where it failed; or that interval and the last one of another
+-- place.
+pub data LeavesMet (part : Keyed) (tells : Bool) (image : Image) (place : List ℕ)
+    (old new : List Met) : Type 0 where
+  LeavesAll : new ≡ old → LeavesMet part tells image place old new
+  LeavesLast : new ≡ take 1 old → LeavesMet part tells image place old new
+  LeavesNew : (met : Met) → IsNewlyMet part tells image place met
+      → new ≡ met ∷ others_met place old → LeavesMet part tells image place old new
+
+-- The interval of the place is the one that was met last.
+pub record MeetsAt (part : Keyed) (tells : Bool) (image : Image) (place : List ℕ)
+    (old : List Met) (slots : Slots) : Type 0 where
+  pub first : IsFirst place slots
+  pub newly : IsNewlyMet part tells image place (met_in slots.first)
+  pub rest : mets slots ≡ met_in slots.first ∷ others_met place old

@@ -1,27 +1,22 @@
 //! The stages of a split that come before a record which lacks room.
-ghost use Rattle.std.specs.Prelude.{◌≡◌, ◌≤◌, ◌<◌, [], ℕ, Some, None, IsTrue, true, false, All};
+ghost use Rattle.std.specs.Prelude.{◌≡◌, ◌⊎◌, ◌≤◌, ◌<◌, [], Some, None, IsTrue, false, All};
 ghost use Rattle.std.specs.Prelude.{length};
 ghost use Rattle.std.specs.Prelude.{IfOk, IfErr, OnOk, OnErr, IfSome, IsSome, IsSomeAnd};
-ghost use Rattle.vr_types.specs.Image.{Image, block_at};
 ghost use Rattle.vr_types.specs.Blocks.{Keeps};
 ghost use Rattle.vr_types.specs.Faults.{HasCause};
 ghost use Rattle.vr_types.specs.declared.fault.DeviceFault.TheVariants.{Read};
 ghost use Rattle.vr_types.specs.declared.unit.StageKind.TheVariants as stages;
 ghost use Rattle.vr_space.specs.AreaCalls.{area_part, IsAreaOn};
-ghost use Rattle.vr_space.specs.declared.room.Room.TheVariants as answers;
 ghost use Rattle.vr_space.specs.Room.{Lengths};
 ghost use Rattle.vr_space.specs.Keyed.{IsKeyedAtRest, KeepsRoom};
-ghost use Rattle.vr_space.specs.Split.{SplitNow};
 ghost use Rattle.vr_space.specs.UnderWay.{AreaUnderWay};
-ghost use Rattle.vr_space.specs.Met.{IsMet};
 ghost use Rattle.vr_split.specs.Switching.{KeepsPart, IsStageDone};
 ghost use Rattle.vr_split.specs.Splits.{stage_now, after_stage, after_fault};
 ghost use Rattle.vr_keyed.specs.Lent.{HasRoomFor};
 ghost use Rattle.vr_keyed.specs.Look.{HasEntry};
-ghost use Rattle.vr_keyed.specs.Splits.{room_here};
-ghost use Rattle.vr_keyed.specs.Slots.{AreSlotsOf, met_in, mets};
+ghost use Rattle.vr_keyed.specs.Slots.{AreSlotsOf, IsInside, IsMetAt, LeavesMet, met_in, mets};
 ghost use Rattle.vr_keyed.specs.Planned.{IsPlan, HasKeyAt};
-ghost use Rattle.vr_keyed.specs.Advance.{CanBegin, IsDue, IsLater, IsIntervalStage};
+ghost use Rattle.vr_keyed.specs.Advance.{IsDue, IsLater};
 
 use crate::meet::meet;
 use crate::plan::{Plan, plan_split};
@@ -45,8 +40,9 @@ fn plan_at<B: Blocks, K: Kept>(
     requires place { length place.now ≡ layout.now.key }
     requires longest { longest ≤ layout.now.most }
     requires slots { AreSlotsOf layout.now slots.old }
+    requires inside { All (IsInside layout.now place.now) (mets slots.old) }
     requires met { IsTrue B.tells
-        → All (IsMet layout.now (B.seen blocks.old).cur) (mets slots.old) }
+        → All (IsMetAt layout.now (B.seen blocks.old).cur place.now) (mets slots.old) }
     requires weights { HasRoomFor layout.now weights.old }
     requires entry { IsTrue B.tells → HasEntry layout.now (B.seen blocks.old).cur place.now }
     requires rests { IsTrue B.tells → IsKeyedAtRest layout.now (B.seen blocks.old) }
@@ -65,8 +61,8 @@ fn plan_at<B: Blocks, K: Kept>(
     ensures old { IfOk result (λ plan. IfSome plan (λ p. p.target.old < layout.now.area)) }
     ensures into { IfOk result (λ plan. IfSome plan (λ p. p.target.into < layout.now.area)) }
     ensures slots { AreSlotsOf layout.now slots.new }
-    ensures met { IsTrue B.tells
-        → All (IsMet layout.now (B.seen blocks.old).cur) (mets slots.new) }
+    ensures leaves { LeavesMet layout.now B.tells (B.seen blocks.old).cur place.now
+        (mets slots.old) (mets slots.new) }
     ensures weights { HasRoomFor layout.now weights.new }
     ensures keeps { Keeps B.tells (B.seen blocks.old) (B.seen blocks.new) }
     ensures cause { HasCause (B.faults blocks.old) (B.faults blocks.new) result }
@@ -94,8 +90,9 @@ fn begin_split<B: Blocks, K: Kept>(
     requires place { length place.now ≡ layout.now.key }
     requires longest { longest ≤ layout.now.most }
     requires slots { AreSlotsOf layout.now slots.old }
+    requires inside { All (IsInside layout.now place.now) (mets slots.old) }
     requires met { IsTrue B.tells
-        → All (IsMet layout.now (B.seen blocks.old).cur) (mets slots.old) }
+        → All (IsMetAt layout.now (B.seen blocks.old).cur place.now) (mets slots.old) }
     requires weights { HasRoomFor layout.now weights.old }
     requires entry { IsTrue B.tells → HasEntry layout.now (B.seen blocks.old).cur place.now }
     requires rests { IsTrue B.tells → IsKeyedAtRest layout.now (B.seen blocks.old) }
@@ -111,8 +108,8 @@ fn begin_split<B: Blocks, K: Kept>(
     ensures failed { OnErr result (split.new.split ≡ None) }
     ensures part { split.new.part ≡ layout.now }
     ensures slots { AreSlotsOf layout.now slots.new }
-    ensures met { IsTrue B.tells
-        → All (IsMet layout.now (B.seen blocks.old).cur) (mets slots.new) }
+    ensures leaves { LeavesMet layout.now B.tells (B.seen blocks.old).cur place.now
+        (mets slots.old) (mets slots.new) }
     ensures weights { HasRoomFor layout.now weights.new }
     ensures keeps { Keeps B.tells (B.seen blocks.old) (B.seen blocks.new) }
     ensures cause { HasCause (B.faults blocks.old) (B.faults blocks.new) result }
@@ -129,7 +126,7 @@ fn begin_split<B: Blocks, K: Kept>(
 }
 
 /// Does the next stage of the split under way, and forgets what was met.
-fn go_on<B: Blocks>(
+pub(crate) fn go_on<B: Blocks>(
     split: &mut CiSplit,
     slots: &mut Slots,
     blocks: &mut B,
@@ -162,9 +159,9 @@ fn go_on<B: Blocks>(
     split.step(blocks)
 }
 
-/// Does the stage that comes before a record which lacks room at a place, and answers it: the next
-/// of the split under way, or the first of a new one. What was met is forgotten.
-pub(crate) fn advance_at<B: Blocks, K: Kept>(
+/// Begins a split for a record that lacks room at a place, does its first stage, and answers it.
+/// What was met is forgotten then.
+pub(crate) fn begin_at<B: Blocks, K: Kept>(
     layout: &Layout,
     split: &mut CiSplit,
     slots: &mut Slots,
@@ -176,25 +173,21 @@ pub(crate) fn advance_at<B: Blocks, K: Kept>(
 ) -> Result<StageKind, DeviceFault>
     requires on { IsAreaOn layout.now (B.seen blocks.old) }
     requires part { split.old.part ≡ layout.now }
-    requires later { IsLater split.old.split }
+    requires none { split.old.split ≡ None }
     requires place { length place.now ≡ layout.now.key }
     requires longest { longest ≤ layout.now.most }
     requires slots { AreSlotsOf layout.now slots.old }
+    requires inside { All (IsInside layout.now place.now) (mets slots.old) }
     requires met { IsTrue B.tells
-        → All (IsMet layout.now (B.seen blocks.old).cur) (mets slots.old) }
+        → All (IsMetAt layout.now (B.seen blocks.old).cur place.now) (mets slots.old) }
     requires weights { HasRoomFor layout.now weights.old }
     requires entry { IsTrue B.tells → HasEntry layout.now (B.seen blocks.old).cur place.now }
     requires rests { IsTrue B.tells → IsKeyedAtRest layout.now (B.seen blocks.old) }
     requires room { IsTrue B.tells → KeepsRoom layout.now
         (K.kept kept.now (area_part layout.now)) (B.seen blocks.old) }
-    requires way { IsTrue B.tells
-        → AreaUnderWay layout.now split.old.split (B.seen blocks.old) }
-    requires due { IsTrue B.tells → IsDue layout.now split.old.split (B.seen blocks.old).cur
+    requires due { IsTrue B.tells → IsDue layout.now None (B.seen blocks.old).cur
         (K.kept kept.now (area_part layout.now)) place.now longest }
-    ensures stage { IsTrue B.tells → IfOk result (λ kind. answers.Stage kind
-        ≡ room_here layout.now split.old.split (B.seen blocks.old).cur
-        (K.kept kept.now (area_part layout.now)) place.now longest) }
-    ensures kind { IfOk result IsIntervalStage }
+    ensures stage { IfOk result (λ kind. kind ≡ stages.CiCopy) }
     // At every moment, whether it fails or not.
     ensures keeps { IsTrue B.tells → KeepsPart layout.now
         (K.kept kept.now (area_part layout.now)) (B.seen blocks.old)
@@ -203,12 +196,14 @@ pub(crate) fn advance_at<B: Blocks, K: Kept>(
         (IsStageDone layout.now (B.seen blocks.old) (B.seen blocks.new)) }
     ensures way { IsTrue B.tells → OnOk result
         (AreaUnderWay layout.now split.new.split (B.seen blocks.new)) }
-    ensures split { OnErr result (split.new.split ≡ split.old.split) }
+    ensures split { OnErr result (split.new.split ≡ None) }
     ensures later { IsLater split.new.split }
     ensures part { split.new.part ≡ layout.now }
     ensures slots { AreSlotsOf layout.now slots.new }
-    ensures met { IsTrue B.tells
-        → All (IsMet layout.now (B.seen blocks.new).cur) (mets slots.new) }
+    ensures leaves { (mets slots.new ≡ [])
+        ⊎ LeavesMet layout.now B.tells (B.seen blocks.old).cur place.now
+        (mets slots.old) (mets slots.new) }
+    ensures forgets { IsTrue B.tells → OnOk result (mets slots.new ≡ []) }
     ensures weights { HasRoomFor layout.now weights.new }
     // It reads before it puts.
     ensures unread { IfErr result (λ fault. fault ≡ Read
@@ -217,9 +212,6 @@ pub(crate) fn advance_at<B: Blocks, K: Kept>(
     ensures size { (B.seen blocks.new).size ≡ (B.seen blocks.old).size }
     ensures cause { HasCause (B.faults blocks.old) (B.faults blocks.new) result }
 {
-    if split.next_stage().is_some() {
-        return go_on(split, slots, blocks);
-    }
     if !begin_split(layout, split, slots, blocks, kept, place, longest, weights)? {
         return Ok(StageKind::CiCopy);
     }

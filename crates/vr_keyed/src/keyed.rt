@@ -1,41 +1,35 @@
-//! A keyed part of one area.
-ghost use Rattle.std.specs.Prelude.{◌≡◌, ◌≤◌, ◌↔◌, [], Some, None, IfOk, IfSome, IsTrue};
-ghost use Rattle.std.specs.Prelude.{MatchOption};
-ghost use Rattle.std.specs.Prelude.{vec_capacity};
+//! A key-sequenced part on blocks.
+ghost use Rattle.std.specs.Prelude.{◌≡◌, ◌≤◌, ◌↔◌, [], None, IfOk, IfSome, IsTrue, length};
+ghost use Rattle.std.specs.Prelude.{◌<◌, ◌∷◌, ◌^◌, replicate, vec_capacity};
 ghost use Rattle.vr_types.specs.Blocks.{Keeps};
 ghost use Rattle.vr_types.specs.Faults.{HasCause};
 ghost use Rattle.vr_space.specs.Part.{HasRoom, IsOn, IsPlaceOf, IsRecordOf, KeyedShape, Knows};
 ghost use Rattle.vr_space.specs.Part.{Stands, given, part_no};
-ghost use Rattle.vr_attach.specs.Damage.{IsDamagedIn};
+ghost use Rattle.vr_attach.specs.Areas.{AreWhole};
 ghost use Rattle.vr_keyed.specs.Lent.{ArePlaces};
 ghost use Rattle.vr_keyed.specs.Owned.{known_of};
 ghost use Rattle.vr_keyed.specs.Ready.{put_of};
-ghost use Rattle.vr_keyed.specs.Splits.{IsSplit};
 
-use crate::advance::advance_at;
-use crate::look::look_in;
-use crate::next::next_in;
-use crate::room::{UnderWay, room_at};
-use crate::rooms::rooms_in;
-use crate::set::set;
+use crate::chain::{look_at, next_over, rooms_over};
+use crate::change::{advance_over, room_over, set_over};
 use crate::slot::{Slot, empty_slot};
 use crate::slots::Slots;
 use std::alloc::Global;
 use std::marker::Model;
-use vr_attach::{Damage, first_damage};
-use vr_space::{Kept, KeyedLayout, Layout, Part, Room, Whence};
+use vr_attach::{Areas, no_areas};
+use vr_space::{Kept, KeyedLayout, Part, Room, Whence};
 use vr_split::{CiSplit, Weights, ci_split, empty_weights};
 use vr_types::{Blocks, DeviceFault, OutOfMemory, PartNo, Place, PlaceBuffer, Space, StageKind};
 
-/// A key-sequenced part of one area on blocks (DFSMS Using Data Sets, key-sequenced data sets): its
-/// head is a sequence-set record, and its records stand in control intervals. It has the buffers
-/// that its calls need, so that none of them takes memory.
+/// A key-sequenced part on blocks (DFSMS Using Data Sets, key-sequenced data sets): a chain of
+/// areas, each with a sequence-set record as its head and records in control intervals. It has the
+/// buffers that its calls need, so that none of them takes memory.
 #[derive(Drop)]
 pub struct Keyed {
-    layout: KeyedLayout,
-    /// Its one area.
-    area: Layout,
+    areas: Areas,
     split: CiSplit,
+    /// The area that the split under way is in, or the last one was.
+    splitting: u32,
     slots: Slots,
     spare: Slot,
     weights: Weights,
@@ -44,9 +38,11 @@ pub struct Keyed {
 }
 
 impl Model for Keyed {
-    ghost use Rattle.std.specs.Prelude.{◌≡◌, ◌≤◌, vec_len, vec_capacity};
+    ghost use Rattle.std.specs.Prelude.{◌≡◌, ◌<◌, ◌≤◌, ◌^◌, All, length, vec_len, vec_capacity};
+    ghost use Rattle.vr_types.specs.Geometry.{area_count};
     ghost use Rattle.vr_space.specs.Areas.{area_of};
-    ghost use Rattle.vr_keyed.specs.Owned.{Owned};
+    ghost use Rattle.vr_attach.specs.Areas.{AreWhole};
+    ghost use Rattle.vr_keyed.specs.Owned.{IsMine, Owned, split_at};
     ghost use Rattle.vr_keyed.specs.Slots.{AreSlotsOf, IsSlotOf, mets};
     ghost use Rattle.vr_keyed.specs.Lent.{HasRoomFor};
     ghost use Rattle.vr_keyed.specs.Advance.{IsLater};
@@ -54,29 +50,24 @@ impl Model for Keyed {
     ghost Value = { Owned };
 
     ghost view = { λ keyed. record {
-      part = keyed.layout;
-      split = keyed.split.split;
+      part = keyed.areas.part;
+      areas = keyed.areas.areas;
+      ends = keyed.areas.ends;
+      split = split_at keyed.splitting keyed.split.split;
       met = mets keyed.slots;
       put = keyed.put.items;
     } };
 
-    ghost invariant = { λ keyed. (keyed.area ≡ area_of keyed.layout keyed.layout.first)
-        × (keyed.split.part ≡ keyed.area)
+    ghost invariant = { λ keyed. AreWhole keyed.areas
+        × (keyed.splitting < area_count keyed.areas.part.geometry)
+        × (keyed.split.part ≡ area_of keyed.areas.part keyed.splitting)
         × IsLater keyed.split.split
-        × AreSlotsOf keyed.area keyed.slots
-        × IsSlotOf keyed.area keyed.spare
-        × HasRoomFor keyed.area keyed.weights
-        × (vec_len keyed.out ≡ keyed.area.size)
+        × AreSlotsOf (area_of keyed.areas.part keyed.areas.part.first) keyed.slots
+        × All (IsMine keyed.areas) (mets keyed.slots)
+        × IsSlotOf (area_of keyed.areas.part keyed.areas.part.first) keyed.spare
+        × HasRoomFor (area_of keyed.areas.part keyed.areas.part.first) keyed.weights
+        × (vec_len keyed.out ≡ keyed.areas.part.geometry.size)
         × (1 ≤ vec_capacity keyed.put) };
-}
-
-/// The split that is under way.
-fn under_way(split: &CiSplit) -> Option<UnderWay>
-    ensures { IsSplit split.now.split result }
-{
-    let stage = split.next_stage()?;
-    let (old, into) = split.intervals();
-    Some(UnderWay { old, into, stage })
 }
 
 /// Notes the block that was put.
@@ -93,23 +84,39 @@ fn note_put(noted: &mut Vec<u32>, put: Option<u32>)
     }
 }
 
-/// A part of this layout, with no split under way and nothing met. It fails only if memory runs
-/// out, and takes all that the part needs.
-pub fn keyed_part(alloc: Global, layout: KeyedLayout) -> Result<Keyed, OutOfMemory>
-    ensures { IfOk result (λ keyed. keyed
-        ≡ record { part = layout; split = None; met = []; put = [] }) }
+/// A block of zeros, of this size.
+pub(crate) fn empty_block(alloc: Global, size: u32) -> Result<Vec<u8>, OutOfMemory>
+    ensures { IfOk result (λ block. length block.items ≡ size) }
 {
-    let area = layout.area(layout.first);
+    let block = vec![in alloc; 0; size as usize]?;
+    Ok(block)
+}
+
+/// A part with these areas, with no split under way and nothing met. `out` is a block of it. It
+/// fails only if memory runs out, and takes all that the part needs.
+pub(crate) fn keyed_part(alloc: Global, areas: Areas, out: Vec<u8>) -> Result<Keyed, OutOfMemory>
+    requires whole { AreWhole areas }
+    requires out { length out.items ≡ areas.part.geometry.size }
+    ensures { IfOk result (λ keyed. keyed ≡ record {
+      part = areas.part;
+      areas = areas.areas;
+      ends = areas.ends;
+      split = None;
+      met = [];
+      put = [];
+    }) }
+{
+    let splitting = areas.layout().first;
+    let area = areas.layout().area(splitting);
     let split = ci_split(alloc, area.copy())?;
     let slots = Slots::empty(alloc, &area)?;
     let spare = empty_slot(alloc, &area)?;
     let weights = empty_weights(alloc, area.size / 3 + 1, area.key)?;
-    let out = vec![in alloc; 0; area.size as usize]?;
     let put = Vec::with_capacity(alloc, 1)?;
     Ok(Keyed {
-        layout,
-        area,
+        areas,
         split,
+        splitting,
         slots,
         spare,
         weights,
@@ -118,12 +125,32 @@ pub fn keyed_part(alloc: Global, layout: KeyedLayout) -> Result<Keyed, OutOfMemo
     })
 }
 
+/// A part that is new, of one area, whose ranges go up to the greatest key: with no split under
+/// way, and nothing met. It reads nothing, and fails only if memory runs out.
+pub fn new_part(alloc: Global, layout: KeyedLayout) -> Result<Keyed, OutOfMemory>
+    ensures { IfOk result (λ keyed. keyed ≡ record {
+      part = layout;
+      areas = layout.first ∷ [];
+      ends = replicate layout.key 255 ∷ [];
+      split = None;
+      met = [];
+      put = [];
+    }) }
+{
+    let out = empty_block(alloc, layout.geometry.size)?;
+    let first = layout.first;
+    let greatest = vec![in alloc; 255; layout.key as usize]?;
+    let mut areas = no_areas(alloc, layout)?;
+    areas.add(first, greatest.as_slice());
+    keyed_part(alloc, areas, out)
+}
+
 impl Keyed {
     /// The number of the part.
     pub fn number(&self) -> PartNo
         ensures { result ≡ part_no (KeyedShape self.now.part) }
     {
-        self.layout.part
+        self.areas.layout().part
     }
 
     /// Whether this may stand at the place: the place has the key's length, and what is given is a
@@ -132,7 +159,8 @@ impl Keyed {
         ensures { IsTrue result ↔ (IsPlaceOf (KeyedShape self.now.part) place.now
             × IfSome (given bytes.entry) (IsRecordOf (KeyedShape self.now.part) place.now)) }
     {
-        let area = &self.area;
+        let layout = self.areas.layout();
+        let area = layout.area(layout.first);
         let place = place.as_slice();
         if place.len() != area.key as usize {
             return false;
@@ -143,26 +171,9 @@ impl Keyed {
         }
     }
 
-    /// The first damage of the part's blocks, if there is one.
-    pub(crate) fn first_damage<B: Blocks>(
-        &mut self,
-        blocks: &mut B,
-    ) -> Result<Option<Damage>, DeviceFault>
-        requires on { IsOn (KeyedShape self.old.part) (B.seen blocks.old) }
-        ensures same { self.new ≡ self.old }
-        ensures found { IsTrue B.tells → IfOk result (λ found. MatchOption found
-            (Stands (KeyedShape self.old.part) (B.seen blocks.old).cur)
-            (λ damage. IsDamagedIn self.old.part (B.seen blocks.old).cur
-            damage.block damage.rule)) }
-        ensures keeps { Keeps B.tells (B.seen blocks.old) (B.seen blocks.new) }
-        ensures cause { HasCause (B.faults blocks.old) (B.faults blocks.new) result }
-    {
-        first_damage(blocks, &self.layout, self.out.as_mut_slice())
-    }
-
     /// Whether each interval of the part has room for what is kept for its range, beside its
-    /// records: what the volume needs before its before-images can be put back. It
-    /// reads the head and each interval of an entry once.
+    /// records: what the volume needs before its before-images can be put back. It reads each head
+    /// and each interval of an entry once.
     pub fn has_rooms<B: Blocks, K: Kept>(
         &mut self,
         blocks: &mut B,
@@ -182,9 +193,9 @@ impl Keyed {
         ensures keeps { Keeps B.tells (B.seen blocks.old) (B.seen blocks.new) }
         ensures cause { HasCause (B.faults blocks.old) (B.faults blocks.new) result }
     {
-        rooms_in(
+        rooms_over(
             blocks,
-            &self.area,
+            &self.areas,
             kept,
             self.out.as_mut_slice(),
             &mut self.weights,
@@ -207,7 +218,7 @@ impl Part for Keyed {
         part: &mut Self,
         place: &Place,
     ) -> Result<Option<&'a [u8]>, DeviceFault> {
-        look_in(blocks, &part.area, place.as_slice())
+        look_at(blocks, &part.areas, place.as_slice())
     }
 
     fn next<B: Blocks>(
@@ -216,7 +227,7 @@ impl Part for Keyed {
         from: Whence<'_>,
         into: &mut PlaceBuffer,
     ) -> Result<bool, DeviceFault> {
-        next_in(&mut self.spare, &self.area, blocks, from, into)
+        next_over(&mut self.spare, &self.areas, blocks, from, into)
     }
 
     fn room<B: Blocks, K: Kept>(
@@ -227,10 +238,10 @@ impl Part for Keyed {
         place: &Place,
         length: u32,
     ) -> Result<Room, DeviceFault> {
-        let split = under_way(&self.split);
-        room_at(
-            &self.area,
-            split,
+        room_over(
+            &self.areas,
+            &self.split,
+            self.splitting,
             &mut self.slots,
             blocks,
             kept,
@@ -248,9 +259,10 @@ impl Part for Keyed {
         place: &Place,
         length: u32,
     ) -> Result<StageKind, DeviceFault> {
-        advance_at(
-            &self.area,
+        advance_over(
+            &self.areas,
             &mut self.split,
+            &mut self.splitting,
             &mut self.slots,
             blocks,
             kept,
@@ -267,9 +279,9 @@ impl Part for Keyed {
         place: &Place,
         bytes: Option<&[u8]>,
     ) -> Result<(), DeviceFault> {
-        let put = set(
+        let put = set_over(
             &mut self.slots,
-            &self.area,
+            &self.areas,
             blocks,
             self.out.as_mut_slice(),
             place.as_slice(),
@@ -284,7 +296,7 @@ impl Part for Keyed {
     }
 
     fn areas(&self) -> u32 {
-        1
+        self.areas.count() as u32
     }
 
     fn put_blocks(&self) -> &[u32] {

@@ -1,11 +1,13 @@
-//! A key-sequenced part of one area, on blocks: its head and its control intervals. What speaks of
-//! one area holds of each of a chain; that the part has one is used in `keyed` and `attach` alone.
-//! It stands on `vr_types`, `vr_ci`, `vr_seqset`, `vr_space`, `vr_split`, `vr_catalog` and
+//! A key-sequenced part on blocks: a chain of areas, each with its head and its control intervals.
+//! What speaks of one area is in modules of its own; `chain` and `change` say it of the part. It
+//! stands on `vr_types`, `vr_ci`, `vr_seqset`, `vr_space`, `vr_split`, `vr_catalog` and
 //! `vr_attach`.
 #![tactic(auto)]
 
 mod advance;
 mod attach;
+mod chain;
+mod change;
 mod gather;
 mod keyed;
 mod look;
@@ -21,5 +23,5 @@ mod stretch;
 mod writing;
 
 pub use gather::fits;
-pub use keyed::{Keyed, keyed_part};
+pub use keyed::{Keyed, new_part};
 pub use room::{UnderWay, least_free};

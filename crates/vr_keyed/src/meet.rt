@@ -1,14 +1,15 @@
 //! Meeting the interval of a place of an area: its range and what its block has.
-ghost use Rattle.std.specs.Prelude.{◌≡◌, ◌≢◌, ◌<◌, ℕ, IsTrue, true, false, All, length, IsOk, OnOk};
+ghost use Rattle.std.specs.Prelude.{◌≡◌, ◌∷◌, IsTrue, false, All, length, take, IsOk, OnErr, OnOk};
 ghost use Rattle.vr_types.specs.Image.{Image, block_at};
 ghost use Rattle.vr_types.specs.Blocks.{Keeps};
 ghost use Rattle.vr_types.specs.Faults.{HasCause};
 ghost use Rattle.vr_space.specs.AreaCalls.{IsAreaOn};
-ghost use Rattle.vr_space.specs.Keyed.{Keyed, IsHead};
-ghost use Rattle.vr_space.specs.Met.{IsMet, met_next};
+ghost use Rattle.vr_space.specs.Keyed.{InArea, IsHead, Keyed};
+ghost use Rattle.vr_space.specs.Met.{IsMet};
 ghost use Rattle.vr_keyed.specs.Look.{HasEntry};
-ghost use Rattle.vr_keyed.specs.Slots.{IsSlotOf, AreSlotsOf, IsFirst, IsLed, met_in, mets};
-ghost use Rattle.vr_keyed.specs.Slots.{HasMetPlace, met_places};
+ghost use Rattle.vr_keyed.specs.Slots.{AreSlotsOf, HasMetPlace, IsFirst, IsInside, IsLed, IsMetAt};
+ghost use Rattle.vr_keyed.specs.Slots.{IsNewlyMet, IsSlotOf, LeavesMet, MeetsAt, met_in, mets};
+ghost use Rattle.vr_keyed.specs.Slots.{others_met};
 
 use crate::slot::Slot;
 use crate::slots::Slots;
@@ -30,6 +31,7 @@ fn find<B: Blocks>(
         → IsHead layout.now (block_at (B.seen blocks.old).cur layout.now.head) }
     requires entry { IsTrue B.tells → HasEntry layout.now (B.seen blocks.old).cur place.now }
     ensures slot { IsSlotOf layout.now slot.new }
+    ensures inside { OnOk result (InArea layout.now slot.new.number) }
     ensures place { OnOk result (slot.new.place.place ≡ place.now) }
     ensures led { IsTrue B.tells → OnOk result
         (IsLed layout.now (block_at (B.seen blocks.old).cur layout.now.head) slot.new) }
@@ -38,6 +40,7 @@ fn find<B: Blocks>(
 {
     let top = blocks.get(layout.head)?;
     slot.place.set(place);
+    slot.number = layout.head;
     if let Some(found) = entry_for(layout, top, place) {
         slot.set_entry(layout, &found);
     }
@@ -58,9 +61,8 @@ fn fill<B: Blocks>(
         → IsHead layout.now (block_at (B.seen blocks.old).cur layout.now.head) }
     requires entry { IsTrue B.tells → HasEntry layout.now (B.seen blocks.old).cur place.now }
     ensures slot { IsSlotOf layout.now slot.new }
-    ensures place { OnOk result (slot.new.place.place ≡ place.now) }
-    ensures met { IsTrue B.tells → OnOk result
-        (IsMet layout.now (B.seen blocks.old).cur (met_in slot.new)) }
+    ensures newly { OnOk result
+        (IsNewlyMet layout.now B.tells (B.seen blocks.old).cur place.now (met_in slot.new)) }
     ensures keeps { Keeps B.tells (B.seen blocks.old) (B.seen blocks.new) }
     ensures cause { HasCause (B.faults blocks.old) (B.faults blocks.new) result }
 {
@@ -71,12 +73,16 @@ fn fill<B: Blocks>(
 
 /// Makes the interval of a place the one that was met last, if it is one of the two.
 fn recall(slots: &mut Slots, place: &[u8]) -> bool
-    ensures found { IsTrue result → IsFirst place.now slots.new
-        × (met_places (mets slots.new) ≡ met_next (met_places (mets slots.old)) place.now) }
+    ensures found { IsTrue result → IsFirst place.now slots.new }
+    ensures rest { IsTrue result
+        → mets slots.new ≡ met_in slots.new.first ∷ others_met place.now (mets slots.old) }
+    ensures inside { (part : Keyed) → All (IsInside part place.now) (mets slots.old)
+        → IsTrue result → InArea part slots.new.first.number }
+    ensures met { (part : Keyed) (image : Image)
+        → All (IsMetAt part image place.now) (mets slots.old)
+        → IsTrue result → IsMet part image (met_in slots.new.first) }
     ensures none { result ≡ false
         → (slots.new ≡ slots.old) × (HasMetPlace (mets slots.old) place.now → ⊥) }
-    ensures met { (part : Keyed) (image : Image) → All (IsMet part image) (mets slots.old)
-        → All (IsMet part image) (mets slots.new) }
     ensures room { (part : Keyed) → AreSlotsOf part slots.old → AreSlotsOf part slots.new }
 {
     if slots.is_first(place) {
@@ -102,15 +108,11 @@ fn read_in<B: Blocks>(
     requires head { IsTrue B.tells
         → IsHead layout.now (block_at (B.seen blocks.old).cur layout.now.head) }
     requires entry { IsTrue B.tells → HasEntry layout.now (B.seen blocks.old).cur place.now }
-    requires met { IsTrue B.tells
-        → All (IsMet layout.now (B.seen blocks.old).cur) (mets slots.old) }
     requires none { HasMetPlace (mets slots.old) place.now → ⊥ }
     ensures room { AreSlotsOf layout.now slots.new }
-    ensures first { OnOk result (IsFirst place.now slots.new) }
-    ensures places { OnOk result
-        (met_places (mets slots.new) ≡ met_next (met_places (mets slots.old)) place.now) }
-    ensures met { IsTrue B.tells
-        → All (IsMet layout.now (B.seen blocks.old).cur) (mets slots.new) }
+    ensures meets { OnOk result (MeetsAt layout.now B.tells (B.seen blocks.old).cur place.now
+        (mets slots.old) slots.new) }
+    ensures failed { OnErr result (mets slots.new ≡ take 1 (mets slots.old)) }
     ensures keeps { Keeps B.tells (B.seen blocks.old) (B.seen blocks.new) }
     ensures cause { HasCause (B.faults blocks.old) (B.faults blocks.new) result }
 {
@@ -135,14 +137,14 @@ pub(crate) fn meet<B: Blocks>(
     requires head { IsTrue B.tells
         → IsHead layout.now (block_at (B.seen blocks.old).cur layout.now.head) }
     requires entry { IsTrue B.tells → HasEntry layout.now (B.seen blocks.old).cur place.now }
+    requires inside { All (IsInside layout.now place.now) (mets slots.old) }
     requires met { IsTrue B.tells
-        → All (IsMet layout.now (B.seen blocks.old).cur) (mets slots.old) }
+        → All (IsMetAt layout.now (B.seen blocks.old).cur place.now) (mets slots.old) }
     ensures room { AreSlotsOf layout.now slots.new }
-    ensures first { OnOk result (IsFirst place.now slots.new) }
-    ensures places { OnOk result
-        (met_places (mets slots.new) ≡ met_next (met_places (mets slots.old)) place.now) }
-    ensures met { IsTrue B.tells
-        → All (IsMet layout.now (B.seen blocks.old).cur) (mets slots.new) }
+    ensures meets { OnOk result (MeetsAt layout.now B.tells (B.seen blocks.old).cur place.now
+        (mets slots.old) slots.new) }
+    ensures leaves { LeavesMet layout.now B.tells (B.seen blocks.old).cur place.now
+        (mets slots.old) (mets slots.new) }
     ensures known { HasMetPlace (mets slots.old) place.now → IsOk result }
     ensures keeps { Keeps B.tells (B.seen blocks.old) (B.seen blocks.new) }
     ensures cause { HasCause (B.faults blocks.old) (B.faults blocks.new) result }

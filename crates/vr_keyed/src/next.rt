@@ -14,7 +14,7 @@ ghost use Rattle.vr_types.specs.Faults.{HasCause};
 ghost use Rattle.vr_ci.specs.Interval as ci;
 ghost use Rattle.vr_space.specs.AreaCalls.{IsAreaOn, NextHere};
 ghost use Rattle.vr_space.specs.Whence.{allows};
-ghost use Rattle.vr_space.specs.Keyed.{HoldsRange, IsHead, IsKept, entries_of, key_of};
+ghost use Rattle.vr_space.specs.Keyed.{HoldsRange, InArea, IsHead, IsKept, entries_of, key_of};
 ghost use Rattle.vr_space.specs.Search.{keys_of};
 ghost use Rattle.vr_keyed.specs.Look.{AreaStands};
 ghost use Rattle.vr_keyed.specs.Slots.{IsSlotOf, low_kept, met_in};
@@ -115,6 +115,7 @@ fn find_nth<B: Blocks>(
     requires head { IsTrue B.tells
         → IsHead layout.now (block_at (B.seen blocks.old).cur layout.now.head) }
     ensures slot { IsSlotOf layout.now slot.new }
+    ensures inside { IfOk result (λ some. IsTrue some → InArea layout.now slot.new.number) }
     ensures nth { IsTrue B.tells → IfOk result (λ some.
         NthIs layout.now (block_at (B.seen blocks.old).cur layout.now.head) number some slot.new) }
     ensures keeps { Keeps B.tells (B.seen blocks.old) (B.seen blocks.new) }

@@ -8,16 +8,16 @@ ghost use Rattle.vr_types.specs.Faults.{HasCause};
 ghost use Rattle.vr_seqset.specs.Entry.{Entry};
 ghost use Rattle.vr_space.specs.AreaCalls.{area_part, IsAreaOn};
 ghost use Rattle.vr_space.specs.Keyed.{IsHead, entry_block};
-ghost use Rattle.vr_space.specs.Split.{SplitNow, free_from, free_interval};
+ghost use Rattle.vr_space.specs.Split.{SplitNow, area_room, free_from, free_interval};
 ghost use Rattle.vr_space.specs.Split.{room_by_split};
 ghost use Rattle.vr_space.specs.Split.{stage_at};
-ghost use Rattle.vr_space.specs.Met.{IsMet, met_next};
+ghost use Rattle.vr_space.specs.Met.{IsMet};
 ghost use Rattle.vr_keyed.specs.Look.{AreaStands, HasEntry};
-ghost use Rattle.vr_keyed.specs.Slots.{AreSlotsOf, met_in, met_places, mets};
+ghost use Rattle.vr_keyed.specs.Slots.{AreSlotsOf, IsInside, IsMetAt, LeavesMet, MeetsAt, met_in};
+ghost use Rattle.vr_keyed.specs.Slots.{mets};
 ghost use Rattle.vr_space.specs.Lent.{range_lent};
-ghost use Rattle.vr_split.specs.Splits.{stage_now};
 ghost use Rattle.vr_keyed.specs.Lent.{ArePlaces, HasRoomFor};
-ghost use Rattle.vr_keyed.specs.Splits.{IsSplit, room_here};
+ghost use Rattle.vr_keyed.specs.Splits.{IsSplit};
 
 use crate::gather::fits;
 use crate::meet::meet;
@@ -126,24 +126,23 @@ fn stage_of(layout: &Layout, split: Option<UnderWay>, number: u32) -> Option<Sta
     None
 }
 
-/// What is answered where a record lacks room: the next stage of the split under way, else a new
-/// split, if an interval is free.
+/// What is answered where a record lacks room: the next stage of the part's split under way, else a
+/// new split, if an interval is free.
 fn room_beyond<B: Blocks>(
     layout: &Layout,
-    split: Option<UnderWay>,
+    stage: Option<StageKind>,
     blocks: &mut B,
 ) -> Result<Room, DeviceFault>
     requires on { IsAreaOn layout.now (B.seen blocks.old) }
     requires head { IsTrue B.tells
         → IsHead layout.now (block_at (B.seen blocks.old).cur layout.now.head) }
-    ensures answer { IsTrue B.tells → IfOk result (λ room. (now : Option SplitNow)
-        → IsSplit now split → room ≡ room_by_split (stage_now now)
+    ensures answer { IsTrue B.tells → IfOk result (λ room. room ≡ room_by_split stage
         (free_interval layout.now (block_at (B.seen blocks.old).cur layout.now.head))) }
     ensures keeps { Keeps B.tells (B.seen blocks.old) (B.seen blocks.new) }
     ensures cause { HasCause (B.faults blocks.old) (B.faults blocks.new) result }
 {
-    if let Some(split) = split {
-        return Ok(Room::Stage(split.stage));
+    if let Some(stage) = stage {
+        return Ok(Room::Stage(stage));
     }
     match find_free(layout, blocks)? {
         Some(_) => Ok(Room::Stage(StageKind::CiCopy)),
@@ -166,10 +165,12 @@ pub(crate) fn range_of(slot: &Slot) -> LentRange<'_>
     }
 }
 
-/// What stands in the way of a record of this length at a place whose interval was met.
+/// What stands in the way of a record of this length at a place whose interval was met: a split of
+/// the area, or the stage of the part's split, wherever it is.
 pub(crate) fn room_met<B: Blocks, K: Kept>(
     layout: &Layout,
     split: Option<UnderWay>,
+    under_way: Option<StageKind>,
     slot: &Slot,
     blocks: &mut B,
     kept: &K,
@@ -187,7 +188,7 @@ pub(crate) fn room_met<B: Blocks, K: Kept>(
     requires kept { IsTrue B.tells
         → ArePlaces layout.now.key (K.kept kept.now (area_part layout.now)) }
     ensures answer { IsTrue B.tells → IfOk result (λ room. (now : Option SplitNow)
-        → IsSplit now split → room ≡ room_here layout.now now (B.seen blocks.old).cur
+        → IsSplit now split → room ≡ area_room layout.now now under_way (B.seen blocks.old).cur
         (K.kept kept.now (area_part layout.now)) place.now longest) }
     ensures room { HasRoomFor layout.now weights.new }
     ensures keeps { Keeps B.tells (B.seen blocks.old) (B.seen blocks.new) }
@@ -208,7 +209,7 @@ pub(crate) fn room_met<B: Blocks, K: Kept>(
     ) {
         return Ok(Room::Ready);
     }
-    room_beyond(layout, split, blocks)
+    room_beyond(layout, under_way, blocks)
 }
 
 /// What stands in the way of a record of this length at a place. It meets the interval of the
@@ -216,6 +217,7 @@ pub(crate) fn room_met<B: Blocks, K: Kept>(
 pub(crate) fn room_at<B: Blocks, K: Kept>(
     layout: &Layout,
     split: Option<UnderWay>,
+    under_way: Option<StageKind>,
     slots: &mut Slots,
     blocks: &mut B,
     kept: &K,
@@ -228,19 +230,20 @@ pub(crate) fn room_at<B: Blocks, K: Kept>(
     requires stands { IsTrue B.tells → AreaStands layout.now (B.seen blocks.old).cur }
     requires entry { IsTrue B.tells → HasEntry layout.now (B.seen blocks.old).cur place.now }
     requires slots { AreSlotsOf layout.now slots.old }
+    requires inside { All (IsInside layout.now place.now) (mets slots.old) }
     requires met { IsTrue B.tells
-        → All (IsMet layout.now (B.seen blocks.old).cur) (mets slots.old) }
+        → All (IsMetAt layout.now (B.seen blocks.old).cur place.now) (mets slots.old) }
     requires room { HasRoomFor layout.now weights.old }
     requires kept { IsTrue B.tells
         → ArePlaces layout.now.key (K.kept kept.now (area_part layout.now)) }
     ensures answer { IsTrue B.tells → IfOk result (λ room. (now : Option SplitNow)
-        → IsSplit now split → room ≡ room_here layout.now now (B.seen blocks.old).cur
+        → IsSplit now split → room ≡ area_room layout.now now under_way (B.seen blocks.old).cur
         (K.kept kept.now (area_part layout.now)) place.now longest) }
     ensures slots { AreSlotsOf layout.now slots.new }
-    ensures places { OnOk result
-        (met_places (mets slots.new) ≡ met_next (met_places (mets slots.old)) place.now) }
-    ensures met { IsTrue B.tells
-        → All (IsMet layout.now (B.seen blocks.old).cur) (mets slots.new) }
+    ensures meets { OnOk result (MeetsAt layout.now B.tells (B.seen blocks.old).cur place.now
+        (mets slots.old) slots.new) }
+    ensures leaves { LeavesMet layout.now B.tells (B.seen blocks.old).cur place.now
+        (mets slots.old) (mets slots.new) }
     ensures room { HasRoomFor layout.now weights.new }
     ensures keeps { Keeps B.tells (B.seen blocks.old) (B.seen blocks.new) }
     ensures cause { HasCause (B.faults blocks.old) (B.faults blocks.new) result }
@@ -249,6 +252,7 @@ pub(crate) fn room_at<B: Blocks, K: Kept>(
     room_met(
         layout,
         split,
+        under_way,
         &slots.first,
         blocks,
         kept,

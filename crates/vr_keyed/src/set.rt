@@ -1,6 +1,6 @@
 //! Setting a record, or taking it away.
-ghost use Rattle.std.specs.Prelude.{◌≡◌, Option, IsTrue, All, length, map, vec_len};
-ghost use Rattle.std.specs.Prelude.{IfOk, OnOk, IfErr};
+ghost use Rattle.std.specs.Prelude.{◌≡◌, List, Option, IsTrue, All, length, map, vec_len};
+ghost use Rattle.std.specs.Prelude.{IfErr, IfOk, OnErr, OnOk};
 ghost use Rattle.vr_types.specs.Image.{block_at};
 ghost use Rattle.vr_types.specs.Blocks.{Keeps};
 ghost use Rattle.vr_types.specs.Faults.{HasCause, HasWriteCause};
@@ -8,13 +8,13 @@ ghost use Rattle.vr_types.specs.declared.fault.DeviceFault.TheVariants.{Read, Wr
 ghost use Rattle.vr_space.specs.AreaCalls.{IsAreaOn};
 ghost use Rattle.vr_space.specs.Room.{Lengths};
 ghost use Rattle.vr_space.specs.Keyed.{InArea, Keyed, IsHead};
-ghost use Rattle.vr_space.specs.Met.{IsMet};
+ghost use Rattle.vr_space.specs.Met.{IsMet, Met};
 ghost use Rattle.vr_space.specs.Split.{SplitNow};
 ghost use Rattle.vr_space.specs.Part.{given};
 ghost use Rattle.vr_keyed.specs.Look.{HasEntry};
-ghost use Rattle.vr_keyed.specs.Slots.{IsSlotOf, AreSlotsOf, IsFirst, met_in, mets};
-ghost use Rattle.vr_keyed.specs.Slots.{HasMetPlace, met_places};
-ghost use Rattle.vr_keyed.specs.Ready.{IsReady, MaySet, IsSetNow, put_of, refreshed};
+ghost use Rattle.vr_keyed.specs.Slots.{AreSlotsOf, HasMetPlace, IsFirst, IsInside, IsMetAt};
+ghost use Rattle.vr_keyed.specs.Slots.{IsSlotOf, LeavesMet, met_in, met_places, mets};
+ghost use Rattle.vr_keyed.specs.Ready.{IsReady, IsSetNow, MaySet, again, put_of, refreshed};
 
 use crate::meet::meet;
 use crate::slot::Slot;
@@ -61,11 +61,14 @@ fn put_set<B: Blocks>(
     requires room { AreSlotsOf layout.now slots.old }
     requires out { length out.old ≡ layout.now.size }
     requires first { IsFirst place.now slots.old }
+    requires inside { InArea layout.now slots.old.first.number }
     requires met { IsTrue B.tells
-        → All (IsMet layout.now (B.seen blocks.old).cur) (mets slots.old) }
+        → IsMet layout.now (B.seen blocks.old).cur (met_in slots.old.first) }
     ensures room { AreSlotsOf layout.now slots.new }
     ensures filled { slots.new.filled ≡ slots.old.filled }
-    ensures places { met_places (mets slots.new) ≡ met_places (mets slots.old) }
+    ensures refreshed { IfOk result (λ put.
+        mets slots.new ≡ map (again put out.new) (mets slots.old)) }
+    ensures failed { OnErr result (mets slots.new ≡ mets slots.old) }
     ensures may { IsTrue B.tells → (kept : Lengths) (split : Option SplitNow)
         → IsReady layout.now kept split place.now (given bytes.entry) (B.seen blocks.old)
         → MaySet layout.now kept place.now (given bytes.entry)
@@ -75,9 +78,10 @@ fn put_set<B: Blocks>(
         → IsReady layout.now kept split place.now (given bytes.entry) (B.seen blocks.old)
         → IsSetNow layout.now split (put_of put) place.now (given bytes.entry)
         (B.seen blocks.old) (B.seen blocks.new)) }
-    ensures met { IsTrue B.tells → OnOk result ((kept : Lengths) (split : Option SplitNow)
+    ensures met { IsTrue B.tells → IfOk result (λ put. (kept : Lengths) (split : Option SplitNow)
         → IsReady layout.now kept split place.now (given bytes.entry) (B.seen blocks.old)
-        → All (IsMet layout.now (B.seen blocks.new).cur) (mets slots.new)) }
+        → (met : Met) → IsMet layout.now (B.seen blocks.old).cur met
+        → IsMet layout.now (B.seen blocks.new).cur (again put out.new met)) }
     ensures put { IfOk result (λ put. All (InArea layout.now) (put_of put)) }
     ensures count { (B.seen blocks.new).count ≡ (B.seen blocks.old).count }
     ensures size { (B.seen blocks.new).size ≡ (B.seen blocks.old).size }
@@ -105,10 +109,13 @@ fn set_second<B: Blocks>(
     requires room { AreSlotsOf layout.now slots.old }
     requires out { length out.old ≡ layout.now.size }
     requires second { (slots.old.filled ≡ 2) × (slots.old.second.place.place ≡ place.now) }
+    requires inside { InArea layout.now slots.old.second.number }
     requires met { IsTrue B.tells
-        → All (IsMet layout.now (B.seen blocks.old).cur) (mets slots.old) }
+        → IsMet layout.now (B.seen blocks.old).cur (met_in slots.old.second) }
     ensures room { AreSlotsOf layout.now slots.new }
-    ensures places { met_places (mets slots.new) ≡ met_places (mets slots.old) }
+    ensures refreshed { IfOk result (λ put.
+        mets slots.new ≡ map (again put out.new) (mets slots.old)) }
+    ensures failed { OnErr result (mets slots.new ≡ mets slots.old) }
     ensures may { IsTrue B.tells → (kept : Lengths) (split : Option SplitNow)
         → IsReady layout.now kept split place.now (given bytes.entry) (B.seen blocks.old)
         → MaySet layout.now kept place.now (given bytes.entry)
@@ -118,9 +125,10 @@ fn set_second<B: Blocks>(
         → IsReady layout.now kept split place.now (given bytes.entry) (B.seen blocks.old)
         → IsSetNow layout.now split (put_of put) place.now (given bytes.entry)
         (B.seen blocks.old) (B.seen blocks.new)) }
-    ensures met { IsTrue B.tells → OnOk result ((kept : Lengths) (split : Option SplitNow)
+    ensures met { IsTrue B.tells → IfOk result (λ put. (kept : Lengths) (split : Option SplitNow)
         → IsReady layout.now kept split place.now (given bytes.entry) (B.seen blocks.old)
-        → All (IsMet layout.now (B.seen blocks.new).cur) (mets slots.new)) }
+        → (met : Met) → IsMet layout.now (B.seen blocks.old).cur met
+        → IsMet layout.now (B.seen blocks.new).cur (again put out.new met)) }
     ensures put { IfOk result (λ put. All (InArea layout.now) (put_of put)) }
     ensures count { (B.seen blocks.new).count ≡ (B.seen blocks.old).count }
     ensures size { (B.seen blocks.new).size ≡ (B.seen blocks.old).size }
@@ -149,8 +157,9 @@ pub(crate) fn set<B: Blocks>(
     requires head { IsTrue B.tells
         → IsHead layout.now (block_at (B.seen blocks.old).cur layout.now.head) }
     requires entry { IsTrue B.tells → HasEntry layout.now (B.seen blocks.old).cur place.now }
+    requires inside { All (IsInside layout.now place.now) (mets slots.old) }
     requires met { IsTrue B.tells
-        → All (IsMet layout.now (B.seen blocks.old).cur) (mets slots.old) }
+        → All (IsMetAt layout.now (B.seen blocks.old).cur place.now) (mets slots.old) }
     ensures room { AreSlotsOf layout.now slots.new }
     ensures may { IsTrue B.tells → (kept : Lengths) (split : Option SplitNow)
         → IsReady layout.now kept split place.now (given bytes.entry) (B.seen blocks.old)
@@ -161,15 +170,20 @@ pub(crate) fn set<B: Blocks>(
         → IsReady layout.now kept split place.now (given bytes.entry) (B.seen blocks.old)
         → IsSetNow layout.now split (put_of put) place.now (given bytes.entry)
         (B.seen blocks.old) (B.seen blocks.new)) }
-    ensures met { IsTrue B.tells → OnOk result ((kept : Lengths) (split : Option SplitNow)
+    ensures met { IsTrue B.tells → IfOk result (λ put. (kept : Lengths) (split : Option SplitNow)
         → IsReady layout.now kept split place.now (given bytes.entry) (B.seen blocks.old)
-        → All (IsMet layout.now (B.seen blocks.new).cur) (mets slots.new)) }
+        → (met : Met) → IsMet layout.now (B.seen blocks.old).cur met
+        → IsMet layout.now (B.seen blocks.new).cur (again put out.new met)) }
     ensures places { HasMetPlace (mets slots.old) place.now → OnOk result
         (met_places (mets slots.new) ≡ met_places (mets slots.old)) }
     ensures reads { HasMetPlace (mets slots.old) place.now → IfErr result (λ fault. fault ≡ Write) }
     ensures unread { IfErr result (λ fault. fault ≡ Read
-        → Keeps B.tells (B.seen blocks.old) (B.seen blocks.new)
-        × (IsTrue B.tells → All (IsMet layout.now (B.seen blocks.new).cur) (mets slots.new))) }
+        → Keeps B.tells (B.seen blocks.old) (B.seen blocks.new)) }
+    ensures refreshed { IfOk result (λ put. (mid : List Met)
+        × LeavesMet layout.now B.tells (B.seen blocks.old).cur place.now (mets slots.old) mid
+        × (mets slots.new ≡ map (again put out.new) mid)) }
+    ensures failed { OnErr result (LeavesMet layout.now B.tells (B.seen blocks.old).cur place.now
+        (mets slots.old) (mets slots.new)) }
     ensures put { IfOk result (λ put. All (InArea layout.now) (put_of put)) }
     ensures count { (B.seen blocks.new).count ≡ (B.seen blocks.old).count }
     ensures size { (B.seen blocks.new).size ≡ (B.seen blocks.old).size }

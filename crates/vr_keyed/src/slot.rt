@@ -2,6 +2,7 @@
 ghost use Rattle.std.specs.Prelude.{◌≡◌, ◌<◌, ℕ, List, IfOk};
 ghost use Rattle.std.specs.Borrow.{Bor};
 ghost use Rattle.std.specs.Option.{option_map};
+ghost use Rattle.vr_space.specs.Keyed.{InArea};
 ghost use Rattle.vr_space.specs.Search.{HasPlaces, range_found};
 ghost use Rattle.vr_space.specs.UnderWay.{interval_block};
 ghost use Rattle.vr_keyed.specs.Slots.{IsSlotOf, low_kept, met_in};
@@ -58,6 +59,7 @@ impl Slot {
         ensures slot { IsSlotOf layout.now self.new }
         ensures range { (met_in self.new).range ≡ range_found found.now }
         ensures number { self.new.number ≡ interval_block layout.now found.now.interval }
+        ensures inside { InArea layout.now self.new.number }
         ensures place { self.new.place ≡ self.old.place }
     {
         self.from_start = found.low.is_none();

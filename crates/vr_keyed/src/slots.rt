@@ -52,6 +52,7 @@ impl Slots {
     {
         self.filled > 1 && self.second.place.as_slice() == place
     }
+
     /// Puts the two in the other order.
     pub(crate) fn turn(&mut self)
         ensures first { self.new.first ≡ self.old.second }

@@ -1,68 +1,35 @@
 //! Attaching the part to blocks that are changed: what it answers, beside the plain program.
-ghost use Rattle.std.specs.Prelude.{◌<◌, ◌≤◌, ◌+◌, IfOk};
-ghost use Rattle.vr_types.specs.Geometry.{area_count};
-ghost use Rattle.vr_attach.specs.Attached.{IsOfKeyed};
-ghost use Rattle.vr_keyed_cases.specs.TheLayout.{the_geometry};
+ghost use Rattle.std.specs.Prelude.{◌≡◌};
 
 use crate::answers::{Answer, Stop, say, say_fault, say_number};
-use crate::format::{HEAD, geometry};
+use crate::chain::write_blocks;
+use crate::format::{HEAD, geometry, owners};
 use crate::held::{Held, boxed_blocks};
 use crate::images::last_blocks;
 use crate::plain_damage::{Found, damage_in};
 use crate::traced::Traced;
 use crate::words::{long_number, number, parted};
 use std::alloc::Global;
-use vr_attach::PartNo2;
-use vr_catalog::{CatEntry, EntryKind, FreeSpace, ShareOptions, SpaceUnit};
+use vr_attach::{PartNo2, layout_of};
+use vr_catalog::Definition;
 use vr_device::memory_device;
 use vr_keyed::Keyed;
-use vr_types::{AreaNo, Blocks, DeviceFault, Kind, NameFault, PartNo, dataset_name};
+use vr_types::{DeviceFault, Kind, PartNo};
 
-/// The longest record of the entry. The part itself takes longer ones.
+/// The longest record of the definition. The part itself takes longer ones.
 const LONGEST: u32 = 300;
 
-/// The entry of the part: in area 1, with keys of 8 bytes at the start of a record.
-fn entry(alloc: Global) -> Result<CatEntry, Stop>
-    requires { 1 < area_count the_geometry }
-    ensures { IfOk result (λ entry. IsOfKeyed the_geometry entry 8) }
+/// The definition of the part: keys of 8 bytes at the start of a record.
+fn definition() -> Definition
+    ensures { result.maximum ≡ LONGEST }
 {
-    let name = match dataset_name(alloc, "PART.ONE") {
-        Ok(name) => name,
-        Err(NameFault::Memory) => return Err(Stop::Memory),
-        Err(_) => return Err(Stop::Line),
-    };
-    Ok(CatEntry {
-        name,
-        entry_kind: EntryKind::Cluster,
-        kind: Some(Kind::Keyed),
+    Definition {
+        kind: Kind::Keyed,
         spanned: false,
-        unique: false,
-        built: false,
-        part: PartNo(1),
-        related: None,
         key_length: 8,
         key_offset: 0,
-        average: 80,
         maximum: LONGEST,
-        first_area: Some(AreaNo(1)),
-        free_space: FreeSpace {
-            interval: 0,
-            area: 0,
-        },
-        share_options: ShareOptions {
-            regions: 1,
-            systems: 3,
-        },
-        space: SpaceUnit::Unstated,
-        primary: 0,
-        secondary: 0,
-        interval_size: 0,
-        data_name: None,
-        index_name: None,
-        storage_class: None,
-        data_class: None,
-        management_class: None,
-    })
+    }
 }
 
 /// Attaches the part to what was written last, with changes: `attach CHANGE; CHANGE..`, each
@@ -74,7 +41,7 @@ pub fn attach(alloc: Global, held: &Held, rest: &str, out: &mut String) -> Answe
 }
 
 /// Attaches the part to what was written last, on a device whose call of a number fails: calls 0 to
-/// 3 write the blocks: `attach_fails NUMBER`.
+/// 7 write the blocks: `attach_fails NUMBER`.
 pub fn attach_fails(alloc: Global, held: &Held, rest: &str, out: &mut String) -> Answer {
     let blocks = last_blocks(alloc, held.blocks.device())?;
     attach_to(alloc, blocks.as_slice(), &[long_number(rest)?], out)
@@ -91,7 +58,7 @@ fn change_all(blocks: &mut [u8], rest: &str) -> Answer {
 
 fn change_one(blocks: &mut [u8], change: &str) -> Answer {
     let (block, rest) = parted(change);
-    let from = number(block)?.min(3) as usize * 512;
+    let from = number(block)?.min(7) as usize * 512;
     if rest == "zero" {
         return fill_zeros(blocks, from);
     }
@@ -121,22 +88,13 @@ fn put_byte(blocks: &mut [u8], place: usize, byte: u32) -> Answer {
     }
 }
 
-/// The part's four blocks on blocks 6 to 9 of a whole volume.
+/// The part's eight blocks on blocks 6 to 13 of a whole volume.
 fn volume(alloc: Global, blocks: &[u8], fails: &[u64]) -> Result<Box<Traced>, Stop> {
-    let device = memory_device(alloc, 512, 10, fails)?;
+    let device = memory_device(alloc, 512, 14, fails)?;
     let mut traced = boxed_blocks(alloc, device, 0)?;
     write_blocks(&mut traced, blocks);
-    Ok(traced)
-}
-
-fn write_blocks(traced: &mut Traced, blocks: &[u8]) {
-    for n in 0..4u32 {
-        let from = n as usize * 512;
-        if let Some(block) = blocks.get(from..from + 512) {
-            let _ = traced.put(HEAD + n, block);
-        }
-    }
     traced.clear_notes();
+    Ok(traced)
 }
 
 /// Writes what attaching answers, with the calls of the device, and what the plain program says
@@ -157,15 +115,12 @@ enum Outcome {
 
 /// Attaches the part.
 fn attached(alloc: Global, traced: &mut Traced) -> Result<Outcome, Stop> {
-    let geometry = geometry();
-    if !geometry.is_allowed() || geometry.areas() < 2 {
-        return Err(Stop::Line);
-    }
-    let entry = entry(alloc)?;
-    match Keyed::attach(alloc, traced, &geometry, &entry, 8).err() {
+    let layout = layout_of(geometry(), PartNo(1), 1, &definition());
+    let mut owners = owners(alloc)?;
+    match Keyed::attach(alloc, traced, layout, &mut owners).err() {
         None => Ok(Outcome::Sound),
         Some(PartNo2::Damaged { block, rule }) => Ok(Outcome::Damaged(Found {
-            block: (block as usize).saturating_sub(HEAD as usize),
+            block: block as usize,
             rule,
         })),
         Some(PartNo2::Fault(fault)) => Ok(Outcome::Fault(fault)),
@@ -204,9 +159,18 @@ fn say_found(out: &mut String, found: Option<Found>) -> Answer {
         None => say(out, "ok"),
         Some(found) => {
             say(out, "damaged ")?;
-            say_number(out, found.block as u64)?;
+            say_block(out, found.block)?;
             say(out, " ")?;
             say_number(out, found.rule as u64)
         }
+    }
+}
+
+/// Writes the number of a block, counted from the part's head; what comes before that is an area of
+/// the catalog's.
+fn say_block(out: &mut String, block: usize) -> Answer {
+    match block.checked_sub(HEAD as usize) {
+        Some(number) => say_number(out, number as u64),
+        None => say(out, "before"),
     }
 }

@@ -1,22 +1,26 @@
 //! The part as it is made, byte by byte: a head of one entry, and an empty interval; and where it
-//! is.
+//! is on its volume.
 ghost use Rattle.std.specs.Prelude.{◌≡◌, length, IfOk};
-ghost use Rattle.vr_keyed_cases.specs.TheLayout.{the_geometry, the_layout};
+ghost use Rattle.vr_keyed_cases.specs.TheLayout.{the_geometry, the_layout, the_owners};
 
 use std::alloc::{AllocError, Global};
 use vr_space::KeyedLayout;
-use vr_types::{Geometry, PartNo};
+use vr_types::{AreaNo, Geometry, OutOfMemory, PartNo, Space, space};
 
 /// The block of the volume that is the part's head.
 pub const HEAD: u32 = 6;
 
-/// A volume of a header, a log block, and two areas.
+/// How many blocks of the volume the device in memory has, from the head on: those of areas 1 and
+/// 2.
+pub const BLOCKS: u32 = 8;
+
+/// A volume of a header, a log block, and three areas.
 pub fn geometry() -> Geometry
     ensures { result ≡ the_geometry }
 {
     Geometry {
         size: 512,
-        blocks: 10,
+        blocks: 14,
         log: 1,
         area: 3,
     }
@@ -34,6 +38,16 @@ pub fn layout() -> KeyedLayout
         offset: 0,
         most: 505,
     }
+}
+
+/// Who owns its areas: area 0 is the catalog's, area 1 the part's, and area 2 is free.
+pub fn owners(alloc: Global) -> Result<Space, OutOfMemory>
+    ensures { IfOk result (λ space. space ≡ the_owners) }
+{
+    let mut owners = space(alloc, 3)?;
+    owners.mark(AreaNo(0), PartNo(0));
+    owners.mark(AreaNo(1), PartNo(1));
+    Ok(owners)
 }
 
 /// The head: of part 1, with places of 8 bytes, and interval 0 up to the greatest place.

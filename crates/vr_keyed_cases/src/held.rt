@@ -1,18 +1,19 @@
 //! The part that lines speak of.
 ghost use Rattle.std.specs.Prelude.{◌≡◌, ◌≤◌, length, IfOk};
 ghost use Rattle.vr_space.specs.Part.{IsRecordOf};
-ghost use Rattle.vr_keyed_cases.specs.TheLayout.{the_shape};
+ghost use Rattle.vr_keyed_cases.specs.TheLayout.{the_owners, the_shape};
 
 use crate::answers::{Answer, Stop};
-use crate::format::{HEAD, empty_interval, head, layout};
+use crate::format::{BLOCKS, HEAD, empty_interval, head, layout, owners};
 use crate::one_kept::OneKept;
 use crate::record::is_whole;
 use crate::traced::Traced;
 use std::alloc::Global;
+use vr_attach::PartNo2;
 use vr_device::{MemoryDevice, memory_device};
-use vr_keyed::{Keyed, keyed_part};
+use vr_keyed::{Keyed, new_part};
 use vr_space::{Part, Room, Whence};
-use vr_types::{Blocks, DeviceFault, Place, PlaceBuffer, Space, StageKind, space};
+use vr_types::{Blocks, DeviceFault, Place, PlaceBuffer, Space, StageKind};
 
 /// The part on its blocks, what is kept, and the records that were noted. What is large is in
 /// boxes, so that a function that ends drops it by one call.
@@ -27,14 +28,22 @@ pub struct Held {
 }
 
 impl Held {
-    /// The part on a device as it is, with no split under way.
-    pub fn over(alloc: Global, device: MemoryDevice) -> Result<Box<Held>, Stop> {
-        Held::on(alloc, boxed_blocks(alloc, device, HEAD)?)
+    /// The part that blocks have, attached to them as after a restart.
+    pub fn attached(alloc: Global, mut blocks: Box<Traced>) -> Result<Box<Held>, Stop> {
+        let mut space = owners(alloc)?;
+        let part = attached_part(alloc, &mut blocks, &mut space)?;
+        blocks.clear_notes();
+        Held::on(alloc, blocks, part, space)
     }
 
-    fn on(alloc: Global, blocks: Box<Traced>) -> Result<Box<Held>, Stop> {
-        let part = boxed_part(alloc)?;
-        let space = space(alloc, 1)?;
+    fn on(
+        alloc: Global,
+        blocks: Box<Traced>,
+        part: Box<Keyed>,
+        space: Space,
+    ) -> Result<Box<Held>, Stop>
+        requires { ⟦<Keyed as Part>⟧.shape part.value ≡ the_shape }
+    {
         let held = Held {
             blocks,
             part,
@@ -47,10 +56,12 @@ impl Held {
 
     /// A new part, on a device whose calls of these numbers fail. The first three calls make it.
     pub fn format(alloc: Global, fails: &[u64]) -> Result<Box<Held>, Stop> {
-        let device = memory_device(alloc, 512, 4, fails)?;
+        let device = memory_device(alloc, 512, BLOCKS, fails)?;
         let mut blocks = boxed_blocks(alloc, device, HEAD)?;
         write_first(alloc, &mut blocks)?;
-        Held::on(alloc, blocks)
+        let part = boxed_part(alloc)?;
+        let space = owners(alloc)?;
+        Held::on(alloc, blocks, part, space)
     }
 
     /// Whether a record of this length has room.
@@ -109,12 +120,24 @@ pub fn boxed_blocks(alloc: Global, device: MemoryDevice, base: u32) -> Result<Bo
     Ok(Box::new(alloc, blocks)?)
 }
 
-/// The part with no split under way, in a box.
+/// A new part, in a box.
 fn boxed_part(alloc: Global) -> Result<Box<Keyed>, Stop>
     ensures { IfOk result (λ part. ⟦<Keyed as Part>⟧.shape part.value ≡ the_shape) }
 {
-    let part = keyed_part(alloc, layout())?;
+    let part = new_part(alloc, layout())?;
     Ok(Box::new(alloc, part)?)
+}
+
+/// The part as its blocks stand, in a box. The areas of its chain are marked as its own.
+fn attached_part(alloc: Global, blocks: &mut Traced, owners: &mut Space) -> Result<Box<Keyed>, Stop>
+    requires { owners.old ≡ the_owners }
+    ensures { IfOk result (λ part. ⟦<Keyed as Part>⟧.shape part.value ≡ the_shape) }
+{
+    match Keyed::attach(alloc, blocks, layout(), owners) {
+        Ok(part) => Ok(Box::new(alloc, part)?),
+        Err(PartNo2::Memory) => Err(Stop::Memory),
+        Err(_) => Err(Stop::Line),
+    }
 }
 
 /// Writes the blocks of a new part.

@@ -1,7 +1,8 @@
 //! The images that a crash leaves, each read by the plain program.
 
 use crate::answers::{Answer, Stop, say, say_number};
-use crate::held::Held;
+use crate::format::{BLOCKS, HEAD};
+use crate::held::{Held, boxed_blocks};
 use crate::plain::{say_entries, say_records};
 use crate::words::numbers;
 use std::alloc::Global;
@@ -11,36 +12,20 @@ use vr_device::{BlockDevice, ImageNo, MemoryDevice};
 /// Which content of its past each block takes, by its number.
 #[derive(Clone, Copy)]
 struct Choice {
-    head: u32,
-    first: u32,
-    second: u32,
-    third: u32,
+    numbers: [u32; 8],
 }
 
 impl Choice {
     /// The first content of each block, which no crash can undo.
     fn first() -> Choice {
-        Choice {
-            head: 0,
-            first: 0,
-            second: 0,
-            third: 0,
-        }
-    }
-
-    /// The numbers, block by block.
-    fn numbers(self) -> [u32; 4] {
-        [self.head, self.first, self.second, self.third]
+        Choice { numbers: [0; 8] }
     }
 
     /// With the next content of a block.
     fn raised(self, block: u32) -> Choice {
         let mut next = self;
-        match block {
-            0 => next.head = self.head.saturating_add(1),
-            1 => next.first = self.first.saturating_add(1),
-            2 => next.second = self.second.saturating_add(1),
-            _ => next.third = self.third.saturating_add(1),
+        if let Some(number) = next.numbers.get_mut(block as usize) {
+            *number = number.saturating_add(1);
         }
         next
     }
@@ -48,11 +33,8 @@ impl Choice {
     /// With the content before it.
     fn lowered(self, block: u32) -> Choice {
         let mut back = self;
-        match block {
-            0 => back.head = self.head.saturating_sub(1),
-            1 => back.first = self.first.saturating_sub(1),
-            2 => back.second = self.second.saturating_sub(1),
-            _ => back.third = self.third.saturating_sub(1),
+        if let Some(number) = back.numbers.get_mut(block as usize) {
+            *number = number.saturating_sub(1);
         }
         back
     }
@@ -61,12 +43,10 @@ impl Choice {
     /// each before that.
     fn carried(self, block: u32) -> Choice {
         let mut next = self.raised(block.saturating_add(1));
-        next.head = 0;
-        if block >= 1 {
-            next.first = 0;
-        }
-        if block >= 2 {
-            next.second = 0;
+        for (n, number) in next.numbers.iter_mut().enumerate() {
+            if n <= block as usize {
+                *number = 0;
+            }
         }
         next
     }
@@ -81,7 +61,7 @@ enum Image {
 
 /// The blocks of the image of a choice, one after the other.
 fn image_of(alloc: Global, device: &MemoryDevice, choice: Choice) -> Result<Image, Stop> {
-    match device.image(alloc, &choice.numbers()) {
+    match device.image(alloc, &choice.numbers) {
         Ok(mut image) => all_blocks(alloc, &mut image),
         Err(ImageNo::Choice { block }) => Ok(Image::Misfit(block)),
         Err(ImageNo::Memory) => Err(Stop::Memory),
@@ -96,7 +76,7 @@ fn all_blocks(alloc: Global, image: &mut MemoryDevice) -> Result<Image, Stop> {
 }
 
 fn add_blocks(image: &mut MemoryDevice, block: &mut [u8], blocks: &mut Vec<u8>) -> Answer {
-    for n in 0..4u32 {
+    for n in 0..BLOCKS {
         if n < image.blocks() && image.size() as usize == block.len() {
             let _ = image.read(n, block);
         }
@@ -107,7 +87,7 @@ fn add_blocks(image: &mut MemoryDevice, block: &mut [u8], blocks: &mut Vec<u8>) 
 
 /// The block that the choice misfits.
 fn misfit(alloc: Global, device: &MemoryDevice, choice: Choice) -> Result<Option<u32>, Stop> {
-    match device.image(alloc, &choice.numbers()).err() {
+    match device.image(alloc, &choice.numbers).err() {
         None => Ok(None),
         Some(ImageNo::Choice { block }) => Ok(Some(block)),
         Some(ImageNo::Memory) => Err(Stop::Memory),
@@ -119,7 +99,7 @@ fn last_choice(alloc: Global, device: &MemoryDevice) -> Result<Choice, Stop> {
     let mut choice = Choice::first();
     let mut block = 0;
     for _try in 0..1000u32 {
-        if block >= 4 {
+        if block >= BLOCKS {
             break;
         }
         choice = choice.raised(block);
@@ -154,7 +134,7 @@ pub fn list(alloc: Global, held: &Held, out: &mut String) -> Answer {
     Ok(())
 }
 
-/// The entries of the head that was written last: `entries`.
+/// The entries of the heads that were written last: `entries`.
 pub fn entries(alloc: Global, held: &Held, out: &mut String) -> Answer {
     let choice = last_choice(alloc, held.blocks.device())?;
     match image_of(alloc, held.blocks.device(), choice)? {
@@ -230,8 +210,8 @@ fn tally_all(alloc: Global, device: &MemoryDevice, noted: &str, last: &str) -> R
     for _image in 0..4000u32 {
         match count_image(alloc, device, choice, noted, last, &mut tally)? {
             None => choice = choice.raised(0),
-            Some(3) => break,
-            Some(block) => choice = choice.carried(block),
+            Some(block) if block < BLOCKS - 1 => choice = choice.carried(block),
+            Some(_) => break,
         }
     }
     Ok(tally)
@@ -254,6 +234,7 @@ fn count_image(
 }
 
 /// The part on the image of a choice, as after a restart: `crash NUMBER..`, or the last contents.
+/// Blocks without a number take their first content.
 pub fn crash(alloc: Global, held: &mut Held, rest: &str, out: &mut String) -> Answer {
     let mut new = crashed(alloc, held.blocks.device(), rest)?;
     mem::swap(held, &mut *new);
@@ -263,15 +244,18 @@ pub fn crash(alloc: Global, held: &mut Held, rest: &str, out: &mut String) -> An
 fn crashed(alloc: Global, device: &MemoryDevice, rest: &str) -> Result<Box<Held>, Stop> {
     if rest.is_empty() {
         let choice = last_choice(alloc, device)?;
-        return restarted(alloc, device, &choice.numbers());
+        return restarted(alloc, device, &choice.numbers);
     }
-    let choice = numbers(alloc, rest)?;
+    let mut choice = numbers(alloc, rest)?;
+    if choice.len() < BLOCKS as usize {
+        choice.resize(BLOCKS as usize, 0)?;
+    }
     restarted(alloc, device, choice.as_slice())
 }
 
 fn restarted(alloc: Global, device: &MemoryDevice, choice: &[u32]) -> Result<Box<Held>, Stop> {
     match device.image(alloc, choice) {
-        Ok(image) => Held::over(alloc, image),
+        Ok(image) => Held::attached(alloc, boxed_blocks(alloc, image, HEAD)?),
         Err(ImageNo::Choice { .. }) => Err(Stop::Line),
         Err(ImageNo::Memory) => Err(Stop::Memory),
     }

@@ -1,4 +1,4 @@
-//! Cases of `vr_keyed` from a text table: a keyed part of three intervals on a device in memory.
+//! Cases of `vr_keyed` from a text table: a keyed part of one or two areas on a device in memory.
 //! Each line of its input has a question, ` -> ` and the answer that is wanted. It asks the public
 //! calls, prints each line whose answer differs, and at the end how many lines there were and how
 //! many differ; the status is 1 where one differs. What a crash leaves is read by a plain, slow
@@ -9,6 +9,7 @@
 mod answers;
 mod attach;
 mod calls;
+mod chain;
 mod format;
 mod held;
 mod images;

@@ -1,4 +1,5 @@
-//! What four blocks hold, read byte by byte, plainly and slowly. It shares no code with the part.
+//! What eight blocks hold, read byte by byte, plainly and slowly. It shares no code with the part,
+//! whose chain begins with the first four blocks, and may lead on to the others.
 ghost use Rattle.std.specs.Prelude.{◌<◌, ◌≤◌};
 
 use crate::answers::{Answer, say, say_digits, say_number};
@@ -30,8 +31,37 @@ pub fn part(blocks: &[u8], at: usize, count: usize) -> &[u8] {
     blocks.get(at..at.saturating_add(count)).unwrap_or(&[])
 }
 
-/// Writes the entries of the head: the interval and the high place of each.
+/// The number of four bytes, the high one first; at most 65,535.
+pub fn four(blocks: &[u8], at: usize) -> usize {
+    if two(blocks, at) > 0 {
+        return 65_535;
+    }
+    two(blocks, at.saturating_add(2))
+}
+
+/// The four blocks of the first area, and those of the second.
+pub fn areas_of(blocks: &[u8]) -> (&[u8], &[u8]) {
+    (part(blocks, 0, 2048), part(blocks, 2048, 2048))
+}
+
+/// Whether an area leads on to the second: its head has that area's number on the volume, and 1.
+pub fn leads_on(area: &[u8]) -> bool {
+    four(area, 12) == 3
+}
+
+/// Writes the entries of each head: the interval and the high place of each, and ` | ` between
+/// areas.
 pub fn say_entries(blocks: &[u8], out: &mut String) -> Answer {
+    let (first, second) = areas_of(blocks);
+    say_head(first, out)?;
+    if leads_on(first) {
+        say(out, " | ")?;
+        say_head(second, out)?;
+    }
+    Ok(())
+}
+
+fn say_head(blocks: &[u8], out: &mut String) -> Answer {
     for entry in 0..two(blocks, 2).min(39) {
         if entry > 0 {
             say(out, " ")?;
@@ -54,13 +84,24 @@ fn say_entry(blocks: &[u8], at: usize, out: &mut String) -> Answer {
 
 /// Writes each record that the blocks stand for: its key and its length.
 pub fn say_records(blocks: &[u8], out: &mut String) -> Answer {
-    if two(blocks, 0) != 83 * 256 + 1 || two(blocks, 6) != 8 {
+    let (first, second) = areas_of(blocks);
+    say_area(first, true, out)?;
+    if leads_on(first) {
+        say_area(second, false, out)?;
+    }
+    Ok(())
+}
+
+/// Writes each record of an area, which is the first of the chain or not.
+fn say_area(blocks: &[u8], first: bool, out: &mut String) -> Answer {
+    let flag = if first { 1 } else { 0 };
+    if two(blocks, 0) != 83 * 256 + flag || two(blocks, 6) != 8 {
         say(out, "no head")?;
     }
     for entry in 0..two(blocks, 2).min(39) {
         let at = 40 + entry * 12;
         let range = Range {
-            low: if entry == 0 { 0 } else { at - 8 },
+            low: if first && entry == 0 { 0 } else { at - 8 },
             high: at + 4,
         };
         say_interval(blocks, (two(blocks, at + 2) + 1) * 512, range, out)?;

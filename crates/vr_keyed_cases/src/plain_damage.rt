@@ -1,20 +1,12 @@
 //! The damage of the part's blocks, found byte by byte, plainly and slowly. It shares no code with
 //! the part.
-use crate::plain::{Run, byte, part, run_at, two};
+use crate::plain::{Run, areas_of, byte, four, leads_on, part, run_at, two};
 
-/// The block that is shown, of the part's four, and the rule.
+/// The block that is shown, by its number on the volume, and the rule.
 #[derive(Clone, Copy, PartialEq, Eq)]
 pub struct Found {
     pub block: usize,
     pub rule: u8,
-}
-
-/// The number of four bytes, the high one first; at most 65,535.
-fn four(blocks: &[u8], at: usize) -> usize {
-    if two(blocks, at) > 0 {
-        return 65_535;
-    }
-    two(blocks, at.saturating_add(2))
 }
 
 /// Whether this many bytes are all this one.
@@ -22,42 +14,99 @@ fn are_all(blocks: &[u8], at: usize, count: usize, wanted: u8) -> bool {
     part(blocks, at, count).iter().all(|byte| *byte == wanted)
 }
 
-/// What is found of four blocks of a part whose records have at most this many bytes.
+/// An area of the chain: its number on the volume, its four blocks, and the place after which its
+/// ranges are to begin, which has no bytes in the first.
+#[derive(Clone, Copy)]
+struct Area<'a> {
+    number: usize,
+    blocks: &'a [u8],
+    low: &'a [u8],
+}
+
+/// The block of the volume that an area begins with.
+fn head_block(number: usize) -> usize {
+    number.saturating_mul(4).saturating_add(2)
+}
+
+/// What is found of a part whose records have at most this many bytes, in eight blocks: those of
+/// area 1, which is the first of its chain, and of area 2, which may be the second.
 pub fn damage_in(blocks: &[u8], most: usize) -> Option<Found> {
-    let rule = head_rule(blocks);
-    if rule != 0 {
-        return Some(Found { block: 0, rule });
+    let (first, second) = areas_of(blocks);
+    let first = Area {
+        number: 1,
+        blocks: first,
+        low: &[],
+    };
+    let found = damage_of(first, most);
+    if found.is_some() || !leads_on(first.blocks) {
+        return found;
     }
-    for entry in 0..two(blocks, 2).min(39) {
+    let second = Area {
+        number: 2,
+        blocks: second,
+        low: last_high(first.blocks),
+    };
+    damage_of(second, most)
+}
+
+/// The place at which the ranges of a head end whose places have 8 bytes.
+fn last_high(blocks: &[u8]) -> &[u8] {
+    let at = two(blocks, 2).min(39).saturating_mul(12).saturating_add(32);
+    part(blocks, at, 8)
+}
+
+/// What is found of an area: at its head, at the interval of an entry, or at the area that comes
+/// next, if that is area 0, which is the catalog's, or area 1, in which the chain was before.
+fn damage_of(area: Area<'_>, most: usize) -> Option<Found> {
+    let head = head_block(area.number);
+    let rule = head_rule(area);
+    if rule != 0 {
+        return Some(Found { block: head, rule });
+    }
+    for entry in 0..two(area.blocks, 2).min(39) {
         let at = 40 + entry * 12;
-        let rule = interval_rule(blocks, at, entry == 0, most);
+        let rule = interval_rule(area, at, entry == 0, most);
         if rule != 0 {
-            let block = two(blocks, at + 2) + 1;
+            let block = head.saturating_add(two(area.blocks, at + 2) + 1);
             return Some(Found { block, rule });
         }
     }
-    None
+    match four(area.blocks, 12) {
+        1 => Some(Found {
+            block: head_block(0),
+            rule: 4,
+        }),
+        2 => Some(Found {
+            block: head_block(1),
+            rule: 4,
+        }),
+        _ => None,
+    }
 }
 
-/// The least rule that the head breaks, or 0. The volume has areas 0 and 1, and the part is in 1.
-fn head_rule(blocks: &[u8]) -> u8 {
-    let spelled = is_spelled(blocks);
-    let next = four(blocks, 12);
-    let index = four(blocks, 20);
-    if spelled && (next > 2 || index > 2) {
+/// The least rule that the head of an area breaks, or 0. The volume has areas 0 to 2.
+fn head_rule(area: Area<'_>) -> u8 {
+    let top = part(area.blocks, 0, 512);
+    let first = area.low.is_empty();
+    let spelled = is_spelled(top);
+    let next = four(top, 12);
+    let index = four(top, 20);
+    if spelled && (next > 3 || index > 3) {
         return 3;
     }
-    if spelled && next == 2 {
+    if spelled && next == area.number.saturating_add(1) {
         return 4;
     }
-    if !spelled || byte(blocks, 1) != 1 || !is_plain_head(blocks) {
+    if !spelled || (byte(top, 1) == 1) != first || !is_plain_head(top) {
         return 5;
     }
-    if four(blocks, 8) != 1 || two(blocks, 6) != 8 {
+    if four(top, 8) != 1 || two(top, 6) != 8 {
         return 6;
     }
-    let high = two(blocks, 2).min(39).saturating_mul(12).saturating_add(32);
-    if next != 0 || !are_all(blocks, high, 8, 255) {
+    if !first && part(top, 32, 8) != area.low {
+        return 7;
+    }
+    if next == 0 && last_high(top).iter().any(|byte| *byte != 255) {
         return 7;
     }
     0
@@ -153,7 +202,8 @@ enum Kind {
 }
 
 /// The least rule that the interval of the entry at that place breaks, or 0.
-fn interval_rule(blocks: &[u8], at: usize, first: bool, most: usize) -> u8 {
+fn interval_rule(area: Area<'_>, at: usize, first: bool, most: usize) -> u8 {
+    let blocks = area.blocks;
     let number = two(blocks, at.saturating_add(2));
     let block = part(blocks, number.saturating_add(1).saturating_mul(512), 512);
     match kind_of(block) {
@@ -165,7 +215,7 @@ fn interval_rule(blocks: &[u8], at: usize, first: bool, most: usize) -> u8 {
                 return 10;
             }
             let low: &[u8] = if first {
-                &[]
+                area.low
             } else {
                 part(blocks, at.saturating_sub(8), 8)
             };

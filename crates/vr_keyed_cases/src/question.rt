@@ -3,6 +3,7 @@
 use crate::answers::{Answer, Stop, say, say_fault};
 use crate::attach::{attach, attach_fails};
 use crate::calls::{erase, fill, get, next, place_of, record_call};
+use crate::chain::chain;
 use crate::held::Held;
 use crate::images::{crash, entries, images, list, mark};
 use crate::one_kept::OneKept;
@@ -52,6 +53,7 @@ fn look(alloc: Global, held: &mut Held, verb: &str, rest: &str, out: &mut String
         "mark" => mark(alloc, held, out),
         "images" => images(alloc, held, out),
         "crash" => crash(alloc, held, rest, out),
+        "chain" => chain(alloc, held, out),
         "attach" => attach(alloc, held, rest, out),
         "attach_fails" => attach_fails(alloc, held, rest, out),
         _ => device_call(held, verb, rest, out),

@@ -1,9 +1,9 @@
 -- What the crates above cite: the areas of a volume, the parts of a catalog and who owns their
 -- blocks, and calls of which only the blocks are said.
 pub use Rattle.vr_mount.proofs.Blocks.{area-before, area-on, two-areas}
-pub use Rattle.vr_mount.proofs.PartContents.{AreSame, IsAreaSame, keyed-areas, keyed-same}
-pub use Rattle.vr_mount.proofs.PartContents.{keyed-there, none-ascend, part-fits, rooms-same}
-pub use Rattle.vr_mount.proofs.PartContents.{stands-same, stays-same}
+pub use Rattle.vr_mount.proofs.PartContents.{AreSame, IsAreaSame, keyed-same, keyed-there}
+pub use Rattle.vr_mount.proofs.PartContents.{none-ascend, part-fits, rooms-same, stands-same}
+pub use Rattle.vr_mount.proofs.PartContents.{stays-same}
 pub use Rattle.vr_mount.proofs.Touched.{image-same, touches-none}
 use Rattle.std.proofs.Common.{◌≡◌, ◌∙◌, ℕ, ◌+◌, ◌<◌, ◌≤◌, List, Option, Some, ap, arith, subst}
 use Rattle.std.proofs.Common.{sym}

@@ -5,6 +5,7 @@ use Rattle.std.proofs.lemmas.List.{length-take, length-drop}
 use Rattle.std.proofs.lemmas.List.Elements.{All-head, All-tail}
 use Rattle.std.specs.Prelude.{All, filter, cond, option_and_then}
 use Rattle.vr_types.specs.Content.{Content, Item, Placed, record_of}
+use Rattle.vr_types.specs.Geometry.{area_count}
 use Rattle.vr_types.specs.Image.{Image, block_at}
 use Rattle.vr_types.proofs.CallerLemmas.{length-four, same_place}
 use Rattle.vr_ci.specs.Interval as ci
@@ -17,7 +18,7 @@ use Rattle.vr_space.specs.Part.{place_length}
 use Rattle.vr_space.specs.Rosters.{Numbered}
 use Rattle.vr_space.specs.Numbered.{IsNumberPlace, number_of, numbered_way}
 use Rattle.vr_space.specs.Way.{found_on}
-use Rattle.vr_space.specs.Areas.{area_of, head_in, most_areas}
+use Rattle.vr_space.specs.Areas.{area_of, head_in}
 use Rattle.vr_space.proofs.CallerLemmas.{NoneAt, content-each, content_item, found-place}
 use Rattle.vr_space.proofs.CallerLemmas.{none-record}
 
@@ -98,7 +99,7 @@ none_elsewhere (KeyedShape part) image stands place other =
     (content-each (AreKeys part.key) tt (keys-append part.key) part image
     (λ at linked. keys-content (area_of part at) image (low_of (head_in part image at))
     (entries_of (head_in part image at)) linked.stands.intervals)
-    most_areas part.first None stands.1.chain) in
+    (area_count part.geometry) part.first None stands.1.chain) in
     ap (option_and_then record_of)
     (sym (content_item (KeyedShape part) image content stands.1 place)
     ∙ none-record place content (none_of part.key content place keys other))

@@ -18,8 +18,8 @@ use Rattle.vr_space.specs.Keyed.{HaveRooms, IsHead, entries_of, entry_block, ite
 use Rattle.vr_space.specs.Keyed.{last_high, length_of, lengths_of, low_of, placed, range_of}
 use Rattle.vr_space.specs.Keyed.{records_in}
 use Rattle.vr_space.specs.Areas.{ChainHasRoom, ChainStandsFor, ChainStaysIn, EachAfter, EachArea}
-use Rattle.vr_space.specs.Areas.{IsFollowed, IsOwnedArea, KeyedChain, LinksIn, area_of, areas_in}
-use Rattle.vr_space.specs.Areas.{content_after, content_in, end_of, head_in, most_areas}
+use Rattle.vr_space.specs.Areas.{IsFollowed, IsOwnedArea, KeyedChain, LinksIn, area_of}
+use Rattle.vr_space.specs.Areas.{content_after, content_in, end_of, head_in}
 use Rattle.vr_space.specs.Owners.{Owners}
 use Rattle.vr_space.specs.Part.{HasRoom, InPart, KeyedShape, NumberedShape, Shape, StandsFor}
 use Rattle.vr_space.specs.Part.{StaysIn}
@@ -27,9 +27,9 @@ use Rattle.vr_space.specs.Room.{HaveRoom, Lengths, Range, is_in, weight}
 use Rattle.vr_space.specs.Rosters.{IsChained, IsInArea, IsOf, IsOwnArea, Numbered, after_next}
 use Rattle.vr_space.specs.Numbered.{IsFilled, KeepsNumbered, NumberedStandsFor, NumberedStaysIn}
 use Rattle.vr_space.specs.Numbered.{start_of}
-use Rattle.vr_space.proofs.CallerLemmas.{AreIn, HasSameEnds, IsAlike, IsLinkedArea, area-below}
-use Rattle.vr_space.proofs.CallerLemmas.{areas-kept, chain-less, each-after-both, each-after-less}
-use Rattle.vr_space.proofs.CallerLemmas.{head-in, links-in-each, links-in-kept, numbered-less}
+use Rattle.vr_space.proofs.CallerLemmas.{AreIn, IsAlike, IsLinkedArea, area-below, chain-less}
+use Rattle.vr_space.proofs.CallerLemmas.{each-after-both, each-after-less, head-in, links-in-each}
+use Rattle.vr_space.proofs.CallerLemmas.{links-in-kept, numbered-less}
 use Rattle.vr_attach.specs.Laid.{IsInside}
 use Rattle.vr_mount.proofs.Blocks.{area-on}
 use Rattle.vr_mount.proofs.ChainRecords.{records-same}
@@ -160,23 +160,15 @@ module _ (part : KeyedChain) (old new : Image) where
       by_next (Some further) goes all more = more further (end_of top) goes all
 
   -- A keyed part stands for what it stood for where the blocks of each of its areas are as they
-  -- were,
+  -- were.
   pub keyed-same : EachArea part (IsAreaSame part old new) (IsOf old) → (content : Content)
       → StandsFor (KeyedShape part) old content → StandsFor (KeyedShape part) new content
   keyed-same each content stands = record {
     part_is = stands.part_is;
-    chain = chain-links most_areas part.first None stands.chain each;
+    chain = chain-links (area_count part.geometry) part.first None stands.chain each;
     records = stands.records
-        ∙ sym (chain-content most_areas part.first None stands.chain each);
+        ∙ sym (chain-content (area_count part.geometry) part.first None stands.chain each);
   }
-
-  -- and has the same areas.
-  pub keyed-areas : EachArea part (IsAreaSame part old new) (IsOf old)
-      → areas_in part new ≡ areas_in part old
-  keyed-areas each = areas-kept part old new most_areas part.first
-      (each-after-less part (IsAreaSame part old new) (HasSameEnds part old new) (IsOf old)
-      (IsOf old) (λ area same. ends-same (area_of part area) old new same)
-      (λ area same top here. here) most_areas part.first each)
 
   -- So it does where those of each area of the volume are.
   pub keyed-there : ((area : ℕ) → area < area_count part.geometry → IsAreaSame part old new area)
@@ -185,8 +177,8 @@ module _ (part : KeyedChain) (old new : Image) where
   keyed-there same content stands = keyed-same
       (each-after-less part (IsLinkedArea part old) (IsAreaSame part old new) (IsOf old) (IsOf old)
       (λ area linked. same area linked.there) (λ area linked top here. here)
-      most_areas part.first
-      (links-in-each part old most_areas part.first None stands.chain)) content
+      (area_count part.geometry) part.first
+      (links-in-each part old (area_count part.geometry) part.first None stands.chain)) content
       stands
 
 -- ---- a part that stays in its own blocks
@@ -202,13 +194,13 @@ module _ (part : KeyedChain) (owners : Owners) (old new : Image)
 
   each-same : EachArea part (IsAreaSame part old new) (IsOf old)
   each-same = each-after-less part (IsOwnedArea part owners) (IsAreaSame part old new) (IsOf old)
-      (IsOf old) mine-same (λ area own top here. here) most_areas part.first within
+      (IsOf old) mine-same (λ area own top here. here) (area_count part.geometry) part.first within
 
   keyed-stays : ChainStaysIn part owners new
   keyed-stays = each-after-less part (IsOwnedArea part owners) (IsOwnedArea part owners) (IsOf old)
       (IsOf new) (λ area own. own)
       (λ area own top is. is ∙ head-same (area_of part area) old new (mine-same area own))
-      most_areas part.first within
+      (area_count part.geometry) part.first within
 
   -- an area is in order, and has room
   abbrev IsRoomyArea : Lengths → ℕ → Type 0
@@ -218,7 +210,7 @@ module _ (part : KeyedChain) (owners : Owners) (old new : Image)
   keyed-rooms : (kept : Lengths) (content : Content) → ChainStandsFor part old content
       → ChainHasRoom part kept old → ChainHasRoom part kept new
   keyed-rooms kept content stands rooms =
-      let count : ℕ = most_areas in
+      let count : ℕ = area_count part.geometry in
       each-after-less part
       (λ area. (IsAreaSame part old new area × IsLinkedArea part old area) × IsRoomyArea kept area)
       (λ area. HaveRooms (area_of part area) kept new (low_of (head_in part new area))
@@ -355,7 +347,7 @@ part-fits (KeyedShape part) image content stands =
     (entries_of (head_in part image area))) (IsOf image) (IsOf image)
     (λ area linked. have-rooms (area_of part area) image (low_of (head_in part image area))
     (entries_of (head_in part image area)) linked.stands.intervals)
-    (λ area linked top here. here) most_areas part.first
-    (links-in-each part image most_areas part.first None stands.chain)
+    (λ area linked top here. here) (area_count part.geometry) part.first
+    (links-in-each part image (area_count part.geometry) part.first None stands.chain)
 part-fits (NumberedShape part) image content stands = λ at entry below.
     absurd (omega (arith, below))

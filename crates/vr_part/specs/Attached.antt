@@ -1,15 +1,14 @@
 -- A part of any kind as it is attached. The rules are this project's own.
 use Rattle.std.specs.Prelude.{◌≡◌, ℕ, [], None}
 use Rattle.vr_types.specs.Image.{Image}
-use Rattle.vr_types.specs.declared.geometry.Geometry.{Geometry}
 use Rattle.vr_space.specs.Areas.{KnowsAreas}
 use Rattle.vr_space.specs.Known.{Known}
 use Rattle.vr_space.specs.Part.{KeyedShape, NumberedShape, Shape}
 use Rattle.vr_space.specs.Numbered.{KnowsChain}
 use Rattle.vr_attach.specs.Chain.{IsChainShown}
+use Rattle.vr_attach.specs.Linked.{IsLinkedShown}
 use Rattle.vr_attach.specs.declared.part_no.PartNo2.{PartNo2}
 use Rattle.vr_attach.specs.declared.part_no.PartNo2.TheVariants.{Damaged, Fault, Memory}
-use Rattle.vr_keyed.specs.Attached.{IsRuleShown}
 
 -- What a part keeps in memory as it is attached: of a keyed one its areas, and where each ends; of
 -- another its chain, and where its last item ends.
@@ -20,11 +19,11 @@ IsAttachedWith (NumberedShape part) known image =
     (known.split ≡ None) × (known.met ≡ []) × KnowsChain part known image
 
 -- The part is damaged: this block is the first of the walk that breaks a rule, and this is the
--- number of the least rule that it breaks. A chain may not lead to an area of which Taken is true.
-abbrev pub IsAnyShown : Geometry → Shape → (ℕ → Type 0) → Image → ℕ → ℕ → Type 0
-IsAnyShown geometry (KeyedShape part) Taken image block rule = IsRuleShown part image block rule
-IsAnyShown geometry (NumberedShape part) Taken image block rule =
-    IsChainShown part Taken image block rule
+-- number of the least rule that it breaks. Its chain may not lead to an area of which Taken is
+-- true.
+abbrev pub IsAnyShown : Shape → (ℕ → Type 0) → Image → ℕ → ℕ → Type 0
+IsAnyShown (KeyedShape part) Taken image block rule = IsLinkedShown part Taken image block rule
+IsAnyShown (NumberedShape part) Taken image block rule = IsChainShown part Taken image block rule
 
 -- where a part is refused as damaged, this is true of the block and the rule that are shown
 abbrev pub ShowsDamage : (ℕ → ℕ → Type 0) → PartNo2 → Type 0

@@ -6,7 +6,7 @@ ghost use Rattle.vr_types.specs.Geometry.{IsAllowed, area_count};
 ghost use Rattle.vr_space.specs.Part.{OwnsChain, Shape, Stands, owned_count};
 ghost use Rattle.vr_attach.specs.Attached.{HasPartCause};
 ghost use Rattle.vr_attach.specs.Laid.{HasArea, shape_by_kind};
-ghost use Rattle.vr_chained.specs.Walked.{IsTakenIn};
+ghost use Rattle.vr_attach.specs.Marked.{IsTakenIn};
 ghost use Rattle.vr_part.specs.Any.{known_any, shape_any};
 ghost use Rattle.vr_part.specs.Attached.{IsAnyShown, IsAttachedWith, ShowsDamage};
 
@@ -64,14 +64,14 @@ pub fn attach_part<B: Blocks>(
     ensures count { length space.new ≡ length space.old }
     ensures damaged { IsTrue B.tells → IfErr result (λ no. (shape : Shape)
         → shape_by_kind geometry.now part.0 area definition.now definition.now.kind ≡ Some shape
-        → ShowsDamage (IsAnyShown geometry.now shape
-        (IsTakenIn space.old) (B.seen blocks.old).cur) no) }
+        → ShowsDamage (IsAnyShown shape (IsTakenIn space.old)
+        (B.seen blocks.old).cur) no) }
     ensures keeps { Keeps B.tells (B.seen blocks.old) (B.seen blocks.new) }
     ensures cause { HasPartCause (B.faults blocks.old) (B.faults blocks.new) result }
 {
     if definition.kind == Kind::Keyed {
         let layout = layout_of(*geometry, part, area, definition);
-        let keyed = Keyed::attach_layout(alloc, blocks, layout)?;
+        let keyed = Keyed::attach(alloc, blocks, layout, space)?;
         return Ok(AnyPart::Keyed(keyed));
     }
     let layout = chain_layout_of(*geometry, part, area, definition);

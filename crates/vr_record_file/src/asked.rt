@@ -36,10 +36,10 @@ impl RecordFile {
     }
 
     /// A request of a deck, with what is in memory, the number of free areas and the bytes of the
-    /// log in use; and of a data set whose places are numbers, the address that an added record
-    /// gets and how many areas there are, None and 0 of others. What is in memory of the file agrees
-    /// with the state that the history gives (`file`), and so does all, where what is handed in does
-    /// (`going`); once the volume has stopped, with the state that has the locks that are in memory
+    /// log in use; and the address that an added record gets, where places are numbers, else None,
+    /// and how many areas the data set has. What is in memory of the file agrees with the state
+    /// that the history gives (`file`), and so does all, where what is handed in does (`going`);
+    /// once the volume has stopped, with the state that has the locks that are in memory
     /// (`always`), which no answer looks at then.
     pub fn case<'a>(
         &'a self,

@@ -10,7 +10,7 @@ use Rattle.std.specs.Set.{is_member}
 use Rattle.std.proofs.lemmas.Bool.{ne_eqb, true≢false}
 use Rattle.std.proofs.lemmas.Bool.Decides.{Decides-eqb, eqb_tells}
 use Rattle.std.proofs.lemmas.List.{map-append, take-append-drop, take_all}
-use Rattle.std.proofs.lemmas.List.Elements.{All-cons, All-nil, All-push, filter_map-append}
+use Rattle.std.proofs.lemmas.List.Elements.{All-nil, All-push, filter_map-append}
 use Rattle.std.proofs.lemmas.Map.Made.{is_member-Decides}
 use Rattle.std.proofs.lemmas.Option.{get_or_from_slice_get, slice_get-get_or, slice_get-map}
 use Rattle.std.proofs.lemmas.Option.{slice_get_within}
@@ -18,19 +18,15 @@ use Rattle.vr_types.specs.Geometry.{head_block}
 use Rattle.vr_types.specs.Space.{is_owner}
 use Rattle.vr_types.specs.declared.geometry.Geometry.{Geometry}
 use Rattle.vr_types.specs.declared.unit.PartNo.{PartNo}
-use Rattle.vr_catalog.specs.Definition.{catalog_definition}
 use Rattle.vr_catalog.specs.declared.entry.CatEntry.{CatEntry}
-use Rattle.vr_attach.specs.Laid.{HasArea, catalog_shape, keyed_part, shape_in, shape_of}
-use Rattle.vr_keyed.specs.Owned.{split_of}
-use Rattle.vr_mount.specs.Areas.{AreFirstOwners, BeginsWith, IsLaidIn}
+use Rattle.vr_attach.specs.Laid.{HasArea, catalog_shape, shape_in, shape_of}
+use Rattle.vr_mount.specs.Areas.{AreFirstOwners, BeginsWith, IsLaidIn, catalog_part}
 use Rattle.vr_mount.proofs.Blocks.{one_area}
 use Rattle.vr_part.specs.Any.{known_any, shape_any}
 use Rattle.vr_part.specs.declared.any.AnyPart.{AnyPart}
-use Rattle.vr_part.specs.declared.any.AnyPart.TheVariants.{Keyed}
-use Rattle.vr_space.specs.Areas.{KeyedChain}
 use Rattle.vr_space.specs.Known.{Known}
-use Rattle.vr_space.specs.Part.{KeyedShape, OwnsChain, Shape, owned_count, part_no}
-use Rattle.vr_recover.specs.Found.{AreAdded, HasFirst, IsFirstAlone, MayAdd}
+use Rattle.vr_space.specs.Part.{OwnsChain, Shape, owned_count, part_no}
+use Rattle.vr_recover.specs.Found.{AreAdded, AreAttached, HasFirst, MayAdd}
 use Rattle.vr_recover.specs.Opening.{AreOwnersBy, HasNoSplit, IsHeldBy, OwnsAreas, shapes_laid}
 use Rattle.vr_recover.specs.Undone.{HasPart}
 use Rattle.vr_recover.proofs.Attaching.{entries-more, none-laid}
@@ -176,45 +172,41 @@ module _ (geometry : Geometry) (entries : List CatEntry) (at : ℕ) (parts : Lis
     }
 
     pub first-own : get_or owners area None ≡ Some entry.part
-    first-own = added.laid entry.part area laid-in
+    first-own = added.attached.laid entry.part area laid-in
 
     pub first-alone : owned_count entry.part owners ≡ 1
-    first-alone = added.alone entry.part area laid-in (λ has.
+    first-alone = added.attached.alone entry.part area laid-in (λ has.
         let one = part-at parts has.0 has.1 has.2 in
         off-entry has.0 one.0 one.1 (same-part (part_no (shape_any one.0)) entry.part
         (ap (λ (s : Shape). (part_no s).0) one.2 ∙ sym has.3)))
 
 -- ---- one part more
 
--- The part of the entry is attached, in areas that were free or its own.
-pub record IsNewPart (geometry : Geometry) (entry : CatEntry) (it : AnyPart)
+-- The part of this number is attached, in areas that were free or its own.
+pub record IsNewPart (geometry : Geometry) (owner : PartNo) (it : AnyPart)
     (old new : List (Option PartNo)) : Type 0 where
   pub area : ℕ
-  pub shape : shape_of geometry entry ≡ Some (shape_any it)
+  pub number : part_no (shape_any it) ≡ owner
   pub begins : BeginsWith (head_block geometry area) (shape_any it)
   pub split : HasNoSplit it
   pub has : HasArea geometry (shape_any it) (known_any it) area
   pub owns : OwnsChain (shape_any it) (known_any it) new
   pub marked : (a : ℕ) → HasArea geometry (shape_any it) (known_any it) a
-      → get_or new a None ≡ Some entry.part
+      → get_or new a None ≡ Some owner
   pub others : (a : ℕ) → (HasArea geometry (shape_any it) (known_any it) a → ⊥)
       → get_or new a None ≡ get_or old a None
   pub free : (a : ℕ) → HasArea geometry (shape_any it) (known_any it) a
-      → (get_or old a None ≡ None) ⊎ (get_or old a None ≡ Some entry.part)
+      → (get_or old a None ≡ None) ⊎ (get_or old a None ≡ Some owner)
   pub count : length new ≡ length old
 
-module _ (geometry : Geometry) (entry : CatEntry) (it : AnyPart) (old new : List (Option PartNo))
-    (is : IsNewPart geometry entry it old new) where
-  number : part_no (shape_any it) ≡ entry.part
-  number = same-part (part_no (shape_any it)) entry.part
-      (shape-number geometry entry (shape_any it) is.shape)
-
+module _ (geometry : Geometry) (owner : PartNo) (it : AnyPart) (old new : List (Option PartNo))
+    (is : IsNewPart geometry owner it old new) where
   first-has : HasFirst geometry it
   first-has a begins = subst (HasArea geometry (shape_any it) (known_any it))
       (head-is geometry is.area a (sym is.begins ∙ begins)) is.has
 
   -- what is another part's stays so
-  others-stay : (part : PartNo) (a : ℕ) → part ≢ entry.part → get_or old a None ≡ Some part
+  others-stay : (part : PartNo) (a : ℕ) → part ≢ owner → get_or old a None ≡ Some part
       → get_or new a None ≡ Some part
   others-stay part a differs owned = is.others a (λ has. ⊎_elim
       (λ none. some-none (sym owned ∙ none))
@@ -222,21 +214,21 @@ module _ (geometry : Geometry) (entry : CatEntry) (it : AnyPart) (old new : List
 
   -- an area that is owned now was so, or is the part's own
   owned-by : (part : PartNo) (a : ℕ) → get_or new a None ≡ Some part
-      → ((part ≡ entry.part) × HasArea geometry (shape_any it) (known_any it) a)
+      → ((part ≡ owner) × HasArea geometry (shape_any it) (known_any it) a)
       ⊎ (get_or old a None ≡ Some part)
   owned-by part a now = ⊎_elim
       (λ has. inl (some-is (sym now ∙ is.marked a has), has))
       (λ none. inr (sym (is.others a none) ∙ now))
       (has-or-not geometry (shape_any it) (known_any it) a)
 
-  no-owner : (part : PartNo) (o : Option PartNo) → part ≢ entry.part → o ≡ Some entry.part
+  no-owner : (part : PartNo) (o : Option PartNo) → part ≢ owner → o ≡ Some owner
       → is_owner part o ≡ false
   no-owner part None differs same = absurd (some-none (sym same))
-  no-owner part (Some owner) differs same = ne_eqb owner.0 part.0
-      (λ equal. differs (same-part part owner (sym equal) ∙ some-is same))
+  no-owner part (Some other) differs same = ne_eqb other.0 part.0
+      (λ equal. differs (same-part part other (sym equal) ∙ some-is same))
 
   -- each other part owns as many
-  count-stays : (part : PartNo) → part ≢ entry.part → owned_count part new ≡ owned_count part old
+  count-stays : (part : PartNo) → part ≢ owner → owned_count part new ≡ owned_count part old
   count-stays part differs = count-same part old new is.count (λ a. ⊎_elim
       (λ has. no-owner part (get_or new a None) differs (is.marked a has)
       ∙ sym (⊎_elim (λ none. ap (is_owner part) none)
@@ -244,103 +236,112 @@ module _ (geometry : Geometry) (entry : CatEntry) (it : AnyPart) (old new : List
       (λ none. ap (is_owner part) (is.others a none))
       (has-or-not geometry (shape_any it) (known_any it) a))
 
-  owns-still : (shape : Shape) (known : Known) → part_no shape ≢ entry.part
+  owns-still : (shape : Shape) (known : Known) → part_no shape ≢ owner
       → OwnsChain shape known old → OwnsChain shape known new
   owns-still shape known differs owns = count-stays (part_no shape) differs ∙ owns
 
-  module _ (entries : List CatEntry) (at : ℕ) (parts : List AnyPart) (may : MayAdd geometry entries)
-      (added : AreAdded geometry entries at parts old) (there : slice_get entries at ≡ Some entry)
-    where
-      shapes-then : map shape_any (parts ++ it ∷ []) ≡ shapes_laid geometry (take (at + 1) entries)
-      shapes-then = map-push shape_any parts it
-          ∙ shapes-with geometry entries at parts old may added entry there (shape_any it) is.shape
+  -- It is laid, and none of those that are attached is of its number.
+  module _ (entries : List CatEntry) (parts : List AnyPart)
+      (before : AreAttached geometry entries parts old)
+      (laid-it : shape_in geometry entries owner.0 ≡ Some (shape_any it))
+      (off : (k : ℕ) (one : AnyPart) → slice_get parts k ≡ Some one
+      → part_no (shape_any one) ≢ owner) where
+    differs : (k : ℕ) (d : AnyPart) → k < length parts
+        → part_no (shape_any (get_or parts k d)) ≢ owner
+    differs k d below = off k (get_or parts k d) (slice_get-get_or parts k d below)
 
-      -- no part that was there is of its number
-      differs : (k : ℕ) (d : AnyPart) → k < length parts
-          → part_no (shape_any (get_or parts k d)) ≢ entry.part
-      differs k d below = off-entry geometry entries at parts old may added entry there (shape_any it)
-          is.shape k (get_or parts k d) (slice_get-get_or parts k d below)
+    laid-then : (part : PartNo) (a : ℕ) → IsLaidIn geometry entries part.0 a
+        → get_or new a None ≡ Some part
+    laid-then part a laid = elim (eqb_tells part.0 owner.0) [
+      | inl same ↦
+          let equal : part ≡ owner = same-part part owner same.1 in
+          let mine : laid.shape ≡ shape_any it =
+          some-is (sym laid.laid ∙ ap (shape_in geometry entries) same.1 ∙ laid-it) in
+          is.marked a (first-has a (subst (BeginsWith (head_block geometry a)) mine laid.begins))
+          ∙ ap Some (sym equal)
+      | inr differ ↦ others-stay part a (λ same. differ.1 (ap (λ (n : PartNo). n.0) same))
+          (before.laid part a laid)
+    ]
 
-      laid-it : shape_in geometry entries entry.part.0 ≡ Some (shape_any it)
-      laid-it = entry-laid geometry entries may.distinct at entry (shape_any it) there is.shape
+    held-more : (part : PartNo) (a : ℕ) → IsHeldBy geometry parts part a
+        → IsHeldBy geometry (parts ++ it ∷ []) part a
+    held-more part a held = record {
+      at = held.at;
+      one = held.one;
+      there = get-append parts (it ∷ []) held.at held.one held.there;
+      number = held.number;
+      has = held.has;
+    }
 
-      laid-then : (part : PartNo) (a : ℕ) → IsLaidIn geometry entries part.0 a
-          → get_or new a None ≡ Some part
-      laid-then part a laid = elim (eqb_tells part.0 entry.part.0) [
-        | inl same ↦
-            let equal : part ≡ entry.part = same-part part entry.part same.1 in
-            let mine : laid.shape ≡ shape_any it =
-            some-is (sym laid.laid ∙ ap (shape_in geometry entries) same.1 ∙ laid-it) in
-            is.marked a (first-has a (subst (BeginsWith (head_block geometry a)) mine laid.begins))
-            ∙ ap Some (sym equal)
-        | inr differ ↦ others-stay part a (λ same. differ.1 (ap (λ (n : PartNo). n.0) same))
-            (added.laid part a laid)
-      ]
+    only-then : (part : PartNo) (a : ℕ) → get_or new a None ≡ Some part
+        → IsLaidIn geometry entries part.0 a ⊎ IsHeldBy geometry (parts ++ it ∷ []) part a
+    only-then part a now = ⊎_elim
+        (λ mine. inr (record {
+          at = length parts;
+          one = it;
+          there = get-end parts it;
+          number = is.number ∙ sym mine.0;
+          has = mine.1;
+        }))
+        (λ was. ⊎_elim (λ laid. inl laid) (λ held. inr (held-more part a held))
+        (before.only part a was))
+        (owned-by part a now)
 
-      held-more : (part : PartNo) (a : ℕ) → IsHeldBy geometry parts part a
-          → IsHeldBy geometry (parts ++ it ∷ []) part a
-      held-more part a held = record {
-        at = held.at;
-        one = held.one;
-        there = get-append parts (it ∷ []) held.at held.one held.there;
-        number = held.number;
-        has = held.has;
-      }
+    has-more : (n : ℕ) → HasPart (map shape_any parts) n
+        → HasPart (map shape_any (parts ++ it ∷ [])) n
+    has-more n has = (
+      has.0,
+      has.1,
+      subst (λ (s : List Shape). slice_get s has.0 ≡ Some has.1) (sym (map-push shape_any parts it))
+          (get-append (map shape_any parts) (shape_any it ∷ []) has.0 has.1 has.2),
+      has.3,
+    )
 
-      only-then : (part : PartNo) (a : ℕ) → get_or new a None ≡ Some part
-          → IsLaidIn geometry entries part.0 a ⊎ IsHeldBy geometry (parts ++ it ∷ []) part a
-      only-then part a now = ⊎_elim
-          (λ mine. inr (record {
-            at = length parts;
-            one = it;
-            there = get-end parts it;
-            number = number ∙ sym mine.0;
-            has = mine.1;
-          }))
-          (λ before. ⊎_elim (λ laid. inl laid) (λ held. inr (held-more part a held))
-          (added.only part a before))
-          (owned-by part a now)
+    has-it : HasPart (map shape_any (parts ++ it ∷ [])) owner.0
+    has-it = (
+      length parts,
+      shape_any it,
+      slice_get-map shape_any (parts ++ it ∷ []) (length parts)
+          ∙ ap (option_map shape_any) (get-end parts it),
+      ap (λ (n : PartNo). n.0) (sym is.number),
+    )
 
-      has-more : (n : ℕ) → HasPart (map shape_any parts) n
-          → HasPart (map shape_any (parts ++ it ∷ [])) n
-      has-more n has = (
-        has.0,
-        has.1,
-        subst (λ (s : List Shape). slice_get s has.0 ≡ Some has.1) (sym (map-push shape_any parts it))
-            (get-append (map shape_any parts) (shape_any it ∷ []) has.0 has.1 has.2),
-        has.3,
-      )
+    pub attached-more : AreAttached geometry entries (parts ++ it ∷ []) new
+    attached-more = record {
+      split = All-push HasNoSplit parts it before.split is.split;
+      count = is.count ∙ before.count;
+      firsts = All-push (HasFirst geometry) parts it before.firsts first-has;
+      owned = All-push (OwnsAreas geometry new) parts it
+          (λ k d below a has. others-stay (part_no (shape_any (get_or parts k d))) a
+          (differs k d below) (before.owned k d below a has))
+          (λ a has. is.marked a has ∙ ap Some (sym is.number));
+      laid = laid-then;
+      only = only-then;
+      owns = All-push (λ (part : AnyPart). OwnsChain (shape_any part) (known_any part) new) parts it
+          (λ k d below. owns-still (shape_any (get_or parts k d)) (known_any (get_or parts k d))
+          (differs k d below) (before.owns k d below)) is.owns;
+      alone = λ part a laid none.
+          let apart : part ≢ owner = λ same.
+          none (subst (λ (p : PartNo). HasPart (map shape_any (parts ++ it ∷ [])) p.0) (sym same)
+          has-it) in
+          count-stays part apart ∙ before.alone part a laid (λ has. none (has-more part.0 has));
+    }
 
-      has-it : HasPart (map shape_any (parts ++ it ∷ [])) entry.part.0
-      has-it = (
-        length parts,
-        shape_any it,
-        slice_get-map shape_any (parts ++ it ∷ []) (length parts)
-            ∙ ap (option_map shape_any) (get-end parts it),
-        sym (shape-number geometry entry (shape_any it) is.shape),
-      )
-
-      pub added-more : AreAdded geometry entries (at + 1) (parts ++ it ∷ []) new
-      added-more = record {
-        shapes = shapes-then;
-        split = All-push HasNoSplit parts it added.split is.split;
-        count = is.count ∙ added.count;
-        firsts = All-push (HasFirst geometry) parts it added.firsts first-has;
-        owned = All-push (OwnsAreas geometry new) parts it
-            (λ k d below a has. others-stay (part_no (shape_any (get_or parts k d))) a
-            (differs k d below) (added.owned k d below a has))
-            (λ a has. is.marked a has ∙ ap Some (sym number));
-        laid = laid-then;
-        only = only-then;
-        owns = All-push (λ (part : AnyPart). OwnsChain (shape_any part) (known_any part) new) parts it
-            (λ k d below. owns-still (shape_any (get_or parts k d)) (known_any (get_or parts k d))
-            (differs k d below) (added.owns k d below)) is.owns;
-        alone = λ part a laid none.
-            let off : part ≢ entry.part = λ same.
-            none (subst (λ (p : PartNo). HasPart (map shape_any (parts ++ it ∷ [])) p.0) (sym same)
-            has-it) in
-            count-stays part off ∙ added.alone part a laid (λ has. none (has-more part.0 has));
-      }
+-- So the part of an entry is, after those of the entries before it.
+pub added-more : (geometry : Geometry) (entries : List CatEntry) (at : ℕ) (parts : List AnyPart)
+    (old new : List (Option PartNo)) (may : MayAdd geometry entries)
+    (added : AreAdded geometry entries at parts old) (entry : CatEntry)
+    (there : slice_get entries at ≡ Some entry) (it : AnyPart)
+    (laid : shape_of geometry entry ≡ Some (shape_any it))
+    → IsNewPart geometry entry.part it old new
+    → AreAdded geometry entries (at + 1) (parts ++ it ∷ []) new
+added-more geometry entries at parts old new may added entry there it laid is = record {
+  shapes = map-push shape_any parts it
+      ∙ shapes-with geometry entries at parts old may added entry there (shape_any it) laid;
+  attached = attached-more geometry entry.part it old new is entries parts added.attached
+      (entry-laid geometry entries may.distinct at entry (shape_any it) there laid)
+      (off-entry geometry entries at parts old may added entry there (shape_any it) laid);
+}
 
 -- an entry that lays no part adds none
 pub added-none : (geometry : Geometry) (entries : List CatEntry) (at : ℕ) (parts : List AnyPart)
@@ -354,73 +355,38 @@ added-none geometry entries at parts owners entry there none added = record {
       (get_or_from_slice_get entries at entry entry there) added.shapes
       (none-laid (map shape_any parts) (shape_of geometry entry)
       none);
-  split = added.split;
-  count = added.count;
-  firsts = added.firsts;
-  owned = added.owned;
-  laid = added.laid;
-  only = added.only;
-  owns = added.owns;
-  alone = added.alone;
+  attached = added.attached;
 }
 
 -- ---- before the first entry, and after the last one
 
--- The catalog's own part has the area that it begins with,
-own-first : (geometry : Geometry) (part : KeyedChain)
-    → part ≡ keyed_part geometry 0 0 catalog_definition → (a : ℕ)
-    → BeginsWith (head_block geometry a) (KeyedShape part) → Contains (part.first ∷ []) a
-own-first geometry part is = subst (λ (p : KeyedChain). (a : ℕ)
-    → BeginsWith (head_block geometry a) (KeyedShape p) → Contains (p.first ∷ []) a) (sym is)
-    (λ a begins. (0, omega arith, head-is geometry 0 a begins))
+module _ (geometry : Geometry) (entries : List CatEntry) (owners : List (Option PartNo))
+    (own : AreFirstOwners geometry entries owners) where
+  -- before any part is attached, the first area of each is marked
+  pub attached-none : AreAttached geometry entries [] owners
+  attached-none = record {
+    split = All-nil HasNoSplit;
+    count = own.count;
+    firsts = All-nil (HasFirst geometry);
+    owned = All-nil (OwnsAreas geometry owners);
+    laid = own.owned;
+    only = λ part a now. inl (own.only part a now);
+    owns = All-nil (λ (part : AnyPart). OwnsChain (shape_any part) (known_any part) owners);
+    alone = λ part a laid none. own.alone part a laid;
+  }
 
--- and no other.
-own-begins : (geometry : Geometry) (part : KeyedChain)
-    → part ≡ keyed_part geometry 0 0 catalog_definition → (a : ℕ) → Contains (part.first ∷ []) a
-    → BeginsWith (head_block geometry a) (catalog_shape geometry)
-own-begins geometry part is a has =
-    ap (head_block geometry) (ap (λ (p : KeyedChain). p.first) (sym is) ∙ one-held part.first a has)
-  where
-    one-held : (first a : ℕ) → Contains (first ∷ []) a → first ≡ a
-    one-held first a (zero, below, found) = found
-    one-held first a (suc i, below, found) = absurd (omega (arith, below))
+  -- the catalog's own is the first
+  pub added-own : (it : AnyPart) (new : List (Option PartNo))
+      → shape_any it ≡ catalog_shape geometry → IsNewPart geometry catalog_part it owners new
+      → AreAdded geometry entries 0 (it ∷ []) new
+  added-own it new shape is = record {
+    shapes = ap (λ (s : Shape). s ∷ []) shape;
+    attached = attached-more geometry catalog_part it owners new is entries [] attached-none
+        (ap Some (sym shape)) (λ k one there same. some-none (sym there));
+  }
 
 module _ (geometry : Geometry) (entries : List CatEntry) (parts : List AnyPart)
     (owners : List (Option PartNo)) where
-  pub added-first : IsFirstAlone geometry parts → AreFirstOwners geometry entries owners
-      → AreAdded geometry entries 0 parts owners
-  added-first first own = subst (λ (ps : List AnyPart). AreAdded geometry entries 0 ps owners)
-      (sym first.is) (record {
-        shapes = ap (λ (p : KeyedChain). KeyedShape p ∷ []) first.attached.part_is;
-        split = All-cons HasNoSplit (Keyed first.own) []
-            (ap (split_of first.own.part) first.attached.split) (All-nil HasNoSplit);
-        count = own.count;
-        firsts = All-cons (HasFirst geometry) (Keyed first.own) []
-            (own-first geometry first.own.part first.attached.part_is)
-            (All-nil (HasFirst geometry));
-        owned = All-cons (OwnsAreas geometry owners) (Keyed first.own) []
-            (λ a has. own.owned (record { 0 = 0 }) a (record {
-              shape = catalog_shape geometry;
-              laid = refl;
-              begins = own-begins geometry first.own.part first.attached.part_is a has;
-            })
-            ∙ ap (λ (p : KeyedChain). Some (part_no (KeyedShape p))) (sym first.attached.part_is))
-            (All-nil (OwnsAreas geometry owners));
-        laid = own.owned;
-        only = λ part a now. inl (own.only part a now);
-        owns = All-cons (λ (part : AnyPart). OwnsChain (shape_any part) (known_any part) owners)
-            (Keyed first.own) []
-            (ap (λ (p : KeyedChain). owned_count (part_no (KeyedShape p)) owners)
-            first.attached.part_is
-            ∙ own.alone (record { 0 = 0 }) 0 (record {
-              shape = catalog_shape geometry;
-              laid = refl;
-              begins = refl;
-            }))
-            (All-nil (λ (part : AnyPart). OwnsChain (shape_any part) (known_any part) owners));
-        alone = λ part a laid none. own.alone part a laid;
-      })
-
   module _ (may : MayAdd geometry entries)
       (added : AreAdded geometry entries (length entries) parts owners) where
     pub added-shapes : map shape_any parts ≡ shapes_laid geometry entries
@@ -441,15 +407,15 @@ module _ (geometry : Geometry) (entries : List CatEntry) (parts : List AnyPart)
               (ap (λ (s : Shape). (part_no s).0) one.2
               ∙ laid-number geometry entries may.distinct part.0 laid.shape laid.laid);
           has = subst (HasFirst geometry) (get_or_from_slice_get parts at.0 one.0 one.0 one.1)
-              (added.firsts at.0 one.0 (slice_get_within parts at.0 one.0 one.1)) a
+              (added.attached.firsts at.0 one.0 (slice_get_within parts at.0 one.0 one.1)) a
               (subst (BeginsWith (head_block geometry a)) (sym one.2) laid.begins);
         }
 
     pub added-all : AreOwnersBy geometry parts owners
     added-all = record {
-      count = added.count;
-      owned = added.owned;
+      count = added.attached.count;
+      owned = added.attached.owned;
       only = λ part a now. ⊎_elim (λ laid. held-laid part a laid) (λ held. held)
-          (added.only part a now);
-      owns = added.owns;
+          (added.attached.only part a now);
+      owns = added.attached.owns;
     }

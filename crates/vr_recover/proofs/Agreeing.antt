@@ -14,7 +14,7 @@ use Rattle.vr_catalog.specs.Catalog.{entries_in}
 use Rattle.vr_catalog.specs.Definition.{catalog_definition}
 use Rattle.vr_catalog.specs.declared.entry.CatEntry.{CatEntry}
 use Rattle.vr_attach.specs.CatalogRules.{IsCatalog}
-use Rattle.vr_attach.specs.Damage.{IsDamagedIn}
+use Rattle.vr_attach.specs.Linked.{IsLinkedDamagedAt}
 use Rattle.vr_attach.specs.Header.{header_block}
 use Rattle.vr_attach.specs.Laid.{AreApart, catalog_shape, keyed_part, shape_by, shape_in}
 use Rattle.vr_attach.proofs.CallerLemmas.{damaged-alone, owned-apart}
@@ -197,9 +197,13 @@ module _ (geometry : Geometry) (number : ℕ) (image : Image) (recovered : ℕ �
       → IsMountShown geometry images now block rule → ⊥
   mount-none block rule now same (AtCatalog shown) =
       let part = keyed_part geometry 0 0 catalog_definition in
-      damaged-alone part image block shown.rule
-      (subst (λ (i : Image). IsDamagedIn part i block shown.rule) same shown.damaged)
-      (is.contents 0, catalog-stands)
+      damaged-alone part image (λ area. ⊥) block shown.rule
+      (subst (λ (i : Image). IsLinkedDamagedAt part (λ area. ⊥) i block shown.rule) same
+      shown.damaged)
+      (record {
+        content = (is.contents 0, catalog-stands);
+        alone = λ area reached other taken. taken;
+      })
   mount-none block rule now same (AtImages stands shown) = shown.damaged own-fits
   mount-none block rule now same (Misspelled shown) =
       shown.damaged (is.contents 0)
@@ -207,7 +211,8 @@ module _ (geometry : Geometry) (number : ℕ) (image : Image) (recovered : ℕ �
       catalog-stands) catalog-rules
   mount-none block rule now same (AtAreas shown) =
       area-none shown.entries
-      (subst (λ (i : Image). AreEntriesOf geometry images i shown.entries) same shown.are.entries_are)
+      (subst (λ (i : Image). AreEntriesOf geometry images i shown.entries) same
+      shown.are.entries_are)
       block rule shown.shown
   mount-none block rule now same (AtPart shown) =
       let entries = shown.entries in
@@ -217,5 +222,5 @@ module _ (geometry : Geometry) (number : ℕ) (image : Image) (recovered : ℕ �
       any-none geometry entries is.stands.owners image some-area
       (λ part shape here. is.stands.within part shape (is-laid entries are part shape here))
       one.part one.shape one.laid (part-stands entries are one.part one.shape one.laid) block rule
-      (subst (λ (i : Image). IsAnyShown geometry one.shape
+      (subst (λ (i : Image). IsAnyShown one.shape
       (IsTaken geometry entries i one.part) i block rule) same one.shown)

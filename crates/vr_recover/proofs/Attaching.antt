@@ -1,5 +1,6 @@
 -- The parts of a volume, attached one after another.
-use Rattle.std.proofs.Common.{◌≡◌, ℕ, ◌+◌, ◌<◌, ◌≤◌, List, [], ◌∷◌, ◌++◌, Option, Some, None, length}
+use Rattle.std.proofs.Common.{◌≡◌, ℕ, ◌+◌, ◌<◌, ◌≤◌, List, [], ◌∷◌, ◌++◌, Option, Some, None}
+use Rattle.std.proofs.Common.{length}
 use Rattle.std.proofs.Common.{refl, sym, ap, subst, ◌∙◌, map, take, append_assoc}
 use Rattle.std.specs.Prelude.{Bool, nat_eq, IfSome, IsTrue, Result, true, false, ◌↔◌}
 use Rattle.std.proofs.lemmas.Bool.{true≢false}
@@ -26,9 +27,7 @@ use Rattle.vr_mount.specs.Areas.{BeginsWith, IsBelow}
 use Rattle.vr_part.specs.Any.{known_any, shape_any}
 use Rattle.vr_part.specs.Attached.{IsAnyShown, IsAttachedWith, ShowsDamage}
 use Rattle.vr_part.specs.declared.any.AnyPart.{AnyPart}
-use Rattle.vr_space.specs.Areas.{KeyedChain}
-use Rattle.vr_space.specs.Part.{KeyedShape, NumberedShape, Shape, Stands, StandsFor}
-use Rattle.vr_space.specs.Rosters.{Numbered}
+use Rattle.vr_space.specs.Part.{NumberedShape, Shape, Stands, StandsFor}
 use Rattle.vr_recover.specs.Found.{AllStand, AreEntries, AreEntriesOf, AreKnown, AtAreas, AtPart}
 use Rattle.vr_recover.specs.Found.{HasLength, IsAreaNo, IsEntryNo, IsMountShown, LaysIn}
 use Rattle.vr_recover.specs.Found.{ShowsBoth, ShowsOnly}
@@ -36,7 +35,8 @@ use Rattle.vr_recover.specs.OpenNo.{HasOpenCause, part_answer}
 use Rattle.vr_recover.specs.Opening.{IsCatalogShown, IsEntryShown, IsTaken}
 use Rattle.vr_recover.specs.declared.open_no.OpenNo.{OpenNo}
 use Rattle.vr_recover.specs.declared.open_no.OpenNo.TheVariants as nos
-use Rattle.vr_recover.specs.declared.open_no.OpenNo.TheVariants.{Damaged, Version, Read, Write, Memory}
+use Rattle.vr_recover.specs.declared.open_no.OpenNo.TheVariants.{Damaged, Version, Read, Write}
+use Rattle.vr_recover.specs.declared.open_no.OpenNo.TheVariants.{Memory}
 use Rattle.vr_recover.specs.declared.open_no.Unserved.{Unserved}
 use Rattle.vr_recover.specs.Unserved.{IsCatalogUnserved, IsEntryCause, IsPlain}
 
@@ -115,7 +115,6 @@ pub record IsLaidShape (geometry : Geometry) (entry : CatEntry) (area : ℕ) : T
   pub shape : Shape
   pub laid : shape_of geometry entry ≡ Some shape
   pub begins : BeginsWith (head_block geometry area) shape
-  pub same : (part : Numbered) → shape ≡ NumberedShape part → part.geometry ≡ geometry
 
 module _ (geometry : Geometry) (entry : CatEntry) (area : ℕ) (definition : Definition)
     (lays : LaysIn entry area definition) where
@@ -127,12 +126,6 @@ module _ (geometry : Geometry) (entry : CatEntry) (area : ℕ) (definition : Def
   pub entry-shape : IsLaidShape geometry entry area
   entry-shape = by definition.kind (lays.shape geometry)
     where
-      no-keyed : (x : KeyedChain) (y : Numbered) → KeyedShape x ≡ NumberedShape y → ⊥
-      no-keyed x y equal = cc
-
-      numbered-is : (x y : Numbered) → NumberedShape x ≡ NumberedShape y → x ≡ y
-      numbered-is x y equal = cc
-
       by-numbered : shape_of geometry entry
           ≡ Some (NumberedShape (numbered_part geometry entry.part.0 area definition))
           → IsLaidShape geometry entry area
@@ -140,7 +133,6 @@ module _ (geometry : Geometry) (entry : CatEntry) (area : ℕ) (definition : Def
         shape = NumberedShape (numbered_part geometry entry.part.0 area definition);
         laid = is;
         begins = refl;
-        same = λ part equal. ap (λ (n : Numbered). n.geometry) (sym (numbered-is _ part equal));
       }
 
       by : (kind : Kind)
@@ -150,7 +142,6 @@ module _ (geometry : Geometry) (entry : CatEntry) (area : ℕ) (definition : Def
         shape = keyed_shape geometry entry.part.0 area definition;
         laid = is;
         begins = refl;
-        same = λ part equal. absurd (no-keyed _ part equal);
       }
       by kinds.Entry is = by-numbered is
       by kinds.Relative is = by-numbered is
@@ -194,7 +185,7 @@ entry-then geometry entries now old block rule same shown = record {
   shape = shown.shape;
   laid = shown.laid;
   before = λ other one less laid. subst (Stands one) same (shown.before other one less laid);
-  shown = subst (λ (image : Image). IsAnyShown geometry shown.shape
+  shown = subst (λ (image : Image). IsAnyShown shown.shape
       (IsTaken geometry entries image shown.part) image block rule) same shown.shown;
 }
 

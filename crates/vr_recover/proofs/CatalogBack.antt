@@ -1,6 +1,7 @@
--- The catalog's records as a list, with before-images put back in it: what it has is what the content
--- has that the blocks stand for.
-use Rattle.std.proofs.Common.{◌≡◌, ◌∙◌, ℕ, zero, suc, ◌+◌, arith, Bool, true, false, cond, List, [], ◌∷◌, ◌++◌, map}
+-- The catalog's records as a list, with before-images put back in it: what it has is what the
+-- content has that the blocks stand for.
+use Rattle.std.proofs.Common.{◌≡◌, ◌∙◌, ℕ, zero, suc, ◌+◌, arith, Bool, true, false, cond, List, []}
+use Rattle.std.proofs.Common.{◌∷◌, ◌++◌, map}
 use Rattle.std.proofs.Common.{Option, Some, None, refl, sym, ap, subst, set, insert, bytes_eq}
 use Rattle.std.proofs.Common.{get_or}
 use Rattle.std.specs.Prelude.{All, IfSome, filter, not}
@@ -9,8 +10,10 @@ use Rattle.std.specs.Option.{option_and_then}
 use Rattle.std.specs.Ordering.{is_gt}
 use Rattle.std.specs.declared.cmp.Ordering.{Ordering}
 use Rattle.std.specs.declared.cmp.Ordering.TheVariants.{Less, Equal, Greater}
-use Rattle.vr_types.specs.Content.{Content, Placed, Standing, Withdrawn, place_cmp, put_by, record_of}
+use Rattle.vr_types.specs.Content.{Content, Placed, Standing, Withdrawn, place_cmp, put_by}
+use Rattle.vr_types.specs.Content.{record_of}
 use Rattle.vr_types.specs.Content.{with_item, without_item}
+use Rattle.vr_types.specs.Geometry.{area_count}
 use Rattle.vr_types.specs.Image.{Image, block_at}
 use Rattle.vr_types.specs.declared.geometry.Geometry.{Geometry}
 use Rattle.vr_catalog.specs.Definition.{catalog_definition}
@@ -21,7 +24,7 @@ use Rattle.vr_log.specs.declared.record.LogRecord.{LogRecord}
 use Rattle.vr_mount.specs.Records.{bytes_of}
 use Rattle.vr_seqset.specs.Entry.{Entry}
 use Rattle.vr_seqset.specs.Reading.{record_in}
-use Rattle.vr_space.specs.Areas.{KeyedChain, area_of, content_after, content_in, head_in, most_areas}
+use Rattle.vr_space.specs.Areas.{KeyedChain, area_of, content_after, content_in, head_in}
 use Rattle.vr_space.specs.Keyed.{Keyed, content_from, entries_of, entry_block, items_of, key_of}
 use Rattle.vr_space.specs.Keyed.{low_of, placed, range_of, records_of}
 use Rattle.vr_space.specs.Part.{StandsFor}
@@ -79,7 +82,8 @@ own-filter range ((place, Withdrawn length) ∷ content) own =
     by false further = further
 
 -- so has each of an area, whose key is the name
-module _ (part : Keyed) (image : Image) (names : (bytes : List ℕ) → name_in bytes ≡ key_of part bytes)
+module _ (part : Keyed) (image : Image)
+    (names : (bytes : List ℕ) → name_in bytes ≡ key_of part bytes)
   where
     own-placed : (items : List ci.Item) → AreOwn (map (placed part) items)
     own-placed [] = tt
@@ -116,7 +120,7 @@ module _ (geometry : Geometry) (image : Image) where
   pub catalog-named : (content : Content) → StandsFor (catalog_shape geometry) image content
       → standing content ≡ named (bytes_of content)
   catalog-named content stands = own-named content (subst AreOwn (sym stands.records)
-      (own-after most_areas catalog.first))
+      (own-after (area_count geometry) catalog.first))
 
 -- ---- one record put back
 

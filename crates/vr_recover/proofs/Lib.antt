@@ -11,6 +11,8 @@ pub mod Keeping
 pub mod Shapes
 pub mod NumberOrder
 pub mod Adding
+pub mod Linked
+pub mod OwnArea
 pub mod Taking
 pub mod Numbering
 pub mod Owning

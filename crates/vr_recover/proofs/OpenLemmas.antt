@@ -17,14 +17,12 @@ use Rattle.vr_types.specs.declared.geometry.Geometry.{Geometry}
 use Rattle.vr_types.specs.declared.unit.PartNo.{PartNo}
 use Rattle.vr_types.proofs.CallerLemmas.{guards-keeps, guards-start, guards-then, guards-weaken}
 use Rattle.vr_catalog.specs.Catalog.{entries_in}
-use Rattle.vr_catalog.specs.Definition.{catalog_definition}
 use Rattle.vr_catalog.specs.declared.entry.CatEntry.{CatEntry}
 use Rattle.vr_attach.specs.CatalogRules.{IsCatalog}
 use Rattle.vr_attach.specs.Header.{header_block}
-use Rattle.vr_attach.specs.Laid.{AreApart, HasArea, catalog_shape, keyed_part, shape_in}
+use Rattle.vr_attach.specs.Laid.{AreApart, HasArea, catalog_shape, shape_in}
 use Rattle.vr_attach.specs.Owning.{owner_of}
 use Rattle.vr_history.specs.State.{BeforeImage}
-use Rattle.vr_keyed.specs.Attached.{IsRuleShown}
 use Rattle.vr_log.specs.Content.{Content as LogContent}
 use Rattle.vr_log.specs.LogNow.{IsForced, IsOf, LogNow}
 use Rattle.vr_log.specs.Spells.{Spells}
@@ -45,14 +43,17 @@ use Rattle.vr_volume.specs.Volume.{Recovers}
 use Rattle.vr_volume.proofs.CallerLemmas.{catalog-whole, keep-less, recovers-same}
 use Rattle.vr_recover.specs.Found.{IsFound, IsPartReady, IsPlanned, areas_kept}
 use Rattle.vr_recover.specs.Opening.{AreOwnersBy, HasNoSplit, InArea, InCatalog, InImages, InLog}
-use Rattle.vr_recover.specs.Opening.{AreLaid, AreShapesOf, InPart, IsDamaged, IsHandedOut, OwnsAreas}
-use Rattle.vr_recover.specs.Opening.{shapes_laid}
-use Rattle.vr_recover.specs.Opening.{IsNoVolume, IsOpened, IsPartShown, IsRefused, OfCatalog, OfEntry}
+use Rattle.vr_recover.specs.Opening.{AreLaid, AreShapesOf, InPart, IsDamaged, IsHandedOut}
+use Rattle.vr_recover.specs.Opening.{OwnsAreas}
+use Rattle.vr_recover.specs.Opening.{IsCatalogPartShown, shapes_laid}
+use Rattle.vr_recover.specs.Opening.{IsNoVolume, IsOpened, IsPartShown, IsRefused, OfCatalog}
+use Rattle.vr_recover.specs.Opening.{OfEntry}
 use Rattle.vr_recover.specs.Opening.{IsShownOf, IsShownPast, IsVolume, PastLog, Twice}
 use Rattle.vr_recover.specs.Undone.{IsLaidPastLog, IsReady, IsUndone}
 use Rattle.vr_recover.specs.declared.open_no.OpenNo.{OpenNo}
 use Rattle.vr_recover.specs.declared.open_no.OpenNo.TheVariants as nos
-use Rattle.vr_recover.specs.declared.open_no.OpenNo.TheVariants.{Damaged, Version, Read, Write, Memory}
+use Rattle.vr_recover.specs.declared.open_no.OpenNo.TheVariants.{Damaged, Version, Read, Write}
+use Rattle.vr_recover.specs.declared.open_no.OpenNo.TheVariants.{Memory}
 use Rattle.vr_recover.specs.declared.open_no.Unserved.{Unserved}
 use Rattle.vr_recover.specs.Images.{CannotGoBack, catalog_by}
 use Rattle.vr_recover.specs.Unserved.{ByCatalog, ByLog, IsUnservedOf}
@@ -69,188 +70,189 @@ use Rattle.vr_recover.proofs.Wholes.{recovers-whole, whole, whole-records}
 -- ---- calls that put nothing
 
 -- what is said of the blocks is said of them before such a call
-module _ (a b : Seen) (count : b.count ≡ a.count) (size : b.size ≡ a.size) (cur : b.cur ≡ a.cur) where
-  volume-then : (number : ℕ) (geometry : Geometry) (contents : ℕ → Content)
-      → IsVolume number geometry contents a → IsVolume number geometry contents b
-  volume-then number geometry contents is = record {
-    allowed = is.allowed;
-    shape = record { count = count ∙ is.shape.count; size = size ∙ is.shape.size };
-    recovers = subst (λ (i : Image). Recovers geometry number i contents) (sym cur) is.recovers;
-  }
+module _ (a b : Seen) (count : b.count ≡ a.count) (size : b.size ≡ a.size) (cur : b.cur ≡ a.cur)
+  where
+    volume-then : (number : ℕ) (geometry : Geometry) (contents : ℕ → Content)
+        → IsVolume number geometry contents a → IsVolume number geometry contents b
+    volume-then number geometry contents is = record {
+      allowed = is.allowed;
+      shape = record { count = count ∙ is.shape.count; size = size ∙ is.shape.size };
+      recovers = subst (λ (i : Image). Recovers geometry number i contents) (sym cur) is.recovers;
+    }
 
-  volume-before : (number : ℕ) (geometry : Geometry) (contents : ℕ → Content)
-      → IsVolume number geometry contents b → IsVolume number geometry contents a
-  volume-before number geometry contents is = record {
-    allowed = is.allowed;
-    shape = record { count = sym count ∙ is.shape.count; size = sym size ∙ is.shape.size };
-    recovers = subst (λ (i : Image). Recovers geometry number i contents) cur is.recovers;
-  }
+    volume-before : (number : ℕ) (geometry : Geometry) (contents : ℕ → Content)
+        → IsVolume number geometry contents b → IsVolume number geometry contents a
+    volume-before number geometry contents is = record {
+      allowed = is.allowed;
+      shape = record { count = sym count ∙ is.shape.count; size = sym size ∙ is.shape.size };
+      recovers = subst (λ (i : Image). Recovers geometry number i contents) cur is.recovers;
+    }
 
-  none-before : (number : ℕ) → IsNoVolume number b → IsNoVolume number a
-  none-before number none geometry contents is =
-      none geometry contents (volume-then number geometry contents is)
+    none-before : (number : ℕ) → IsNoVolume number b → IsNoVolume number a
+    none-before number none geometry contents is =
+        none geometry contents (volume-then number geometry contents is)
 
-  pub none-then : (number : ℕ) → IsNoVolume number a → IsNoVolume number b
-  none-then number none geometry contents is =
-      none geometry contents (volume-before number geometry contents is)
+    pub none-then : (number : ℕ) → IsNoVolume number a → IsNoVolume number b
+    none-then number none geometry contents is =
+        none geometry contents (volume-before number geometry contents is)
 
-  stands-then : (geometry : Geometry) (one : Content)
-      → StandsFor (catalog_shape geometry) a.cur one
-      → StandsFor (catalog_shape geometry) b.cur one
-  stands-then geometry one =
-      subst (λ (i : Image). StandsFor (catalog_shape geometry) i one) (sym cur)
+    stands-then : (geometry : Geometry) (one : Content)
+        → StandsFor (catalog_shape geometry) a.cur one
+        → StandsFor (catalog_shape geometry) b.cur one
+    stands-then geometry one =
+        subst (λ (i : Image). StandsFor (catalog_shape geometry) i one) (sym cur)
 
-  stands-before : (geometry : Geometry) (one : Content)
-      → StandsFor (catalog_shape geometry) b.cur one
-      → StandsFor (catalog_shape geometry) a.cur one
-  stands-before geometry one =
-      subst (λ (i : Image). StandsFor (catalog_shape geometry) i one) cur
+    stands-before : (geometry : Geometry) (one : Content)
+        → StandsFor (catalog_shape geometry) b.cur one
+        → StandsFor (catalog_shape geometry) a.cur one
+    stands-before geometry one =
+        subst (λ (i : Image). StandsFor (catalog_shape geometry) i one) cur
 
-  part-before : (geometry : Geometry) (images : List BeforeImage) (block rule : ℕ)
-      → IsPartShown geometry images b block rule → IsPartShown geometry images a block rule
-  part-before geometry images block rule (OfCatalog shown) = OfCatalog (subst (λ (i : Image).
-      IsRuleShown (keyed_part geometry 0 0 catalog_definition) i block rule) cur shown)
-  part-before geometry images block rule (OfEntry content stands shown) = OfEntry content
-      (stands-before geometry content stands)
-      (entry-then geometry (entries_in (catalog_by images content)) b a block rule cur shown)
+    part-before : (geometry : Geometry) (images : List BeforeImage) (block rule : ℕ)
+        → IsPartShown geometry images b block rule → IsPartShown geometry images a block rule
+    part-before geometry images block rule (OfCatalog shown) = OfCatalog (subst (λ (i : Image).
+        IsCatalogPartShown geometry i block rule) cur shown)
+    part-before geometry images block rule (OfEntry content stands shown) = OfEntry content
+        (stands-before geometry content stands)
+        (entry-then geometry (entries_in (catalog_by images content)) b a block rule cur shown)
 
-  past-before : (geometry : Geometry) (images : List BeforeImage) (block rule : ℕ)
-      → IsShownPast geometry images b block rule → IsShownPast geometry images a block rule
-  past-before geometry images block rule (InPart shown) =
-      InPart (part-before geometry images block rule shown)
-  past-before geometry images block rule (InCatalog shown) = InCatalog (record {
-    block_is = shown.block_is;
-    rule_is = shown.rule_is;
-    damaged = λ one stands. shown.damaged one (stands-then geometry one stands);
-  })
-  past-before geometry images block rule (InArea shown) = InArea (record {
-    block_is = shown.block_is;
-    rule_is = shown.rule_is;
-    damaged = λ one stands. shown.damaged one (stands-then geometry one stands);
-  })
-  past-before geometry images block rule (Twice shown) = Twice (record {
-    block_is = shown.block_is;
-    rule_is = shown.rule_is;
-    damaged = λ one stands. shown.damaged one (stands-then geometry one stands);
-  })
-  past-before geometry images block rule (InImages shown) = InImages (record {
-    block_is = shown.block_is;
-    rule_is = shown.rule_is;
-    catalog = shown.catalog;
-    stands = stands-before geometry shown.catalog shown.stands;
-    damaged = subst (λ (i : Image). CannotGoBack images
-        (shapes_laid geometry (entries_in (catalog_by images shown.catalog))) i) cur shown.damaged;
-  })
+    past-before : (geometry : Geometry) (images : List BeforeImage) (block rule : ℕ)
+        → IsShownPast geometry images b block rule → IsShownPast geometry images a block rule
+    past-before geometry images block rule (InPart shown) =
+        InPart (part-before geometry images block rule shown)
+    past-before geometry images block rule (InCatalog shown) = InCatalog (record {
+      block_is = shown.block_is;
+      rule_is = shown.rule_is;
+      damaged = λ one stands. shown.damaged one (stands-then geometry one stands);
+    })
+    past-before geometry images block rule (InArea shown) = InArea (record {
+      block_is = shown.block_is;
+      rule_is = shown.rule_is;
+      damaged = λ one stands. shown.damaged one (stands-then geometry one stands);
+    })
+    past-before geometry images block rule (Twice shown) = Twice (record {
+      block_is = shown.block_is;
+      rule_is = shown.rule_is;
+      damaged = λ one stands. shown.damaged one (stands-then geometry one stands);
+    })
+    past-before geometry images block rule (InImages shown) = InImages (record {
+      block_is = shown.block_is;
+      rule_is = shown.rule_is;
+      catalog = shown.catalog;
+      stands = stands-before geometry shown.catalog shown.stands;
+      damaged = subst (λ (i : Image). CannotGoBack images
+          (shapes_laid geometry (entries_in (catalog_by images shown.catalog))) i) cur shown.damaged;
+    })
 
-  shown-before : (geometry : Geometry) (block rule : ℕ) → IsShownOf geometry b block rule
-      → IsShownOf geometry a block rule
-  shown-before geometry block rule (InLog shown) = InLog (record {
-    rule_is = shown.rule_is;
-    damaged = subst (λ (i : Image). Rattle.vr_log.specs.Damage.IsDamagedAt geometry i block) cur
-        shown.damaged;
-  })
-  shown-before geometry block rule (PastLog log spelled shown) = PastLog log
-      (subst (λ (i : Image). Spells geometry i log) cur spelled)
-      (past-before geometry (images_of log.records) block rule shown)
+    shown-before : (geometry : Geometry) (block rule : ℕ) → IsShownOf geometry b block rule
+        → IsShownOf geometry a block rule
+    shown-before geometry block rule (InLog shown) = InLog (record {
+      rule_is = shown.rule_is;
+      damaged = subst (λ (i : Image). Rattle.vr_log.specs.Damage.IsDamagedAt geometry i block) cur
+          shown.damaged;
+    })
+    shown-before geometry block rule (PastLog log spelled shown) = PastLog log
+        (subst (λ (i : Image). Spells geometry i log) cur spelled)
+        (past-before geometry (images_of log.records) block rule shown)
 
-  has-before : (geometry : Geometry) (block : ℕ) (cause : Unserved)
-      → IsUnservedOf geometry b block cause → IsUnservedOf geometry a block cause
-  has-before geometry block cause (ByLog has) = ByLog (record {
-    content = has.content;
-    spelled = subst (λ (i : Image). Spells geometry i has.content) cur has.spelled;
-    block_is = has.block_is;
-    is = has.is;
-  })
-  has-before geometry block cause (ByCatalog log spelled has) = ByCatalog log
-      (subst (λ (i : Image). Spells geometry i log) cur spelled) (record {
-        content = has.content;
-        stands = stands-before geometry has.content has.stands;
-        rules = has.rules;
-        block_is = has.block_is;
-        is = has.is;
-      })
+    has-before : (geometry : Geometry) (block : ℕ) (cause : Unserved)
+        → IsUnservedOf geometry b block cause → IsUnservedOf geometry a block cause
+    has-before geometry block cause (ByLog has) = ByLog (record {
+      content = has.content;
+      spelled = subst (λ (i : Image). Spells geometry i has.content) cur has.spelled;
+      block_is = has.block_is;
+      is = has.is;
+    })
+    has-before geometry block cause (ByCatalog log spelled has) = ByCatalog log
+        (subst (λ (i : Image). Spells geometry i log) cur spelled) (record {
+          content = has.content;
+          stands = stands-before geometry has.content has.stands;
+          rules = has.rules;
+          block_is = has.block_is;
+          is = has.is;
+        })
 
-  header-before : (number : ℕ) (geometry : Geometry)
-      → IsHeaderOf b.count b.size number (block_at b.cur 0) geometry
-      → IsHeaderOf a.count a.size number (block_at a.cur 0) geometry
-  header-before number geometry header = record {
-    allowed = header.allowed;
-    blocks_are = header.blocks_are ∙ count;
-    size_is = header.size_is ∙ size;
-    bytes = subst (λ (i : Image). block_at i 0 ≡ header_block geometry number) cur header.bytes;
-  }
+    header-before : (number : ℕ) (geometry : Geometry)
+        → IsHeaderOf b.count b.size number (block_at b.cur 0) geometry
+        → IsHeaderOf a.count a.size number (block_at a.cur 0) geometry
+    header-before number geometry header = record {
+      allowed = header.allowed;
+      blocks_are = header.blocks_are ∙ count;
+      size_is = header.size_is ∙ size;
+      bytes = subst (λ (i : Image). block_at i 0 ≡ header_block geometry number) cur header.bytes;
+    }
 
-  header-then : (number : ℕ) (geometry : Geometry)
-      → IsHeaderOf a.count a.size number (block_at a.cur 0) geometry
-      → IsHeaderOf b.count b.size number (block_at b.cur 0) geometry
-  header-then number geometry header = record {
-    allowed = header.allowed;
-    blocks_are = header.blocks_are ∙ sym count;
-    size_is = header.size_is ∙ sym size;
-    bytes = subst (λ (i : Image). block_at i 0 ≡ header_block geometry number) (sym cur)
-        header.bytes;
-  }
+    header-then : (number : ℕ) (geometry : Geometry)
+        → IsHeaderOf a.count a.size number (block_at a.cur 0) geometry
+        → IsHeaderOf b.count b.size number (block_at b.cur 0) geometry
+    header-then number geometry header = record {
+      allowed = header.allowed;
+      blocks_are = header.blocks_are ∙ sym count;
+      size_is = header.size_is ∙ sym size;
+      bytes = subst (λ (i : Image). block_at i 0 ≡ header_block geometry number) (sym cur)
+          header.bytes;
+    }
 
-  damaged-before : (number block rule : ℕ) → IsDamaged number b block rule
-      → IsDamaged number a block rule
-  damaged-before number block rule is = record {
-    none = none-before number is.none;
-    shown = ⊎_elim
-        (λ header. inl (record {
-          block_is = header.block_is;
-          rule_is = header.rule_is;
-          damaged = record {
-            none = λ geometry of. header.damaged.none geometry (header-then number geometry of);
-            version = λ some found stated. header.damaged.version
-                (omega (arith, some, count)) found
-                (ap version_in (ap (λ (i : Image). block_at i 0) cur) ∙ stated);
-          };
-        }))
-        (λ within. inr (record {
-          geometry = within.geometry;
-          header = header-before number within.geometry within.header;
-          shown = shown-before within.geometry block rule within.shown;
-        }))
-        is.shown;
-  }
+    damaged-before : (number block rule : ℕ) → IsDamaged number b block rule
+        → IsDamaged number a block rule
+    damaged-before number block rule is = record {
+      none = none-before number is.none;
+      shown = ⊎_elim
+          (λ header. inl (record {
+            block_is = header.block_is;
+            rule_is = header.rule_is;
+            damaged = record {
+              none = λ geometry of. header.damaged.none geometry (header-then number geometry of);
+              version = λ some found stated. header.damaged.version
+                  (omega (arith, some, count)) found
+                  (ap version_in (ap (λ (i : Image). block_at i 0) cur) ∙ stated);
+            };
+          }))
+          (λ within. inr (record {
+            geometry = within.geometry;
+            header = header-before number within.geometry within.header;
+            shown = shown-before within.geometry block rule within.shown;
+          }))
+          is.shown;
+    }
 
-  pub refused-before : (number : ℕ) (answer : OpenNo) → IsRefused number b answer
-      → IsRefused number a answer
-  refused-before number (Damaged block rule) is = damaged-before number block rule is
-  refused-before number (Version found) is = record {
-    none = none-before number is.none;
-    stated = ap version_in (ap (λ (i : Image). block_at i 0) (sym cur)) ∙ is.stated;
-    other = is.other;
-  }
-  refused-before number (nos.Unserved block cause) is = record {
-    geometry = is.geometry;
-    header = header-before number is.geometry is.header;
-    has = has-before is.geometry block cause is.has;
-  }
-  refused-before number Read is = tt
-  refused-before number Write is = tt
-  refused-before number Memory is = tt
+    pub refused-before : (number : ℕ) (answer : OpenNo) → IsRefused number b answer
+        → IsRefused number a answer
+    refused-before number (Damaged block rule) is = damaged-before number block rule is
+    refused-before number (Version found) is = record {
+      none = none-before number is.none;
+      stated = ap version_in (ap (λ (i : Image). block_at i 0) (sym cur)) ∙ is.stated;
+      other = is.other;
+    }
+    refused-before number (nos.Unserved block cause) is = record {
+      geometry = is.geometry;
+      header = header-before number is.geometry is.header;
+      has = has-before is.geometry block cause is.has;
+    }
+    refused-before number Read is = tt
+    refused-before number Write is = tt
+    refused-before number Memory is = tt
 
-  pub opened-before : (number : ℕ) (geometry : Geometry) (entries : List CatEntry)
-      (parts : List AnyPart) (log : LogNow) (owners : List (Option PartNo)) (now : Seen)
-      → IsOpened number geometry entries parts log owners b now
-      → IsOpened number geometry entries parts log owners a now
-  opened-before number geometry entries parts log owners now is = (
-    is.0,
-    record {
-      volume = volume-before number geometry (standing_all is.0) is.1.volume;
-      whole = subst (λ (i : Image). IsRecovered geometry number is.0 i) cur is.1.whole;
-      undone = is.1.undone;
-      stands = is.1.stands;
-      ready = is.1.ready;
-      owners_are = is.1.owners_are;
-      catalog = is.1.catalog;
-      rules = is.1.rules;
-      apart = is.1.apart;
-      ascends = is.1.ascends;
-      others = is.1.others;
-    },
-  )
+    pub opened-before : (number : ℕ) (geometry : Geometry) (entries : List CatEntry)
+        (parts : List AnyPart) (log : LogNow) (owners : List (Option PartNo)) (now : Seen)
+        → IsOpened number geometry entries parts log owners b now
+        → IsOpened number geometry entries parts log owners a now
+    opened-before number geometry entries parts log owners now is = (
+      is.0,
+      record {
+        volume = volume-before number geometry (standing_all is.0) is.1.volume;
+        whole = subst (λ (i : Image). IsRecovered geometry number is.0 i) cur is.1.whole;
+        undone = is.1.undone;
+        stands = is.1.stands;
+        ready = is.1.ready;
+        owners_are = is.1.owners_are;
+        catalog = is.1.catalog;
+        rules = is.1.rules;
+        apart = is.1.apart;
+        ascends = is.1.ascends;
+        others = is.1.others;
+      },
+    )
 
 -- ---- moments
 
@@ -266,7 +268,8 @@ forced-guards tells P a b told within cur forced is call = guards-keeps tells a 
 pub left-guards : (tells : Bool) (P : Image → Type 0) (a b : Seen) → IsTrue tells
     → ((image : Image) → a.images a.moment image → Left a image) → Keeps tells a b
     → Guards a b (λ image. Left a image ⊎ P image)
-left-guards tells P a b told within call = guards-keeps tells a a b (λ image. Left a image ⊎ P image)
+left-guards tells P a b told within call = guards-keeps tells a a b
+    (λ image. Left a image ⊎ P image)
     (guards-start a (λ image. Left a image ⊎ P image) within (λ image left. inl left)) call told
 
 -- contents that the blocks have, once they were read
@@ -286,7 +289,8 @@ module _ (tells : Bool) (geometry : Geometry) (number : ℕ) (content : LogConte
   -- of the same shape
   then-same : (contents : ℕ → Content) (is : IsWhole geometry number contents a.cur)
       → Guards a d
-      (λ image. Left a image ⊎ KeepsAll geometry number (images_of is.whole.log.records) contents image)
+      (λ image. Left a image ⊎ KeepsAll geometry number (images_of is.whole.log.records) contents
+      image)
   then-same contents is =
       let Kept : Image → Type 0 = KeepsAll geometry number (images_of is.whole.log.records) contents
       in
@@ -303,7 +307,8 @@ module _ (tells : Bool) (geometry : Geometry) (number : ℕ) (content : LogConte
   pub left-then : (other : Geometry) (contents : ℕ → Content) → IsAllowed other → IsOf other a
       → (is : IsWhole other number contents a.cur)
       → Guards a d
-      (λ image. Left a image ⊎ KeepsAll other number (images_of is.whole.log.records) contents image)
+      (λ image. Left a image ⊎ KeepsAll other number (images_of is.whole.log.records) contents
+      image)
   left-then other contents may of is =
       subst (λ (g : Geometry). (whole : IsWhole g number contents a.cur) → Guards a d
       (λ image. Left a image

@@ -26,9 +26,10 @@ use Rattle.vr_space.specs.Way.{Found, IsWithin, MayFind, Reads, Way, found_on}
 use Rattle.vr_space.specs.AreaCalls.{HasRoomHere, IsAreaOn}
 use Rattle.vr_space.specs.Areas.{ChainHasRoom, ChainKeepsRoom, EachAfter, IsFollowed, IsOwnedArea}
 use Rattle.vr_space.specs.Areas.{IsQuietArea, KeyedChain, Links, LinksIn, area_of, end_of, head_in}
-use Rattle.vr_space.specs.Areas.{head_of, most_areas}
+use Rattle.vr_space.specs.Areas.{head_of}
 use Rattle.vr_space.specs.Keyed.{EachMayLeave, HaveRooms, HoldRanges, HoldsRange, IsHead}
-use Rattle.vr_space.specs.Keyed.{IsKeyedSound, KeepsRoom, Keyed, entries_of, entry_block, lengths_of}
+use Rattle.vr_space.specs.Keyed.{IsKeyedSound, KeepsRoom, Keyed, entries_of, entry_block}
+use Rattle.vr_space.specs.Keyed.{lengths_of}
 use Rattle.vr_space.specs.Keyed.{low_of, range_of}
 use Rattle.vr_space.specs.Met.{IsChainMet, Met}
 use Rattle.vr_space.specs.Split.{AreaSplit}
@@ -168,17 +169,19 @@ module _ (part : KeyedChain) (owners : Owners) (now : Seen) (on : IsOn (KeyedSha
 
   rooms-after : (kept : Lengths)
       → All (λ (entry : List ℕ × ℕ). length entry.0 ≡ part.key) kept
-      → LinksIn part now.cur most_areas part.first None → ChainHasRoom part kept now.cur
+      → LinksIn part now.cur (area_count part.geometry) part.first None
+      → ChainHasRoom part kept now.cur
       → ChainKeepsRoom part kept now
   rooms-after kept places chain rooms = each-after-less part
       (λ area. IsLinkedArea part now.cur area × HasRoomHere (area_of part area) kept now.cur)
       (λ area. KeepsRoom (area_of part area) kept now) (IsOfImage now.cur) now.may
       (λ area is. area-room (area_of part area) now (area-on part now on area is.0.there) forced
       kept places is.0.stands.head is.1)
-      (λ area is. one-head area is.0.there) most_areas part.first
+      (λ area is. one-head area is.0.there) (area_count part.geometry) part.first
       (each-after-both part (IsLinkedArea part now.cur)
-      (λ area. HasRoomHere (area_of part area) kept now.cur) (IsOfImage now.cur) most_areas
-      part.first (links-in-each part now.cur most_areas part.first None chain) rooms)
+      (λ area. HasRoomHere (area_of part area) kept now.cur) (IsOfImage now.cur)
+      (area_count part.geometry) part.first
+      (links-in-each part now.cur (area_count part.geometry) part.first None chain) rooms)
 
 -- what may be found is what is read
 found-here : (now : Seen) (region : ℕ → Type 0) → ((n : ℕ) → region n → n < now.count)
@@ -212,7 +215,8 @@ module _ (part : Numbered) (owners : Owners) (now : Seen) (on : IsNumberedOn par
     chain-rest : IsNumberedAtRest part owners now
     chain-rest = record {
       on = on;
-      chain = chain-less part (IsOwnArea part owners) (IsRestingArea part owners now) (IsFilled part)
+      chain = chain-less part (IsOwnArea part owners) (IsRestingArea part owners now)
+          (IsFilled part)
           now.may (IsOfImage now.cur)
           (λ area own. record {
             own = own;
@@ -232,7 +236,8 @@ pub forced-rests : (shape : Shape) (owners : Owners) (now : Seen) → IsOn shape
     → StaysIn shape owners now.cur → IsAtRest shape owners now
 forced-rests (KeyedShape part) owners now on forced content stands stays = record {
   on = on;
-  chain = rests-after part owners now on forced most_areas part.first None stands.chain stays;
+  chain = rests-after part owners now on forced (area_count part.geometry) part.first None
+      stands.chain stays;
 }
 forced-rests (NumberedShape part) owners now on forced content stands stays =
     chain-rest part owners now on forced stays

@@ -7,9 +7,11 @@ use Rattle.vr_types.specs.declared.geometry.Geometry.{Geometry}
 use Rattle.vr_catalog.specs.declared.entry.CatEntry.{CatEntry}
 use Rattle.vr_attach.specs.Laid.{IsReachedElsewhere, shape_in}
 use Rattle.vr_attach.proofs.CallerLemmas.{damaged-alone, laid-as, stays-owned, stays-reached}
+use Rattle.vr_attach.specs.Linked.{StandsAlone}
 use Rattle.vr_mount.specs.Areas.{BeginsWith, IsLaidIn}
 use Rattle.vr_part.specs.Attached.{IsAnyShown}
 use Rattle.vr_chained.proofs.CallerLemmas.{damaged-nowhere}
+use Rattle.vr_space.specs.Areas.{KeyedChain}
 use Rattle.vr_space.specs.Owners.{Owners}
 use Rattle.vr_space.specs.Part.{InFirstArea, KeyedShape, NumberedShape, Shape, Stands, StaysIn}
 use Rattle.vr_space.specs.Part.{part_no}
@@ -31,7 +33,8 @@ head-inside geometry area (NumberedShape part) begins = record {
 }
 
 module _ (geometry : Geometry) (entries : List CatEntry) (owners : Owners) (image : Image)
-    (some : 0 < area_count geometry) (within : (part : ℕ) (shape : Shape) → shape_in geometry entries part ≡ Some shape
+    (some : 0 < area_count geometry)
+    (within : (part : ℕ) (shape : Shape) → shape_in geometry entries part ≡ Some shape
     → StaysIn shape owners image) where
   number-of : (part : ℕ) (shape : Shape) → shape_in geometry entries part ≡ Some shape
       → (part_no shape).0 ≡ part
@@ -72,12 +75,26 @@ module _ (geometry : Geometry) (entries : List CatEntry) (owners : Owners) (imag
       (own.owned (head_block numbered.geometry area)
       (record { from = omega arith; to = omega arith }) ∙ ap Some mine.number)
 
+  -- no area that a keyed part reaches is taken
+  stands-alone : (part : ℕ) (keyed : KeyedChain) → shape_in geometry entries part
+      ≡ Some (KeyedShape keyed) → Stands (KeyedShape keyed) image
+      → StandsAlone keyed (IsTaken geometry entries image part) image
+  stands-alone part keyed laid stands = record {
+    content = stands;
+    alone = λ area reached other taken. taken-owner part area taken
+        (stays-reached geometry entries part (KeyedShape keyed) owners image area laid
+        (within part (KeyedShape keyed) laid) reached (head_block geometry area) (omega arith)
+        (omega arith)
+        ∙ ap Some (number-of part (KeyedShape keyed) laid));
+  }
+
   -- nothing is shown of a part that stands in blocks of its own
   pub any-none : (part : ℕ) (shape : Shape) → shape_in geometry entries part ≡ Some shape
       → Stands shape image → (block rule : ℕ)
-      → IsAnyShown geometry shape (IsTaken geometry entries image part) image block rule → ⊥
+      → IsAnyShown shape (IsTaken geometry entries image part) image block rule → ⊥
   any-none part (KeyedShape keyed) laid stands block rule shown =
-      damaged-alone keyed image block shown.rule shown.damaged stands
+      damaged-alone keyed image (IsTaken geometry entries image part) block shown.rule
+      shown.damaged (stands-alone part keyed laid stands)
   any-none part (NumberedShape numbered) laid stands block rule shown =
       damaged-nowhere numbered (IsTaken geometry entries image part) image owners block
       shown.rule shown.damaged (within part (NumberedShape numbered) laid)

@@ -1,5 +1,5 @@
--- Which areas are another part's as the walk over the entries comes to one, and what is shown of its
--- part by them.
+-- Which areas are another part's as the walk over the parts comes to one, and what is shown of it
+-- by them.
 use Rattle.std.proofs.Common.{◌≡◌, ◌≢◌, ◌⊎◌, ⊎_elim, inl, inr, ℕ, zero, suc, ◌<◌, List, []}
 use Rattle.std.proofs.Common.{◌∷◌, Option, Some, None, refl, sym, ap, subst, ◌∙◌, arith}
 use Rattle.std.proofs.Common.{get_or, map, take}
@@ -7,6 +7,7 @@ use Rattle.std.specs.Prelude.{Contains, slice_get}
 use Rattle.std.specs.List.Sorted.{IsNonDecreasingBy}
 use Rattle.std.specs.Option.{option_map}
 use Rattle.std.proofs.lemmas.Bool.Decides.{eqb_tells}
+use Rattle.std.proofs.lemmas.List.Elements.{All-nil}
 use Rattle.std.proofs.lemmas.Option.{get_or_from_slice_get, slice_get-map, slice_get_within}
 use Rattle.vr_types.specs.Geometry.{area_count, head_block}
 use Rattle.vr_types.specs.Image.{Image}
@@ -15,18 +16,21 @@ use Rattle.vr_types.specs.declared.geometry.Geometry.{Geometry}
 use Rattle.vr_types.specs.declared.unit.PartNo.{PartNo}
 use Rattle.vr_catalog.specs.declared.entry.CatEntry.{CatEntry}
 use Rattle.vr_attach.specs.Chain.{IsChainShown, IsReachedBefore}
-use Rattle.vr_attach.specs.Laid.{HasArea, ReachesArea, shape_in, shape_of}
+use Rattle.vr_attach.specs.Laid.{HasArea, ReachesArea, catalog_shape, shape_in, shape_of}
+use Rattle.vr_attach.specs.Marked.{IsTakenIn}
+use Rattle.vr_attach.proofs.CallerLemmas.{laid-as}
 use Rattle.vr_mount.specs.Areas.{AreFirstOwners, BeginsWith, IsLaidIn}
 use Rattle.vr_part.specs.Any.{known_any, shape_any}
 use Rattle.vr_part.specs.Attached.{IsAnyShown, IsAttachedWith}
 use Rattle.vr_part.specs.declared.any.AnyPart.{AnyPart}
-use Rattle.vr_chained.specs.Walked.{IsTakenIn}
+use Rattle.vr_space.specs.Areas.{KeyedChain, areas_in}
 use Rattle.vr_space.specs.Known.{Known}
 use Rattle.vr_space.specs.Part.{KeyedShape, NumberedShape, Shape, Stands, part_no}
 use Rattle.vr_space.specs.Rosters.{Numbered, areas_from, chain_of}
-use Rattle.vr_recover.specs.Found.{AllStand, AreAdded, AreKnown, MayAdd}
+use Rattle.vr_recover.specs.Found.{AllStand, AreAdded, AreAttached, AreKnown, MayAdd}
 use Rattle.vr_recover.specs.Opening.{AsFirst, AsReached, IsEntryShown, IsHeldBy, IsTaken, number_of}
-use Rattle.vr_recover.proofs.Adding.{head-is, part-at}
+use Rattle.vr_recover.proofs.Adding.{attached-none, head-is, part-at}
+use Rattle.vr_recover.proofs.Linked.{begins-areas, linked-to, take-more}
 use Rattle.vr_recover.proofs.NumberOrder.{before-laid, laid-before, some-laid, told-before}
 use Rattle.vr_recover.proofs.Shapes.{entry-laid, laid-there, shape-laid}
 
@@ -37,14 +41,6 @@ some-none : {X : Type 0} {x : X} → Some x ≡ None → ⊥
 some-none same = cc
 
 -- ---- the first area of a chain
-
-take-more : (k : ℕ) (xs : List ℕ) (x : ℕ) → Contains (take 1 xs) x → Contains (take (suc k) xs) x
-take-more k [] x has = absurd (omega (arith, has.1))
-take-more k (first ∷ xs) x has = (0, omega arith, at-first has.0 has.1 has.2)
-  where
-    at-first : (i : ℕ) → i < 1 → get_or (first ∷ []) i x ≡ x → first ≡ x
-    at-first zero below is = is
-    at-first (suc i) below is = absurd (omega (arith, below))
 
 begins-chain : (part : Numbered) (image : Image) (n : ℕ) → 0 < n
     → Contains (take 1 (areas_from part image n part.first)) part.first
@@ -136,131 +132,191 @@ module _ (geometry : Geometry) (parts : List AnyPart) (image : Image) (known : A
     has-of k one area there reaches = reaches-has geometry (shape_any one) (known_any one) image
         area (known-at k one there) reaches
 
--- The walk by part numbers comes to an entry.
+-- The walk by part numbers comes to this one: the parts that are attached are those of lesser
+-- numbers.
+module _ (geometry : Geometry) (entries : List CatEntry) (part : ℕ) (parts : List AnyPart)
+    (owners : List (Option PartNo)) (attached : AreAttached geometry entries parts owners)
+    (image : Image) (known : AreKnown parts image)
+    (there : (other : ℕ) (shape : Shape) → other < part
+    → shape_in geometry entries other ≡ Some shape
+    → (k : ℕ) × (slice_get (map shape_any parts) k ≡ Some shape))
+    (earlier : (k : ℕ) (one : AnyPart) → slice_get parts k ≡ Some one
+    → ((part_no (shape_any one)).0 < part)
+    × (shape_in geometry entries (part_no (shape_any one)).0 ≡ Some (shape_any one))) where
+  taken-marked : (area : ℕ) → IsTaken geometry entries image part area → IsTakenIn owners area
+  taken-marked area (AsFirst other differs laid) none =
+      some-none (sym (attached.laid (record { 0 = other }) area laid) ∙ none)
+  taken-marked area (AsReached reached less) none =
+      let of = there reached.other reached.shape less reached.laid in
+      let one = part-at parts of.0 reached.shape of.1 in
+      let has : HasArea geometry (shape_any one.0) (known_any one.0) area =
+      has-of geometry parts image known of.0 one.0 area one.1
+      (subst (λ (s : Shape). ReachesArea geometry s image area) (sym one.2) reached.reaches) in
+      some-none (sym (subst (λ (p : AnyPart). HasArea geometry (shape_any p) (known_any p) area
+      → get_or owners area None ≡ Some (part_no (shape_any p)))
+      (get_or_from_slice_get parts of.0 one.0 one.0 one.1)
+      (attached.owned of.0 one.0 (slice_get_within parts of.0 one.0 one.1) area) has) ∙ none)
+
+  -- an area of an attached part is another part's
+  held-taken : (owner : PartNo) (area : ℕ) → IsHeldBy geometry parts owner area
+      → IsTaken geometry entries image part area
+  held-taken owner area of =
+      let number : ℕ = (part_no (shape_any of.one)).0 in
+      let one = earlier of.at of.one of.there in
+      AsReached (record {
+        other = number;
+        differs = λ same. omega (arith, one.0, same);
+        shape = shape_any of.one;
+        laid = one.1;
+        reaches = reached-of geometry parts image known of.at of.one area of.there of.has;
+      }) one.0
+
+  -- what is marked is another part's, or its own first area
+  marked-taken : (area : ℕ) → IsTakenIn owners area
+      → IsTaken geometry entries image part area ⊎ IsLaidIn geometry entries part area
+  marked-taken area marked = by (get_or owners area None) refl
+    where
+      first : (owner : PartNo) → IsLaidIn geometry entries owner.0 area
+          → IsTaken geometry entries image part area ⊎ IsLaidIn geometry entries part area
+      first owner laid = elim (eqb_tells owner.0 part) [
+        | inl same ↦ inr (subst (λ (n : ℕ). IsLaidIn geometry entries n area) same.1 laid)
+        | inr differ ↦ inl (AsFirst owner.0 differ.1 laid)
+      ]
+
+      by : (o : Option PartNo) → get_or owners area None ≡ o
+          → IsTaken geometry entries image part area ⊎ IsLaidIn geometry entries part area
+      by None is = absurd (marked is)
+      by (Some owner) is = ⊎_elim (λ laid. first owner laid)
+          (λ of. inl (held-taken owner area of)) (attached.only owner area is)
+
+  -- Its own first area begins its chain:
+  module _ (some : 0 < area_count geometry) (area : ℕ) (laid : IsLaidIn geometry entries part area)
+    where
+      some-there : (here : Geometry) → here ≡ geometry → 0 < area_count here
+      some-there here same = subst (λ (g : Geometry). 0 < area_count g) (sym same) some
+
+      at-first : (here : Geometry) (first : ℕ) → here ≡ geometry
+          → head_block here first ≡ head_block geometry area → first ≡ area
+      at-first here first same begins = head-is geometry first area
+          (subst (λ (g : Geometry). head_block g first ≡ head_block geometry area) same begins)
+
+      -- that of a chain of rosters,
+      chain-begins : (numbered : Numbered)
+          → shape_in geometry entries part ≡ Some (NumberedShape numbered)
+          → Contains (take 1 (chain_of numbered image)) area
+      chain-begins numbered is =
+          let same : numbered.geometry ≡ geometry =
+          (laid-as geometry entries part (NumberedShape numbered) is).areas in
+          subst (Contains (take 1 (chain_of numbered image)))
+          (at-first numbered.geometry numbered.first same
+          (subst (BeginsWith (head_block geometry area)) (some-is (sym laid.laid ∙ is))
+          laid.begins))
+          (begins-chain numbered image (area_count numbered.geometry)
+          (some-there numbered.geometry same))
+
+      -- and that of a keyed part.
+      areas-begin : (keyed : KeyedChain)
+          → shape_in geometry entries part ≡ Some (KeyedShape keyed)
+          → Contains (take 1 (areas_in keyed image)) area
+      areas-begin keyed is =
+          let same : keyed.geometry ≡ geometry =
+          (laid-as geometry entries part (KeyedShape keyed) is).areas in
+          subst (Contains (take 1 (areas_in keyed image)))
+          (at-first keyed.geometry keyed.first same
+          (subst (BeginsWith (head_block geometry area)) (some-is (sym laid.laid ∙ is))
+          laid.begins))
+          (begins-areas keyed image (area_count keyed.geometry)
+          (some-there keyed.geometry same))
+
+  shown-by : (shape : Shape) → shape_in geometry entries part ≡ Some shape
+      → 0 < area_count geometry → (block rule : ℕ)
+      → IsAnyShown shape (IsTakenIn owners) image block rule
+      → IsAnyShown shape (IsTaken geometry entries image part) image block rule
+  shown-by (KeyedShape keyed) laid some block rule shown = linked-to keyed image
+      (IsTakenIn owners) (IsTaken geometry entries image part)
+      (λ area marked. ⊎_elim (λ taken. inl taken)
+      (λ own. inr (areas-begin some area own keyed laid)) (marked-taken area marked))
+      (λ area taken. taken-marked area taken) block rule shown
+  shown-by (NumberedShape numbered) laid some block rule shown = chain-to numbered image
+      (IsTakenIn owners) (IsTaken geometry entries image part)
+      (λ area marked. ⊎_elim (λ taken. inl taken)
+      (λ own. inr (chain-begins some area own numbered laid)) (marked-taken area marked))
+      (λ area taken. taken-marked area taken) block rule shown
+
+  -- so what is shown of it is shown of its entry
+  part-shown : (now : Seen) → now.cur ≡ image → AllStand (map shape_any parts) image
+      → (shape : Shape) → shape_in geometry entries part ≡ Some shape → 0 < area_count geometry
+      → (block rule : ℕ) → IsAnyShown shape (IsTakenIn owners) image block rule
+      → IsEntryShown geometry entries now block rule
+  part-shown now cur stand shape laid some block rule shown = record {
+    part = part;
+    shape = shape;
+    laid = laid;
+    before = λ other one less of.
+        let here = there other one less of in
+        subst (Stands one) (sym cur)
+        (subst (λ (s : Shape). Stands s image)
+        (get_or_from_slice_get (map shape_any parts) here.0 one one here.1)
+        (stand here.0 one (slice_get_within (map shape_any parts) here.0 one here.1)));
+    shown = subst (λ (i : Image). IsAnyShown shape
+        (IsTaken geometry entries i part) i block rule) (sym cur)
+        (shown-by shape laid some block rule shown);
+  }
+
+-- It comes to the catalog's own part, which is the first.
+pub own-shown : (geometry : Geometry) (entries : List CatEntry) (owners : List (Option PartNo))
+    (own : AreFirstOwners geometry entries owners) (now : Seen) → 0 < area_count geometry
+    → (block rule : ℕ) → IsAnyShown (catalog_shape geometry) (IsTakenIn owners) now.cur block rule
+    → IsEntryShown geometry entries now block rule
+own-shown geometry entries owners own now some block rule shown =
+    part-shown geometry entries 0 [] owners (attached-none geometry entries owners own) now.cur
+    (All-nil (λ (part : AnyPart). IsAttachedWith (shape_any part) (known_any part) now.cur))
+    (λ other shape less laid. absurd (omega (arith, less)))
+    (λ k one there. absurd (some-none (sym there)))
+    now refl (All-nil (λ (shape : Shape). Stands shape now.cur)) (catalog_shape geometry) refl some
+    block rule shown
+
+-- It comes to an entry.
 module _ (geometry : Geometry) (entries : List CatEntry) (at : ℕ) (parts : List AnyPart)
     (owners : List (Option PartNo)) (may : MayAdd geometry entries)
     (ascend : IsNonDecreasingBy number_of entries)
-    (added : AreAdded geometry entries at parts owners) (image : Image)
-    (known : AreKnown parts image) (entry : CatEntry) (there : slice_get entries at ≡ Some entry)
+    (added : AreAdded geometry entries at parts owners) (now : Seen)
+    (known : AreKnown parts now.cur) (entry : CatEntry) (there : slice_get entries at ≡ Some entry)
   where
     -- a part of a lesser number is attached
-    attached : (other : ℕ) (shape : Shape) → other < entry.part.0
+    lesser : (other : ℕ) (shape : Shape) → other < entry.part.0
         → shape_in geometry entries other ≡ Some shape
         → (k : ℕ) × (slice_get (map shape_any parts) k ≡ Some shape)
-    attached other shape less laid =
+    lesser other shape less laid =
         let of = laid-there geometry (take at entries) (told-before entries at may.distinct) other
         shape
         (before-laid entries may.distinct ascend geometry at entry there other shape less laid) in
         (of.0, ap (λ (s : List Shape). slice_get s of.0) added.shapes ∙ of.1)
 
-    taken-marked : (area : ℕ) → IsTaken geometry entries image entry.part.0 area
-        → IsTakenIn owners area
-    taken-marked area (AsFirst other differs laid) none =
-        some-none (sym (added.laid (record { 0 = other }) area laid) ∙ none)
-    taken-marked area (AsReached reached less) none =
-        let of = attached reached.other reached.shape less reached.laid in
-        let one = part-at parts of.0 reached.shape of.1 in
-        let has : HasArea geometry (shape_any one.0) (known_any one.0) area =
-        has-of geometry parts image known of.0 one.0 area one.1
-        (subst (λ (s : Shape). ReachesArea geometry s image area) (sym one.2) reached.reaches) in
-        some-none (sym (subst (λ (p : AnyPart). HasArea geometry (shape_any p) (known_any p) area
-        → get_or owners area None ≡ Some (part_no (shape_any p)))
-        (get_or_from_slice_get parts of.0 one.0 one.0 one.1)
-        (added.owned of.0 one.0 (slice_get_within parts of.0 one.0 one.1) area) has) ∙ none)
+    -- and an attached part is of one
+    earlier-laid : (k : ℕ) (one : AnyPart) → slice_get parts k ≡ Some one
+        → ((part_no (shape_any one)).0 < entry.part.0)
+        × (shape_in geometry entries (part_no (shape_any one)).0 ≡ Some (shape_any one))
+    earlier-laid k one here =
+        let number : ℕ = (part_no (shape_any one)).0 in
+        let laid : shape_in geometry (take at entries) number ≡ Some (shape_any one) =
+        shape-laid geometry (take at entries) (told-before entries at may.distinct) k
+        (shape_any one)
+        (ap (λ (s : List Shape). slice_get s k) (sym added.shapes)
+        ∙ slice_get-map shape_any parts k ∙ ap (option_map shape_any) here) in (
+          laid-before entries may.distinct ascend geometry at entry there number (shape_any one)
+              laid,
+          some-laid geometry entries at number (shape_any one) laid,
+        )
 
-    -- an area of an attached part is another part's
-    held-taken : (owner : PartNo) (area : ℕ) → IsHeldBy geometry parts owner area
-        → IsTaken geometry entries image entry.part.0 area
-    held-taken owner area of =
-        let number : ℕ = (part_no (shape_any of.one)).0 in
-        let laid : shape_in geometry (take at entries) number ≡ Some (shape_any of.one) =
-        shape-laid geometry (take at entries) (told-before entries at may.distinct) of.at
-        (shape_any of.one)
-        (ap (λ (s : List Shape). slice_get s of.at) (sym added.shapes)
-        ∙ slice_get-map shape_any parts of.at ∙ ap (option_map shape_any) of.there) in
-        let less : number < entry.part.0 =
-        laid-before entries may.distinct ascend geometry at entry there number (shape_any of.one)
-        laid in
-        AsReached (record {
-          other = number;
-          differs = λ same. omega (arith, less, same);
-          shape = shape_any of.one;
-          laid = some-laid geometry entries at number (shape_any of.one) laid;
-          reaches = reached-of geometry parts image known of.at of.one area of.there of.has;
-        }) less
-
-    -- what is marked is another part's, or its own first area
-    marked-taken : (area : ℕ) → IsTakenIn owners area
-        → IsTaken geometry entries image entry.part.0 area
-        ⊎ IsLaidIn geometry entries entry.part.0 area
-    marked-taken area marked = by (get_or owners area None) refl
-      where
-        first : (owner : PartNo) → IsLaidIn geometry entries owner.0 area
-            → IsTaken geometry entries image entry.part.0 area
-            ⊎ IsLaidIn geometry entries entry.part.0 area
-        first owner laid = elim (eqb_tells owner.0 entry.part.0) [
-          | inl same ↦ inr (subst (λ (n : ℕ). IsLaidIn geometry entries n area) same.1 laid)
-          | inr differ ↦ inl (AsFirst owner.0 differ.1 laid)
-        ]
-
-        by : (o : Option PartNo) → get_or owners area None ≡ o
-            → IsTaken geometry entries image entry.part.0 area
-            ⊎ IsLaidIn geometry entries entry.part.0 area
-        by None is = absurd (marked is)
-        by (Some owner) is = ⊎_elim (λ laid. first owner laid)
-            (λ of. inl (held-taken owner area of)) (added.only owner area is)
-
-    -- its own first area begins its chain
-    first-begins : (shape : Shape) → shape_in geometry entries entry.part.0 ≡ Some shape
-        → 0 < area_count geometry → (part : Numbered) → shape ≡ NumberedShape part
-        → part.geometry ≡ geometry → (area : ℕ) → IsLaidIn geometry entries entry.part.0 area
-        → Contains (take 1 (chain_of part image)) area
-    first-begins shape laid some part is same area first =
-        let mine : first.shape ≡ NumberedShape part = some-is (sym first.laid ∙ laid) ∙ is in
-        let begins : head_block geometry part.first ≡ head_block geometry area =
-        subst (λ (g : Geometry). head_block g part.first ≡ head_block geometry area) same
-        (subst (BeginsWith (head_block geometry area)) mine first.begins) in
-        subst (Contains (take 1 (chain_of part image)))
-        (head-is geometry part.first area begins)
-        (begins-chain part image (area_count part.geometry)
-        (subst (λ (g : Geometry). 0 < area_count g) (sym same) some))
-
-    shown-by : (shape : Shape) → shape_in geometry entries entry.part.0 ≡ Some shape
-        → 0 < area_count geometry
-        → ((part : Numbered) → shape ≡ NumberedShape part → part.geometry ≡ geometry)
-        → (block rule : ℕ) → IsAnyShown geometry shape (IsTakenIn owners) image block rule
-        → IsAnyShown geometry shape (IsTaken geometry entries image entry.part.0) image block rule
-    shown-by (KeyedShape part) laid some same block rule shown = shown
-    shown-by (NumberedShape part) laid some same block rule shown = chain-to part image
-        (IsTakenIn owners) (IsTaken geometry entries image entry.part.0)
-        (λ area marked. ⊎_elim (λ taken. inl taken)
-        (λ own. inr (first-begins (NumberedShape part) laid some part refl (same part refl) area
-        own))
-        (marked-taken area marked))
-        (λ area taken. taken-marked area taken) block rule shown
-
-    -- so its part is shown
-    pub entry-shown : (now : Seen) → now.cur ≡ image → AllStand (map shape_any parts) image
+    pub entry-shown : AllStand (map shape_any parts) now.cur
         → (shape : Shape) → shape_of geometry entry ≡ Some shape → 0 < area_count geometry
-        → ((part : Numbered) → shape ≡ NumberedShape part → part.geometry ≡ geometry)
-        → (block rule : ℕ) → IsAnyShown geometry shape (IsTakenIn owners) image block rule
+        → (block rule : ℕ) → IsAnyShown shape (IsTakenIn owners) now.cur block rule
         → IsEntryShown geometry entries now block rule
-    entry-shown now cur stand shape laid some same block rule shown =
-        let mine = entry-laid geometry entries may.distinct at entry shape there laid in
-        record {
-          part = entry.part.0;
-          shape = shape;
-          laid = mine;
-          before = λ other one less of.
-              let here = attached other one less of in
-              subst (Stands one) (sym cur)
-              (subst (λ (s : Shape). Stands s image)
-              (get_or_from_slice_get (map shape_any parts) here.0 one one here.1)
-              (stand here.0 one (slice_get_within (map shape_any parts) here.0 one here.1)));
-          shown = subst (λ (i : Image). IsAnyShown geometry shape
-              (IsTaken geometry entries i entry.part.0) i block rule) (sym cur)
-              (shown-by shape mine some same block rule shown);
-        }
+    entry-shown stand shape laid some block rule shown =
+        part-shown geometry entries entry.part.0 parts owners added.attached now.cur known lesser
+        earlier-laid now refl stand shape
+        (entry-laid geometry entries may.distinct at entry shape there laid) some block rule shown
 
 -- ---- the same entries in another order
 
@@ -290,9 +346,13 @@ module _ (geometry : Geometry) (here there : List CatEntry)
 module _ (geometry : Geometry) (here there : List CatEntry)
     (alike : (part : ℕ) → shape_in geometry here part ≡ shape_in geometry there part) where
   any-alike : (image : Image) (part : ℕ) (shape : Shape) (block rule : ℕ)
-      → IsAnyShown geometry shape (IsTaken geometry here image part) image block rule
-      → IsAnyShown geometry shape (IsTaken geometry there image part) image block rule
-  any-alike image part (KeyedShape keyed) block rule shown = shown
+      → IsAnyShown shape (IsTaken geometry here image part) image block rule
+      → IsAnyShown shape (IsTaken geometry there image part) image block rule
+  any-alike image part (KeyedShape keyed) block rule shown = linked-to keyed image
+      (IsTaken geometry here image part) (IsTaken geometry there image part)
+      (λ area taken. inl (taken-alike geometry here there alike image part area taken))
+      (λ area taken. taken-alike geometry there here (λ n. sym (alike n)) image part area taken)
+      block rule shown
   any-alike image part (NumberedShape numbered) block rule shown = chain-to numbered image
       (IsTaken geometry here image part) (IsTaken geometry there image part)
       (λ area taken. inl (taken-alike geometry here there alike image part area taken))
@@ -309,13 +369,20 @@ module _ (geometry : Geometry) (here there : List CatEntry)
     shown = any-alike now.cur is.part is.shape block rule is.shown;
   }
 
-  pub first-alike : (owners : List (Option PartNo)) → AreFirstOwners geometry here owners
-      → AreFirstOwners geometry there owners
-  first-alike owners own = record {
-    count = own.count;
-    owned = λ part area laid. own.owned part area (back part.0 area laid);
-    only = λ part area is. laid-alike geometry here there alike part.0 area (own.only part area is);
-    alone = λ part area laid. own.alone part area (back part.0 area laid);
+  -- parts that are attached are so by both
+  pub attached-alike : (parts : List AnyPart) (owners : List (Option PartNo))
+      → AreAttached geometry here parts owners → AreAttached geometry there parts owners
+  attached-alike parts owners attached = record {
+    split = attached.split;
+    count = attached.count;
+    firsts = attached.firsts;
+    owned = attached.owned;
+    laid = λ part area laid. attached.laid part area (back part.0 area laid);
+    only = λ part area is. ⊎_elim
+        (λ laid. inl (laid-alike geometry here there alike part.0 area laid)) (λ held. inr held)
+        (attached.only part area is);
+    owns = attached.owns;
+    alone = λ part area laid none. attached.alone part area (back part.0 area laid) none;
   }
     where
       back : (part area : ℕ) → IsLaidIn geometry there part area → IsLaidIn geometry here part area

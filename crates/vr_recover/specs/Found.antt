@@ -23,7 +23,7 @@ use Rattle.vr_attach.specs.Header.{header_block}
 use Rattle.vr_attach.specs.Laid.{AreApart, HasArea, catalog_shape, keyed_part, shape_by_kind}
 use Rattle.vr_attach.specs.Laid.{shape_in, shape_of}
 use Rattle.vr_history.specs.State.{BeforeImage}
-use Rattle.vr_keyed.specs.Attached.{IsAttachedTo, IsRuleShown}
+use Rattle.vr_keyed.specs.Attached.{IsAttachedTo}
 use Rattle.vr_keyed.specs.Owned.{Owned}
 use Rattle.vr_log.specs.Content.{Content as LogContent}
 use Rattle.vr_log.specs.Live.{used_by}
@@ -41,16 +41,19 @@ use Rattle.vr_part.specs.declared.any.AnyPart.TheVariants.{Keyed}
 use Rattle.vr_volume.specs.PutBack.{AreAlone, images_of, lengths_kept, oldest, put_back}
 pub use Rattle.vr_recover.specs.Images.{CannotGoBack, HasRoomOf, IsNamed, MayGoBack, catalog_by}
 pub use Rattle.vr_recover.specs.Images.{name_in, named}
-use Rattle.vr_recover.specs.Opening.{AreOwnersBy, HasNoSplit, IsCatalogShown, IsEntryShown}
+use Rattle.vr_recover.specs.Opening.{AreOwnersBy, HasNoSplit, IsCatalogPartShown, IsCatalogShown}
+use Rattle.vr_recover.specs.Opening.{IsEntryShown}
 use Rattle.vr_recover.specs.Opening.{AreShapesOf, IsHeldBy, OwnsAreas, shapes_laid}
 use Rattle.vr_recover.specs.Undone.{FitsPart, HasPart, HaveOwnNumbers, IsReady}
 use Rattle.vr_recover.specs.declared.open_no.OpenNo.{OpenNo}
 use Rattle.vr_recover.specs.declared.open_no.OpenNo.TheVariants as nos
-use Rattle.vr_recover.specs.declared.open_no.OpenNo.TheVariants.{Damaged, Version, Read, Write, Memory}
+use Rattle.vr_recover.specs.declared.open_no.OpenNo.TheVariants.{Damaged, Version, Read, Write}
+use Rattle.vr_recover.specs.declared.open_no.OpenNo.TheVariants.{Memory}
 use Rattle.vr_recover.specs.declared.open_no.Unserved.{Unserved}
 use Rattle.vr_recover.specs.Unserved.{IsEntryCause, IsLogCause, IsPlain, IsServedCluster}
 
--- an answer that says of the blocks what P does where they are damaged, and Q where they aren't served
+-- an answer that says of the blocks what P does where they are damaged, and Q where they aren't
+-- served
 abbrev pub ShowsBoth : (ℕ → ℕ → Type 0) → (ℕ → Unserved → Type 0) → OpenNo → Type 0
 ShowsBoth P Q (Damaged block rule) = P block rule
 ShowsBoth P Q (Version found) = ⊥
@@ -121,20 +124,18 @@ pub record IsFirstAlone (geometry : Geometry) (parts : List AnyPart) : Type 0 wh
   pub is : parts ≡ Keyed own ∷ []
   pub attached : IsAttachedTo (keyed_part geometry 0 0 catalog_definition) own
 
--- What the walk begins with, whatever the blocks have: entries whose parts are distinct, on areas of
--- the volume, with records that have room. It goes by their part numbers.
+-- What the walk begins with, whatever the blocks have: entries whose parts are distinct, on areas
+-- of the volume, with records that have room. It goes by their part numbers.
 pub record MayAdd (geometry : Geometry) (entries : List CatEntry) : Type 0 where
   pub distinct : IsDistinct nat_eq (0 ∷ parts_in entries)
   pub on : AreOn geometry entries
   pub plain : All (IsPlain geometry) entries
   pub lengths : All HasLength entries
 
--- The catalog's own part and those of the first entries, up to this index, are attached, and the
--- areas that they have are marked as theirs, beside the first area of each part that isn't attached
--- yet.
-pub record AreAdded (geometry : Geometry) (entries : List CatEntry) (at : ℕ)
-    (parts : List AnyPart) (owners : List (Option PartNo)) : Type 0 where
-  pub shapes : map shape_any parts ≡ shapes_laid geometry (take at entries)
+-- These parts are attached, and the areas that they have are marked as theirs, beside the first
+-- area of each part that isn't attached yet.
+pub record AreAttached (geometry : Geometry) (entries : List CatEntry) (parts : List AnyPart)
+    (owners : List (Option PartNo)) : Type 0 where
   pub split : All HasNoSplit parts
   pub count : length owners ≡ area_count geometry
   pub firsts : All (HasFirst geometry) parts
@@ -146,6 +147,12 @@ pub record AreAdded (geometry : Geometry) (entries : List CatEntry) (at : ℕ)
   pub owns : All (λ (part : AnyPart). OwnsChain (shape_any part) (known_any part) owners) parts
   pub alone : (part : PartNo) (area : ℕ) → IsLaidIn geometry entries part.0 area
       → (HasPart (map shape_any parts) part.0 → ⊥) → owned_count part owners ≡ 1
+
+-- The catalog's own part and those of the first entries, up to this index, are attached.
+pub record AreAdded (geometry : Geometry) (entries : List CatEntry) (at : ℕ)
+    (parts : List AnyPart) (owners : List (Option PartNo)) : Type 0 where
+  pub shapes : map shape_any parts ≡ shapes_laid geometry (take at entries)
+  pub attached : AreAttached geometry entries parts owners
 
 -- the entries of whatever the catalog's blocks stand for, once these before-images are put back in
 -- it: which is a catalog's content
@@ -172,15 +179,16 @@ pub record IsNoneBy (geometry : Geometry) (records : List (List ℕ)) (block rul
   pub rule_is : rule ≡ 17
   pub damaged : (content : Content) → bytes_of content ≡ records → IsCatalog geometry content → ⊥
 
--- records that are those of no catalog, once these before-images are put back, are shown at its head
+-- records that are those of no catalog, once these before-images are put back, are shown at its
+-- head
 pub record IsNoneBack (geometry : Geometry) (images : List BeforeImage) (records : List (List ℕ))
     (block rule : ℕ) : Type 0 where
   pub block_is : block ≡ head_block geometry 0
   pub rule_is : rule ≡ 17
   pub damaged : IsCatalog geometry (put_back 0 images (named records)) → ⊥
 
--- before-images of the catalog's own part that can't be put back are shown at the first block of the
--- log
+-- before-images of the catalog's own part that can't be put back are shown at the first block of
+-- the log
 pub record IsOwnBackNo (geometry : Geometry) (images : List BeforeImage) (block rule : ℕ) : Type 0
   where
     pub block_is : block ≡ 1
@@ -237,7 +245,7 @@ pub record IsLaidShown (geometry : Geometry) (images : List BeforeImage) (now : 
 -- what is shown while the parts are attached
 pub data IsMountShown (geometry : Geometry) (images : List BeforeImage) (now : Seen)
     (block rule : ℕ) : Type 0 where
-  AtCatalog : IsRuleShown (keyed_part geometry 0 0 catalog_definition) now.cur block rule
+  AtCatalog : IsCatalogPartShown geometry now.cur block rule
       → IsMountShown geometry images now block rule
   AtImages : Stands (catalog_shape geometry) now.cur → IsOwnBackNo geometry images block rule
       → IsMountShown geometry images now block rule
@@ -260,8 +268,8 @@ IsBackNo images shapes image block rule = (block ≡ 1) × (rule ≡ 19)
 
 -- ---- all of it
 
--- What was found, whatever the blocks have: parts of these shapes are laid by these entries, and the
--- before-images of the log may be put back into them.
+-- What was found, whatever the blocks have: parts of these shapes are laid by these entries, and
+-- the before-images of the log may be put back into them.
 pub record IsPlanned (geometry : Geometry) (content : LogContent) (entries : List CatEntry)
     (shapes : List Shape) : Type 0 where
   pub shapes_are : AreShapesOf geometry entries shapes
@@ -270,8 +278,8 @@ pub record IsPlanned (geometry : Geometry) (content : LogContent) (entries : Lis
   pub clusters : All IsServedCluster entries
   pub back : MayGoBack (images_of content.records) shapes
 
--- And by what the blocks have: the header, the log, the catalog with its before-images put back, the
--- parts with their room, and whose each area is.
+-- And by what the blocks have: the header, the log, the catalog with its before-images put back,
+-- the parts with their room, and whose each area is.
 pub record IsFound (geometry : Geometry) (number : ℕ) (content : LogContent)
     (entries : List CatEntry) (shapes : List Shape) (owners : List (Option PartNo))
     (image : Image) : Type 0 where

@@ -1,6 +1,7 @@
 -- What is found on the blocks of a volume as it is opened, and why one is not opened. The rules are
 -- this project's own.
-use Rattle.std.specs.Prelude.{◌≡◌, ◌≢◌, ◌⊎◌, ◌<◌, ◌+◌, ◌^◌, ℕ, false, List, [], ◌∷◌, All, None, Some}
+use Rattle.std.specs.Prelude.{◌≡◌, ◌≢◌, ◌⊎◌, ◌<◌, ◌+◌, ◌^◌, ℕ, false, List, [], ◌∷◌, All, None}
+use Rattle.std.specs.Prelude.{Some}
 use Rattle.std.specs.Prelude.{Option, length, map, nat_eq, slice_get, slice_index_or}
 use Rattle.std.specs.List.{IsDistinct, filter_map}
 use Rattle.std.specs.List.Sorted.{IsNonDecreasingBy, IsPermutation}
@@ -15,11 +16,11 @@ use Rattle.vr_catalog.specs.Catalog.{entries_in, parts_in}
 use Rattle.vr_catalog.specs.Definition.{catalog_definition}
 use Rattle.vr_catalog.specs.declared.entry.CatEntry.{CatEntry}
 use Rattle.vr_attach.specs.CatalogRules.{IsCatalog}
+use Rattle.vr_attach.specs.Linked.{IsLinkedShown}
 use Rattle.vr_attach.specs.Laid.{AreApart, HasArea, IsReachedElsewhere, catalog_shape, keyed_part}
 use Rattle.vr_attach.specs.Laid.{shape_by, shape_in, shape_of}
 use Rattle.vr_attach.specs.Owning.{owner_of}
 use Rattle.vr_history.specs.State.{BeforeImage}
-use Rattle.vr_keyed.specs.Attached.{IsRuleShown}
 use Rattle.vr_log.specs.Content.{Content as LogContent}
 use Rattle.vr_log.specs.Damage.{IsDamagedAt}
 use Rattle.vr_log.specs.LogNow.{IsForced, IsOf, LogNow}
@@ -39,13 +40,15 @@ pub use Rattle.vr_recover.specs.Recovered.{IsRecovered}
 use Rattle.vr_recover.specs.Undone.{IsLaidPastLog, IsReady, IsUndone}
 use Rattle.vr_recover.specs.Unserved.{IsServedCluster, IsUnserved}
 use Rattle.vr_recover.specs.declared.open_no.OpenNo.{OpenNo}
-use Rattle.vr_recover.specs.declared.open_no.OpenNo.TheVariants.{Damaged, Version, Unserved, Read, Write}
+use Rattle.vr_recover.specs.declared.open_no.OpenNo.TheVariants.{Damaged, Version, Unserved, Read}
+use Rattle.vr_recover.specs.declared.open_no.OpenNo.TheVariants.{Write}
 use Rattle.vr_recover.specs.declared.open_no.OpenNo.TheVariants.{Memory}
 
 -- ---- what is found
 
 -- The blocks are those of a volume of this number and shape, and recover to these contents.
-pub record IsVolume (number : ℕ) (geometry : Geometry) (contents : ℕ → Content) (now : Seen) : Type 0
+pub record IsVolume (number : ℕ) (geometry : Geometry) (contents : ℕ → Content) (now : Seen)
+    : Type 0
   where
     pub allowed : IsAllowed geometry
     pub shape : IsOf geometry now
@@ -66,7 +69,8 @@ pub record HasContents (number : ℕ) (geometry : Geometry) (contents : ℕ → 
   pub others : (part : ℕ) → shape_by geometry (contents 0) part ≡ None → contents part ≡ []
 
 -- What an image has while they are opened: it is one that a crash left before, or recovers to the
--- records of the contents and keeps what is withdrawn in them where the log had nothing to put back.
+-- records of the contents and keeps what is withdrawn in them where the log had nothing to put
+-- back.
 abbrev pub IsLeftOpening : (number : ℕ) (geometry : Geometry) (contents : ℕ → Content) (old : Seen)
     → HasContents number geometry contents old → Image → Type 0
 IsLeftOpening number geometry contents old has image = Left old image
@@ -85,8 +89,8 @@ pub record IsLogShown (geometry : Geometry) (now : Seen) (block rule : ℕ) : Ty
   pub rule_is : rule ≡ 2
   pub damaged : IsDamagedAt geometry now.cur block
 
--- As the part of this number is read, the area is that of another part: the first one of any, or one
--- that a part of a lesser number reaches.
+-- As the part of this number is read, the area is that of another part: the first one of any, or
+-- one that a part of a lesser number reaches.
 pub data IsTaken (geometry : Geometry) (entries : List CatEntry) (image : Image) (part area : ℕ)
     : Type 0 where
   AsFirst : (other : ℕ) → other ≢ part → IsLaidIn geometry entries other area
@@ -94,8 +98,8 @@ pub data IsTaken (geometry : Geometry) (entries : List CatEntry) (image : Image)
   AsReached : (reached : IsReachedElsewhere geometry (shape_in geometry entries) image part area)
       → reached.other < part → IsTaken geometry entries image part area
 
--- The part of an entry is damaged, and none of a lesser number is: its block is the first that breaks
--- a rule, and this is the least that it breaks.
+-- The part of an entry is damaged, and none of a lesser number is: its block is the first that
+-- breaks a rule, and this is the least that it breaks.
 pub record IsEntryShown (geometry : Geometry) (entries : List CatEntry) (now : Seen)
     (block rule : ℕ) : Type 0 where
   pub part : ℕ
@@ -103,14 +107,20 @@ pub record IsEntryShown (geometry : Geometry) (entries : List CatEntry) (now : S
   pub laid : shape_in geometry entries part ≡ Some shape
   pub before : (other : ℕ) (one : Shape) → other < part → shape_in geometry entries other ≡ Some one
       → Stands one now.cur
-  pub shown : IsAnyShown geometry shape (IsTaken geometry entries now.cur part) now.cur block rule
+  pub shown : IsAnyShown shape (IsTaken geometry entries now.cur part) now.cur block rule
+
+-- The catalog's own part is damaged, whichever areas other parts have: its block is the first that
+-- breaks a rule, and this is the least that it breaks.
+abbrev pub IsCatalogPartShown : Geometry → Image → ℕ → ℕ → Type 0
+IsCatalogPartShown geometry image block rule =
+    IsLinkedShown (keyed_part geometry 0 0 catalog_definition) (λ area. ⊥) image block rule
 
 -- rules 3 to 14: the first block of a part that breaks a rule, and the least that it breaks: of the
--- catalog's own part, or of one that is laid by a content for which the catalog's blocks stand, once
--- these before-images are put back in it
+-- catalog's own part, or of one that is laid by a content for which the catalog's blocks stand,
+-- once these before-images are put back in it
 pub data IsPartShown (geometry : Geometry) (images : List BeforeImage) (now : Seen)
     (block rule : ℕ) : Type 0 where
-  OfCatalog : IsRuleShown (keyed_part geometry 0 0 catalog_definition) now.cur block rule
+  OfCatalog : IsCatalogPartShown geometry now.cur block rule
       → IsPartShown geometry images now block rule
   OfEntry : (content : Content) → StandsFor (catalog_shape geometry) now.cur content
       → IsEntryShown geometry (entries_in (catalog_by images content)) now block rule
@@ -147,8 +157,8 @@ pub record IsTwiceShown (geometry : Geometry) (images : List BeforeImage) (now :
 abbrev pub shapes_laid : Geometry → List CatEntry → List Shape
 shapes_laid geometry entries = catalog_shape geometry ∷ filter_map (shape_of geometry) entries
 
--- rule 19 at the first block of the log: these before-images can't be put back into the parts that the
--- catalog's blocks lay, once they are put back in it
+-- rule 19 at the first block of the log: these before-images can't be put back into the parts that
+-- the catalog's blocks lay, once they are put back in it
 pub record IsImageShown (geometry : Geometry) (images : List BeforeImage) (now : Seen)
     (block rule : ℕ) : Type 0 where
   pub block_is : block ≡ 1
@@ -224,8 +234,8 @@ pub record IsHeldBy (geometry : Geometry) (parts : List AnyPart) (part : PartNo)
     pub number : part_no (shape_any one) ≡ part
     pub has : HasArea geometry (shape_any one) (known_any one) area
 
--- Each area that a part has is owned by it, each owned area is one that its part has, and a part has
--- as many as it owns.
+-- Each area that a part has is owned by it, each owned area is one that its part has, and a part
+-- has as many as it owns.
 pub record AreOwnersBy (geometry : Geometry) (parts : List AnyPart)
     (owners : List (Option PartNo)) : Type 0 where
   pub count : length owners ≡ area_count geometry
@@ -257,9 +267,10 @@ pub record AreByNumber (entries ordered : List CatEntry) : Type 0 where
   pub same : IsPermutation entries ordered
   pub ascend : IsNonDecreasingBy number_of ordered
 
--- The shapes are those of the parts that the entries lay, in the order of their numbers: the catalog's
--- own is the first.
-pub record AreShapesOf (geometry : Geometry) (entries : List CatEntry) (shapes : List Shape) : Type 0
+-- The shapes are those of the parts that the entries lay, in the order of their numbers: the
+-- catalog's own is the first.
+pub record AreShapesOf (geometry : Geometry) (entries : List CatEntry) (shapes : List Shape)
+    : Type 0
   where
     pub ordered : List CatEntry
     pub by_number : AreByNumber entries ordered

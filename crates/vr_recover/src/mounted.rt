@@ -1,22 +1,24 @@
 //! The catalog of a volume that is opened, and the parts that it lays.
 ghost use Rattle.std.specs.Prelude.{◌≡◌, ◌∷◌, [], All, IsTrue, IfOk, IfErr, None, OnOk, false, map};
-ghost use Rattle.std.specs.Prelude.{nat_eq};
+ghost use Rattle.std.specs.Prelude.{◌≢◌, ℕ, Some, length, nat_eq, slice_index_or};
 ghost use Rattle.std.specs.List.{IsDistinct};
 ghost use Rattle.vr_types.specs.Blocks.{Keeps};
-ghost use Rattle.vr_types.specs.Geometry.{IsAllowed, head_block};
+ghost use Rattle.vr_types.specs.Geometry.{IsAllowed, area_count, head_block};
 ghost use Rattle.vr_attach.specs.Laid.{AreApart, catalog_shape, shape_in};
 ghost use Rattle.vr_attach.specs.Laid.{keyed_part as part_of};
 ghost use Rattle.vr_catalog.specs.Catalog.{parts_in};
 ghost use Rattle.vr_catalog.specs.Definition.{catalog_definition as definition_of_catalog};
-ghost use Rattle.vr_keyed.specs.Attached.{IsAttachedTo, IsRuleShown};
+ghost use Rattle.vr_keyed.specs.Attached.{IsAttachedTo};
 ghost use Rattle.vr_part.specs.Any.{shape_any};
-ghost use Rattle.vr_space.specs.Part.{IsOn, KeyedShape, Stands};
+ghost use Rattle.vr_space.specs.Areas.{KnowsAreas};
+ghost use Rattle.vr_space.specs.Part.{IsOn, KeyedShape, Stands, owned_count};
 ghost use Rattle.vr_log.specs.LogNow.{IsOf};
-ghost use Rattle.vr_mount.specs.Areas.{AreOn};
+ghost use Rattle.vr_mount.specs.Areas.{AreOn, catalog_part};
 ghost use Rattle.vr_mount.specs.Listing.{AreRecords};
 ghost use Rattle.vr_volume.specs.PutBack.{images_of};
 ghost use Rattle.vr_recover.specs.Found.{
   AllStand,
+  AreAdded,
   AreEntriesBack,
   AreEntriesBy,
   AreEntriesOf,
@@ -34,7 +36,9 @@ ghost use Rattle.vr_recover.specs.Found.{
   ShowsOnly,
 };
 ghost use Rattle.vr_recover.specs.OpenNo.{HasOpenCause, IsOwnNo, IsSilentNo};
-ghost use Rattle.vr_recover.specs.Opening.{AreOwnersBy, AreShapesOf, HasNoSplit, IsEntryShown};
+ghost use Rattle.vr_recover.specs.Opening.{AreOwnersBy, AreShapesOf, HasNoSplit};
+ghost use Rattle.vr_recover.specs.Opening.{IsCatalogPartShown};
+ghost use Rattle.vr_recover.specs.Opening.{IsEntryShown};
 ghost use Rattle.vr_recover.specs.Unserved.{IsCatalogUnserved, IsPlain, IsServedCluster};
 
 use crate::begun::Begun;
@@ -44,13 +48,13 @@ use crate::laid::{add, add_entries, by_number};
 use crate::open_no::{OpenNo, Unserved, cannot_go_back};
 use crate::served::{are_plain, are_served};
 use std::alloc::Global;
-use vr_catalog::Catalog;
+use vr_catalog::{Catalog, catalog_definition};
 use vr_keyed::Keyed;
 use vr_mount::{
     ListNo, are_apart, are_on, catalog_layout, catalog_of_records, owners_of, records_of_part,
 };
-use vr_part::AnyPart;
-use vr_types::{Blocks, Bytes, DeviceFault, Geometry, Space};
+use vr_part::{AnyPart, attach_part};
+use vr_types::{AreaNo, Blocks, Bytes, DeviceFault, Geometry, OutOfMemory, PartNo, Space, space};
 
 /// The catalog of a volume, and who owns its areas.
 #[derive(Drop)]
@@ -75,6 +79,8 @@ fn list<B: Blocks>(alloc: Global, blocks: &mut B, part: &mut Keyed) -> Result<Ve
     requires on { IsOn (KeyedShape part.old.part) (B.seen blocks.old) }
     requires key { part.old.part.key ≡ 44 }
     requires stands { IsTrue B.tells → Stands (KeyedShape part.old.part) (B.seen blocks.old).cur }
+    requires knows { IsTrue B.tells
+        → KnowsAreas part.old.part part.old.areas part.old.ends (B.seen blocks.old).cur }
     requires split { part.old.split ≡ None }
     requires met { part.old.met ≡ [] }
     ensures records { IsTrue B.tells → IfOk result (λ found.
@@ -121,8 +127,8 @@ fn entries_by(alloc: Global, geometry: &Geometry, records: &[Bytes]) -> Result<B
     }
 }
 
-/// The catalog whose records these are, once the before-images of its part are put back that the log has
-/// of live units. Its own part is the first of the parts.
+/// The catalog whose records these are, once the before-images of its part are put back that the
+/// log has of live units. Its own part is the first of the parts.
 fn entries_back(
     alloc: Global,
     geometry: &Geometry,
@@ -150,7 +156,21 @@ fn entries_back(
     entries_by(alloc, geometry, records)
 }
 
-/// The catalog's own part, as its blocks stand.
+/// Who owns the areas of a volume of which nothing is known but the catalog's first area.
+fn own_area(alloc: Global, geometry: &Geometry) -> Result<Space, OutOfMemory>
+    requires { IsAllowed geometry.now }
+    ensures areas { IfOk result (λ space. length space ≡ area_count geometry.now) }
+    ensures first { IfOk result (λ space. slice_index_or space 0 None ≡ Some catalog_part) }
+    ensures others { IfOk result (λ space. (area : ℕ) → area ≢ 0
+        → slice_index_or space area None ≡ None) }
+    ensures alone { IfOk result (λ space. owned_count catalog_part space ≡ 1) }
+{
+    let mut space = space(alloc, geometry.areas())?;
+    space.mark(AreaNo(0), PartNo(0));
+    Ok(space)
+}
+
+/// The catalog's own part, as its blocks stand, whoever owns the areas that it leads to.
 fn attach_own<B: Blocks>(
     alloc: Global,
     blocks: &mut B,
@@ -161,17 +181,20 @@ fn attach_own<B: Blocks>(
     ensures attached { IfOk result (IsAttachedTo (part_of geometry.now 0 0 definition_of_catalog)) }
     ensures stands { IsTrue B.tells → OnOk result
         (Stands (catalog_shape geometry.now) (B.seen blocks.old).cur) }
-    ensures damaged { IsTrue B.tells → IfErr result (ShowsOnly (IsRuleShown
-        (part_of geometry.now 0 0 definition_of_catalog) (B.seen blocks.old).cur)) }
+    ensures knows { IsTrue B.tells → IfOk result (λ own.
+        KnowsAreas own.part own.areas own.ends (B.seen blocks.old).cur) }
+    ensures damaged { IsTrue B.tells → IfErr result (ShowsOnly
+        (IsCatalogPartShown geometry.now (B.seen blocks.old).cur)) }
     ensures keeps { Keeps B.tells (B.seen blocks.old) (B.seen blocks.new) }
     ensures cause { HasOpenCause (B.faults blocks.old) (B.faults blocks.new) result }
 {
-    let layout = catalog_layout(geometry);
-    let own = Keyed::attach_layout(alloc, blocks, layout)?;
+    let mut space = own_area(alloc, geometry)?;
+    let own = Keyed::attach(alloc, blocks, catalog_layout(geometry), &mut space)?;
     Ok(own)
 }
 
-/// The records of the catalog, as the blocks of its own part have them, which is the first of the parts.
+/// The records of the catalog, as the blocks of its own part have them, which is the first of the
+/// parts.
 fn read_records<B: Blocks>(
     alloc: Global,
     blocks: &mut B,
@@ -186,8 +209,8 @@ fn read_records<B: Blocks>(
         (Stands (catalog_shape geometry.now) (B.seen blocks.old).cur) }
     ensures records { IsTrue B.tells → IfOk result (λ records.
         AreRecords (catalog_shape geometry.now) (B.seen blocks.old).cur records.items) }
-    ensures damaged { IsTrue B.tells → IfErr result (ShowsOnly (IsRuleShown
-        (part_of geometry.now 0 0 definition_of_catalog) (B.seen blocks.old).cur)) }
+    ensures damaged { IsTrue B.tells → IfErr result (ShowsOnly
+        (IsCatalogPartShown geometry.now (B.seen blocks.old).cur)) }
     ensures keeps { Keeps B.tells (B.seen blocks.old) (B.seen blocks.new) }
     ensures cause { HasOpenCause (B.faults blocks.old) (B.faults blocks.new) result }
 {
@@ -197,8 +220,8 @@ fn read_records<B: Blocks>(
     Ok(records)
 }
 
-/// The catalog, read from its own part, which is the first of the parts, with the before-images put back
-/// that the log has of live units.
+/// The catalog, read from its own part, which is the first of the parts, with the before-images put
+/// back that the log has of live units.
 fn read_catalog<B: Blocks>(
     alloc: Global,
     blocks: &mut B,
@@ -211,7 +234,6 @@ fn read_catalog<B: Blocks>(
     requires sound { begun.now.log.broken ≡ false }
     requires log { begun.now.content.records ≡ begun.now.log.records }
     requires parts { parts.old.items ≡ [] }
-    ensures first { OnOk result (IsFirstAlone geometry.now parts.new.items) }
     ensures stands { IsTrue B.tells → OnOk result
         (Stands (catalog_shape geometry.now) (B.seen blocks.old).cur) }
     ensures entries { IsTrue B.tells → IfOk result (λ catalog. AreEntriesOf geometry.now
@@ -272,8 +294,46 @@ fn check_areas(geometry: &Geometry, catalog: &Catalog) -> Result<(), OpenNo>
     Ok(())
 }
 
-/// Attaches each part that a catalog lays beside its own, which is there, in the order of their
-/// numbers, and answers who owns the areas of the volume.
+/// Attaches the catalog's own part once more, in place of the first, now that it is known whose the
+/// first area of each part is, and answers who owns the areas then: those of its chain are its own.
+fn add_own<B: Blocks>(
+    alloc: Global,
+    blocks: &mut B,
+    geometry: &Geometry,
+    catalog: &Catalog,
+    parts: &mut Vec<AnyPart>,
+) -> Result<Space, OpenNo>
+    requires allowed { IsAllowed geometry.now }
+    requires shape { IsOf geometry.now (B.seen blocks.old) }
+    requires may { MayAdd geometry.now catalog.now }
+    requires apart { AreApart (shape_in geometry.now catalog.now) }
+    ensures added { IfOk result (AreAdded geometry.now catalog.now 0 parts.new.items) }
+    ensures known { IsTrue B.tells
+        → OnOk result (AreKnown parts.new.items (B.seen blocks.old).cur) }
+    ensures stand { IsTrue B.tells
+        → OnOk result (AllStand (map shape_any parts.new.items) (B.seen blocks.old).cur) }
+    ensures damaged { IsTrue B.tells → IfErr result
+        (ShowsOnly (IsEntryShown geometry.now catalog.now (B.seen blocks.old))) }
+    ensures keeps { Keeps B.tells (B.seen blocks.old) (B.seen blocks.new) }
+    ensures cause { HasOpenCause (B.faults blocks.old) (B.faults blocks.new) result }
+{
+    let mut space = owners_of(alloc, geometry, catalog)?;
+    parts.clear();
+    let own = attach_part(
+        alloc,
+        blocks,
+        geometry,
+        PartNo(0),
+        0,
+        &catalog_definition(),
+        &mut space,
+    )?;
+    add(parts, own)?;
+    Ok(space)
+}
+
+/// Attaches each part that a catalog lays, its own first, in the order of their numbers, and
+/// answers who owns the areas of the volume.
 fn lay<B: Blocks>(
     alloc: Global,
     blocks: &mut B,
@@ -285,9 +345,6 @@ fn lay<B: Blocks>(
     requires shape { IsOf geometry.now (B.seen blocks.old) }
     requires may { MayAdd geometry.now catalog.now }
     requires apart { AreApart (shape_in geometry.now catalog.now) }
-    requires first { IsFirstAlone geometry.now parts.old.items }
-    requires stands { IsTrue B.tells
-        → Stands (catalog_shape geometry.now) (B.seen blocks.old).cur }
     ensures shapes { OnOk result
         (AreShapesOf geometry.now catalog.now (map shape_any parts.new.items)) }
     ensures split { OnOk result (All HasNoSplit parts.new.items) }
@@ -301,7 +358,7 @@ fn lay<B: Blocks>(
     ensures keeps { Keeps B.tells (B.seen blocks.old) (B.seen blocks.new) }
     ensures cause { HasOpenCause (B.faults blocks.old) (B.faults blocks.new) result }
 {
-    let mut space = owners_of(alloc, geometry, catalog)?;
+    let mut owners = add_own(alloc, blocks, geometry, catalog, parts)?;
     let ordered = by_number(alloc, catalog.as_slice())?;
     add_entries(
         alloc,
@@ -309,14 +366,14 @@ fn lay<B: Blocks>(
         geometry,
         ordered.as_slice(),
         parts,
-        &mut space,
+        &mut owners,
     )?;
-    Ok(space)
+    Ok(owners)
 }
 
-/// Attaches the catalog's own part, reads the catalog from it, with the before-images put back that the
-/// log has of live units, and attaches each part that it lays, where all of them are served. There is
-/// no part yet.
+/// Attaches the catalog's own part, reads the catalog from it, with the before-images put back that
+/// the log has of live units, and attaches each part that it lays, where all of them are served.
+/// There is no part yet.
 pub(crate) fn mount<B: Blocks>(
     alloc: Global,
     blocks: &mut B,

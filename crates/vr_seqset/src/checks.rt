@@ -22,6 +22,9 @@ use vr_types::{are_zeros, is_block_size, two_at};
 /// No area uses more: a block of 32,768 bytes with places of one byte has room for 6,547 entries.
 pub(crate) const MOST_INTERVALS: usize = 6547;
 
+/// Most areas have no more, and so few flags cost little to make each time a head is read.
+const FEW_INTERVALS: usize = 256;
+
 /// Whether the kind byte is there.
 pub(crate) fn begins_with(block: &[u8], kind: u8) -> bool
     requires { 0 < kind }
@@ -93,9 +96,23 @@ pub(crate) fn are_used_once(entries: SeqEntries<'_>, limit: usize) -> bool
     ensures { IsTrue result
         ↔ AreOnceBelow limit (flat_map (λ entry. entry.intervals) entries.entry) }
 {
-    let mut seen = [false; MOST_INTERVALS];
+    if limit <= FEW_INTERVALS {
+        mark_entries(&mut [false; FEW_INTERVALS], entries, limit)
+    } else {
+        mark_entries(&mut [false; MOST_INTERVALS], entries, limit)
+    }
+}
+
+/// Whether each interval of the entries is below the limit, and none comes twice. It marks them in
+/// flags of which none is set yet.
+fn mark_entries(seen: &mut [bool], entries: SeqEntries<'_>, limit: usize) -> bool
+    requires long { limit ≤ length seen.old }
+    requires unset { Marks limit seen.old [] }
+    ensures { IsTrue result
+        ↔ AreOnceBelow limit (flat_map (λ entry. entry.intervals) entries.entry) }
+{
     for entry in entries {
-        if !mark_all(&mut seen, &entry, limit) {
+        if !mark_all(seen, &entry, limit) {
             return false;
         }
     }

@@ -22,7 +22,6 @@ use Rattle.vr_space.specs.Keyed.{IsKeyedSound, Keyed, KeyedStandsFor, entries_of
 use Rattle.vr_space.specs.AreaCalls.{item_here}
 use Rattle.vr_space.specs.Areas.{ChainStaysIn, IsChainSound, IsOwnedArea, KeyedChain, area_for}
 use Rattle.vr_space.specs.Areas.{area_of, content_after, head_of}
-use Rattle.vr_space.specs.Areas.{most_areas}
 use Rattle.vr_space.specs.Owners.{Owners}
 use Rattle.vr_space.specs.Part.{Shape, KeyedShape, NumberedShape, InPart, StandsFor, Stands}
 use Rattle.vr_space.specs.Part.{HasOnly, MayHold, MayAlsoHold, Nothing, AddsTo, IsSound, IsAtRest}
@@ -147,11 +146,11 @@ keyed-stand part owners now sound image left =
     → IsBlock (area_of part area) now n → now.may n (block_at image n) =
     λ area own n is. left.each n is.0 (own.owned n is.1) in (
       (
-        content_after part image most_areas part.first,
+        content_after part image (area_count part.geometry) part.first,
         record {
           part_is = sound.on.part_is;
           chain = links-image part (IsOwnedArea part owners) now image (λ area own. own.there) each
-              most_areas part.first None sound.chain;
+              (area_count part.geometry) part.first None sound.chain;
           records = refl;
         },
       ),
@@ -160,8 +159,8 @@ keyed-stand part owners now sound image left =
           (IsOwnedArea part owners) now.may image (λ area is. is.0)
           (λ area is. each area is.0 (head_of part area)
           (head-block (area_of part area) now is.1))
-          most_areas part.first
-          (links-each part (IsOwnedArea part owners) now most_areas part.first
+          (area_count part.geometry) part.first
+          (links-each part (IsOwnedArea part owners) now (area_count part.geometry) part.first
           None sound.chain),
     )
 

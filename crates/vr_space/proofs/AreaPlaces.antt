@@ -18,9 +18,9 @@ use Rattle.vr_seqset.specs.Reading.{record_in}
 use Rattle.vr_space.specs.AreaCalls.{SameHere, SetsHere, item_here}
 use Rattle.vr_space.specs.Areas.{ChainStandsFor, EachAfter, IsFollowed, KeyedChain, KnowsAreas}
 use Rattle.vr_space.specs.Areas.{LinksIn}
-use Rattle.vr_space.specs.Areas.{area_after, area_for, area_of, areas_in, content_in, end_of, head_in}
+use Rattle.vr_space.specs.Areas.{area_after, area_for, area_of, areas_in, content_in, end_of}
+use Rattle.vr_space.specs.Areas.{head_in}
 use Rattle.vr_space.specs.Areas.{head_of, is_upto, reaches}
-use Rattle.vr_space.specs.Areas.{most_areas}
 use Rattle.vr_space.specs.Keyed.{HasEnds, InArea, IsHead, Keyed, KeyedStandsFor, entry_block}
 use Rattle.vr_space.specs.Keyed.{entry_in, records_of, way_in}
 use Rattle.vr_space.specs.Part.{KeyedShape, SameRecords, SetsOne, Stands, item_of}
@@ -100,7 +100,7 @@ pub comes-to : (part : KeyedChain) (image : Image) (content : Content)
     → ChainStandsFor part image content → (place : List ℕ) (area : ℕ)
     → area_for part image place ≡ Some area → ComesTo part image place area
 comes-to part image content stands place area found =
-    let count = most_areas in
+    let count = area_count part.geometry in
     let is : IsAreaFor part image place (areas_in part image) area =
     area-found part image place count part.first None stands.chain refl area found in
     let linked : IsLinkedArea part image area =
@@ -120,7 +120,7 @@ pub area-of-place : (part : KeyedChain) (image : Image) (content : Content)
     → (area : ℕ) × ComesTo part image place area
 area-of-place part image content stands place long fits =
     let there = some-area part image place (most-place place part.key long fits)
-    most_areas part.first None stands.chain in
+    (area_count part.geometry) part.first None stands.chain in
     (there.0, comes-to part image content stands place there.0 there.1)
 
 -- ---- what is there
@@ -130,14 +130,14 @@ pub item-of-area : (part : KeyedChain) (image : Image) (place : List ℕ) (area 
     → area_for part image place ≡ Some area
     → item_of (KeyedShape part) image place ≡ item_here (area_of part area) image place
 item-of-area part image place area found =
-    found-area part image place most_areas part.first
+    found-area part image place (area_count part.geometry) part.first
     ∙ ap (item_by part image place) found
 
 -- and where it comes to none, nothing is there
 pub item-of-none : (part : KeyedChain) (image : Image) (place : List ℕ)
     → area_for part image place ≡ None → item_of (KeyedShape part) image place ≡ None
 item-of-none part image place none =
-    found-area part image place most_areas part.first
+    found-area part image place (area_count part.geometry) part.first
     ∙ ap (item_by part image place) none
 
 -- So are the stage that is next there, whether a record fits, and what stands in its way.
@@ -164,7 +164,7 @@ pub here-stands : (part : KeyedChain) (image : Image) (content : Content)
     → ChainStandsFor part image content → (area : ℕ) → Contains (areas_in part image) area
     → KeyedStandsFor (area_of part area) image (content_in part image area)
 here-stands part image content stands area inside =
-    (links-in-area part image most_areas part.first None stands.chain area
+    (links-in-area part image (area_count part.geometry) part.first None stands.chain area
     inside).stands
 
 -- ---- other images
@@ -219,22 +219,22 @@ module _ (part : KeyedChain) (area : ℕ) (old new : Image) (changes : ChangesAr
         changes.others n (λ there. areas-apart part at area n differ inside there)
 
     -- The heads have the ends that they had,
-    pub same-each : EachAfter part (HasSameEnds part old new) (IsOf old) most_areas
+    pub same-each : EachAfter part (HasSameEnds part old new) (IsOf old) (area_count part.geometry)
         part.first
     same-each = each-all part (HasSameEnds part old new) (IsOf old)
         (λ at. by-area (HasSameEnds part old new) area at changes.ends
         (λ differ. subst (HasEnds (head_in part old at))
         (sym (other-blocks at differ (head_of part at) (omega arith, omega arith)))
         (same-ends (head_in part old at))))
-        most_areas part.first
+        (area_count part.geometry) part.first
 
     -- so each place comes to the area to which it came.
     pub same-area : (place : List ℕ) → area_for part new place ≡ area_for part old place
-    same-area place = area-kept part old new place most_areas part.first same-each
+    same-area place = area-kept part old new place (area_count part.geometry) part.first same-each
 
     -- The chain has the areas that it had, and what the part keeps of them in memory is right.
     pub same-areas : areas_in part new ≡ areas_in part old
-    same-areas = areas-kept part old new most_areas part.first same-each
+    same-areas = areas-kept part old new (area_count part.geometry) part.first same-each
 
     pub same-known : (areas : List ℕ) (ends : List (List ℕ)) → KnowsAreas part areas ends old
         → KnowsAreas part areas ends new
@@ -245,10 +245,10 @@ module _ (part : KeyedChain) (area : ℕ) (old new : Image) (changes : ChangesAr
         → item_here (area_of part area) new place ≡ item_here (area_of part area) old place
         → item_of (KeyedShape part) new place ≡ item_of (KeyedShape part) old place
     lift-item stands place here =
-        found-area part new place most_areas part.first
+        found-area part new place (area_count part.geometry) part.first
         ∙ ap (item_by part new place) (same-area place)
         ∙ by_found (area_for part old place) refl
-        ∙ sym (found-area part old place most_areas part.first)
+        ∙ sym (found-area part old place (area_count part.geometry) part.first)
       where
         by_found : (found : Option ℕ) → area_for part old place ≡ found
             → item_by part new place found ≡ item_by part old place found

@@ -14,8 +14,7 @@ use Rattle.vr_seqset.specs.Entry.{Entry}
 use Rattle.vr_seqset.specs.Reading.{record_in}
 use Rattle.vr_space.specs.AreaCalls.{IsNextHere, item_here, read_here}
 use Rattle.vr_space.specs.Areas.{KeyedChain, KnowsAreas, area_after, area_for, area_of, areas_after}
-use Rattle.vr_space.specs.Areas.{areas_in, end_of, head_in, is_upto, reaches}
-use Rattle.vr_space.specs.Areas.{most_areas}
+use Rattle.vr_space.specs.Areas.{area_by, areas_in, end_of, head_in, is_upto, reaches}
 use Rattle.vr_space.specs.Keyed.{IsHead, Keyed, entry_in, low_of, way_in}
 use Rattle.vr_space.specs.Part.{HasNoNext, IsNextPlace, KeyedShape, Stands, record_read}
 use Rattle.vr_space.specs.Room.{Range, is_above}
@@ -52,13 +51,6 @@ area-reaching part image place (suc k) area =
     by_next None more = refl
     by_next (Some further) more = more further
 
--- the first of these areas whose end isn't before the place
-abbrev pub area_by : List ℕ → List (List ℕ) → List ℕ → Option ℕ
-area_by [] ends place = None
-area_by (area ∷ areas) [] place = None
-area_by (area ∷ areas) (end ∷ ends) place =
-    cond (is_le (place_cmp place end)) (Some area) (area_by areas ends place)
-
 reaching-by : (part : KeyedChain) (image : Image) (place : List ℕ) (areas : List ℕ)
     (ends : List (List ℕ))
     → map Some ends ≡ map (λ (area : ℕ). end_of (head_in part image area)) areas
@@ -78,7 +70,7 @@ pub knows-area : (part : KeyedChain) (areas : List ℕ) (ends : List (List ℕ))
     → KnowsAreas part areas ends image → (place : List ℕ)
     → area_for part image place ≡ area_by areas ends place
 knows-area part areas ends image knows place =
-    area-reaching part image place most_areas part.first
+    area-reaching part image place (area_count part.geometry) part.first
     ∙ ap (reaching part image place) (sym knows.areas_are)
     ∙ reaching-by part image place areas ends knows.ends_are
 
@@ -112,7 +104,8 @@ some-between part image place head some = by_found (entry_in top place) refl
     by_found : (found : Option (Range × Entry)) → entry_in top place ≡ found
         → (is_above (low_of top) place ≡ true) × (reaches top place ≡ true)
     by_found None is = absurd
-        (some (ap (λ (found : Option (Range × Entry)). found_on image (way_in part place found)) is))
+        (some (ap (λ (found : Option (Range × Entry)). found_on image (way_in part place found))
+        is))
     by_found (Some at) is = found-between part top head place at is
 
 -- An area has no record that the search may find.
@@ -137,7 +130,7 @@ pub chain-none : (part : KeyedChain) (image : Image) (from : Whence)
     → HasNoNext (KeyedShape part) image from
 chain-none part image from none place allowed =
     by_areas (areas_in part image) none
-    (area-reaching part image place most_areas part.first)
+    (area-reaching part image place (area_count part.geometry) part.first)
   where
     by_areas : (areas : List ℕ) → All (HasNoneHere part image from) areas
         → area_for part image place ≡ reaching part image place areas
@@ -164,7 +157,8 @@ chain-none part image from none place allowed =
                 (All-head (HasNoneHere part image from) first rest each place allowed)
             by_test false same more = more same
 
-module _ (part : KeyedChain) (image : Image) (from : Whence) (stands : Stands (KeyedShape part) image)
+module _ (part : KeyedChain) (image : Image) (from : Whence)
+    (stands : Stands (KeyedShape part) image)
     (before rest : List ℕ) (at : ℕ) (areas : areas_in part image ≡ before ++ at ∷ rest)
     (none : All (HasNoneHere part image from) before) (place : List ℕ)
     (next : IsNextHere (area_of part at) image from place) where
@@ -173,7 +167,7 @@ module _ (part : KeyedChain) (image : Image) (from : Whence) (stands : Stands (K
       (Contains-append_right before (at ∷ rest) at (0, omega arith, refl))
 
   linked : IsLinkedArea part image at
-  linked = links-in-area part image most_areas part.first None stands.1.chain at
+  linked = links-in-area part image (area_count part.geometry) part.first None stands.1.chain at
       inside
 
   between : (is_above (low_of (head_in part image at)) place ≡ true)
@@ -220,7 +214,7 @@ module _ (part : KeyedChain) (image : Image) (from : Whence) (stands : Stands (K
   pub chain-next : IsNextPlace (KeyedShape part) image from place
   chain-next =
       let found : area_for part image place ≡ Some at =
-      area-reached part image place most_areas part.first None stands.1.chain at
+      area-reached part image place (area_count part.geometry) part.first None stands.1.chain at
       inside between.0 between.1 in
       record {
         allowed = next.allowed;
@@ -229,7 +223,7 @@ module _ (part : KeyedChain) (image : Image) (from : Whence) (stands : Stands (K
             (item-of-area part image place at found)) ∙ is);
         least = λ other allowed less.
             read-by part image other (reaching part image other (before ++ at ∷ rest))
-            (area-reaching part image other most_areas part.first
+            (area-reaching part image other (area_count part.geometry) part.first
             ∙ ap (reaching part image other) areas)
             (earlier other allowed less before none);
       }

@@ -105,7 +105,7 @@ pub use Rattle.vr_space.proofs.Resting.{IsResting, IsRestingRoom, area-on, due-h
 pub use Rattle.vr_space.proofs.Resting.{record-of-area, rest-here, resting-area, resting-each}
 pub use Rattle.vr_space.proofs.Resting.{resting-for, resting-links, resting-rooms}
 pub use Rattle.vr_space.proofs.Resting.{resting-stands, room-here}
-pub use Rattle.vr_space.proofs.AreaSearch.{HasNoneHere, area_by, area-reaching, chain-next}
+pub use Rattle.vr_space.proofs.AreaSearch.{HasNoneHere, area-reaching, chain-next}
 pub use Rattle.vr_space.proofs.AreaSearch.{chain-none, knows-area, none-past-here, reaching}
 pub use Rattle.vr_space.proofs.AreaSearch.{some-between}
 pub use Rattle.vr_space.proofs.AreaPlaces.{fits-of-area, room-of-area, same-areas, same-known}

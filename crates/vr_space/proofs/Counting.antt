@@ -12,7 +12,6 @@ use Rattle.vr_space.specs.Known.{Known}
 use Rattle.vr_types.specs.Content.Item.{Standing}
 use Rattle.vr_space.specs.AreaCalls.{item_here}
 use Rattle.vr_space.specs.Areas.{KeyedChain, area_for, area_of, areas_in, head_in}
-use Rattle.vr_space.specs.Areas.{most_areas}
 use Rattle.vr_space.specs.Keyed.{HoldRanges, HoldsRange, IsHead, Keyed, entries_of, entry_above}
 use Rattle.vr_space.specs.Keyed.{entry_block, entry_for, entry_in, items_of, length_of}
 use Rattle.vr_space.specs.Keyed.{lengths_of, low_of, range_of, records_in, way_in}
@@ -187,7 +186,7 @@ module _ (part : KeyedChain) (image : Image) (kept : Lengths) (place bytes : Lis
     (is : item_of (KeyedShape part) image place ≡ Some (Standing bytes)) (most : n ≤ length bytes)
   where
     abbrev count : ℕ
-    count = most_areas
+    count = area_count part.geometry
 
     -- the place comes to the area where an entry of its head has it
     here : (area : ℕ) → Contains (areas_in part image) area → (at : Range × Entry)

@@ -16,7 +16,6 @@ use Rattle.vr_types.specs.Seen.{Seen}
 use Rattle.vr_ci.specs.Interval as ci
 use Rattle.vr_seqset.specs.Entry.{Entry}
 use Rattle.vr_space.specs.Areas.{area_of}
-use Rattle.vr_space.specs.Areas.{most_areas}
 use Rattle.vr_space.specs.Keyed.{EachMayLeave, HoldsRange, IsKeyedSound, KeepsRoom, Keyed}
 use Rattle.vr_space.specs.Keyed.{entries_of, items_of, key_of}
 use Rattle.vr_space.specs.Keyed.{length_of, lengths_of, low_of, placed, range_of, records_in}
@@ -388,7 +387,7 @@ pub fewer-room : (shape : Shape) (owners : Owners) (fewer kept : Lengths) (now :
 fewer-room (KeyedShape part) owners fewer kept now less among sound room = each-after-less part
     (IsRoomyArea part owners kept now) (λ area. KeepsRoom (area_of part area) fewer now) now.may
     now.may (λ area is. area-fewer (area_of part area) fewer kept now less is.0.1 is.1)
-    (λ area is top may. may) most_areas part.first
+    (λ area is top may. may) (area_count part.geometry) part.first
     (roomy-each part owners kept now sound room)
 fewer-room (NumberedShape part) owners fewer kept now less among sound room =
     numbered-fewer part now.may fewer kept part.relative refl less among room

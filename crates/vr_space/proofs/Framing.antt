@@ -9,10 +9,11 @@ use Rattle.vr_types.specs.Seen.{Left, Seen}
 use Rattle.vr_types.specs.declared.unit.PartNo.{PartNo}
 use Rattle.vr_types.specs.Geometry.{area_count}
 use Rattle.vr_seqset.specs.Entry.{Entry}
-use Rattle.vr_space.specs.Areas.{EachAfter, IsChainSound, IsOwnedArea, KeyedChain, area_for, area_of}
+use Rattle.vr_space.specs.Areas.{EachAfter, IsChainSound, IsOwnedArea, KeyedChain, area_for}
+use Rattle.vr_space.specs.Areas.{area_of}
 use Rattle.vr_space.specs.Areas.{areas_in, head_in, head_of}
-use Rattle.vr_space.specs.Areas.{most_areas}
-use Rattle.vr_space.specs.Keyed.{HasEnds, InArea, IsHead, IsKeyedSound, Keyed, entry_block, entry_in}
+use Rattle.vr_space.specs.Keyed.{HasEnds, InArea, IsHead, IsKeyedSound, Keyed, entry_block}
+use Rattle.vr_space.specs.Keyed.{entry_in}
 use Rattle.vr_space.specs.Known.{Known}
 use Rattle.vr_space.specs.Met.{IsChainMet, Met}
 use Rattle.vr_space.specs.Owners.{Owners}
@@ -61,7 +62,7 @@ record IsStill (part : KeyedChain) (a b : Seen) (area : ℕ) : Type 0 where
 module _ (part : KeyedChain) (owners : Owners) (a b : Seen)
     (stays : StaysPart (KeyedShape part) owners a b) (chain : IsChainSound part owners a)
     (left : Left a a.cur) where
-  each-still : EachAfter part (IsStill part a b) (IsOf a.cur) most_areas part.first
+  each-still : EachAfter part (IsStill part a b) (IsOf a.cur) (area_count part.geometry) part.first
   each-still = each-after-image part
       (λ area. IsOwnedArea part owners area × IsKeyedSound (area_of part area) a)
       (IsStill part a b) a.may a.cur
@@ -72,8 +73,8 @@ module _ (part : KeyedChain) (owners : Owners) (a b : Seen)
         same = stays.same (head_of part area)
             (is.0.owned (head_of part area) (omega arith, omega arith));
       })
-      (λ area is. top-may area is.1) most_areas part.first
-      (links-each part (IsOwnedArea part owners) a most_areas part.first None
+      (λ area is. top-may area is.1) (area_count part.geometry) part.first
+      (links-each part (IsOwnedArea part owners) a (area_count part.geometry) part.first None
       chain.chain)
     where
       top-may : (area : ℕ) → IsKeyedSound (area_of part area) a
@@ -81,32 +82,32 @@ module _ (part : KeyedChain) (owners : Owners) (a b : Seen)
       top-may area sound = left.each (head_of part area) (omega (arith, sound.area))
 
   each-same : EachAfter part (HasSameEnds part a.cur b.cur) (IsOf a.cur)
-      most_areas part.first
+      (area_count part.geometry) part.first
   each-same = each-after-less part (IsStill part a b) (HasSameEnds part a.cur b.cur) (IsOf a.cur)
       (IsOf a.cur)
       (λ area is. subst (HasEnds (head_in part a.cur area)) (sym is.same)
       (same-ends (head_in part a.cur area)))
-      (λ area is top same. same) most_areas part.first each-still
+      (λ area is top same. same) (area_count part.geometry) part.first each-still
 
   -- so the chain has the areas that it had,
   areas-stay : areas_in part b.cur ≡ areas_in part a.cur
-  areas-stay = areas-kept part a.cur b.cur most_areas part.first each-same
+  areas-stay = areas-kept part a.cur b.cur (area_count part.geometry) part.first each-same
 
   -- a place comes to the same one,
   area-stay : (place : List ℕ) → area_for part b.cur place ≡ area_for part a.cur place
-  area-stay place = area-kept part a.cur b.cur place most_areas part.first each-same
+  area-stay place = area-kept part a.cur b.cur place (area_count part.geometry) part.first each-same
 
   -- and each is as it was.
   area-still : (area : ℕ) → Contains (areas_in part a.cur) area → IsStill part a b area
-  area-still area = area-each part (IsStill part a b) a.cur most_areas part.first
+  area-still area = area-each part (IsStill part a b) a.cur (area_count part.geometry) part.first
       area each-still
 
   found-still : (place : List ℕ) (area : ℕ) → area_for part a.cur place ≡ Some area
       → IsStill part a b area
   found-still place area found = area-still area
-      (area-found part a.cur place most_areas part.first None
+      (area-found part a.cur place (area_count part.geometry) part.first None
       (links-image part (IsOwnedArea part owners) a a.cur (λ at own. own.there)
-      (λ at own n is. left.each n is.0) most_areas part.first None chain.chain)
+      (λ at own n is. left.each n is.0) (area_count part.geometry) part.first None chain.chain)
       refl area found).inside
 
   chain-under : (split : Option AreaSplit) → KeyedUnderWay part split a

@@ -26,7 +26,6 @@ use Rattle.vr_space.specs.Keyed.{EachMayLeave, HoldsRange, IsKeyedSound, Keyed, 
 use Rattle.vr_space.specs.Keyed.{entries_of, entry_in, way_under}
 use Rattle.vr_space.specs.Areas.{EachAfter, IsFollowed, IsOwnedArea, KeyedChain, Links, area_of}
 use Rattle.vr_space.specs.Areas.{areas_way, end_of, head_of, reaches, way_past}
-use Rattle.vr_space.specs.Areas.{most_areas}
 use Rattle.vr_space.specs.Keyed.{entry_above, entry_block, entry_for, items_of, key_of, length_of}
 use Rattle.vr_space.specs.Keyed.{lengths_of, low_of, placed, range_of, records_in, records_of}
 use Rattle.vr_space.specs.Owners.{Owners}
@@ -562,8 +561,9 @@ pub keep-room : (shape : Shape) (owners : Owners) (kept : Lengths) (place : List
     → (bytes : List ℕ) × (item ≡ Some (Standing bytes)) × MayGoBack shape (length bytes) n)
     → HasKeptRoom shape (with_length kept place n) now
 keep-room (KeyedShape part) owners kept place n now long sound room stands =
-    let count = most_areas in
-    keep-links part (IsOwnedArea part owners) kept place n now long count part.first None sound.chain
+    let count = area_count part.geometry in
+    keep-links part (IsOwnedArea part owners) kept place n now long count part.first None
+    sound.chain
     room (λ above. stands)
 keep-room (NumberedShape part) owners kept place n now numbered sound room stands =
     places-kept (HasKeptPlace part now.may) kept place n

@@ -16,7 +16,6 @@ use Rattle.vr_space.specs.Areas.{AreLinked, ChainHasRoom, ChainKeepsRoom, ChainS
 use Rattle.vr_space.specs.Areas.{IsChainAtRest, IsChainSound, IsOwnedArea, IsQuietArea, KeyedChain}
 use Rattle.vr_space.specs.Areas.{LinksIn, area_for, area_of, areas_in, content_after, head_in}
 use Rattle.vr_space.specs.Areas.{head_of}
-use Rattle.vr_space.specs.Areas.{most_areas}
 use Rattle.vr_space.specs.Keyed.{HasEnds, InArea, IsHead, IsKeyedAtRest, IsKeyedSound, KeepsEnds}
 use Rattle.vr_space.specs.Keyed.{KeepsRoom, area_way, entries_of, low_of}
 use Rattle.vr_space.specs.Owners.{Owners}
@@ -39,7 +38,8 @@ use Rattle.vr_space.proofs.Resting.{resting-area, resting-each, resting-for, res
 use Rattle.vr_space.proofs.Resting.{resting-rooms}
 use Rattle.vr_space.proofs.Rooms.{area-room-image, area-room-less}
 use Rattle.vr_space.proofs.SameEnds.{HasSameEnds, IsAlike, KeepsHead, MayHoldBy, area-kept}
-use Rattle.vr_space.proofs.SameEnds.{each-after-kept, keeps-head, links-in-kept, links-kept, ways-down}
+use Rattle.vr_space.proofs.SameEnds.{each-after-kept, keeps-head, links-in-kept, links-kept}
+use Rattle.vr_space.proofs.SameEnds.{ways-down}
 use Rattle.vr_space.proofs.Ways.{find-less, found-may}
 
 -- What calls leave that put into one area alone: the other blocks as they were, and heads with the
@@ -93,7 +93,7 @@ module _ (part : KeyedChain) (owners : Owners) (area : ℕ) (old new : Seen)
 
   heads-each : EachArea part (KeepsHead part old.cur new.may) (IsOf old.cur)
   heads-each = each-after-less part (IsResting part owners old) (KeepsHead part old.cur new.may)
-      (IsOf old.cur) (IsOf old.cur) heads-kept (λ at is top here. here) most_areas
+      (IsOf old.cur) (IsOf old.cur) heads-kept (λ at is top here. here) (area_count part.geometry)
       part.first (resting-each part owners old rests left)
 
   sound-kept : IsKeyedSound (area_of part area) new → (at : ℕ) → IsResting part owners old at
@@ -105,12 +105,12 @@ module _ (part : KeyedChain) (owners : Owners) (area : ℕ) (old new : Seen)
   -- so the chain goes on as it did.
   chain-kept : (Own : ℕ → Type 0) → ((at : ℕ) → IsResting part owners old at → Own at)
       → IsKeyedSound (area_of part area) new → AreLinked part Own new
-  chain-kept Own own sound = links-kept part old.cur Own new most_areas part.first
+  chain-kept Own own sound = links-kept part old.cur Own new (area_count part.geometry) part.first
       None (resting-links part owners old rests left)
       (each-after-less part (IsResting part owners old)
       (λ at. KeepsHead part old.cur new.may at × Own at × IsKeyedSound (area_of part at) new)
       (IsOf old.cur) (IsOf old.cur) (λ at is. (heads-kept at is, own at is, sound-kept sound at is))
-      (λ at is top here. here) most_areas part.first
+      (λ at is top here. here) (area_count part.geometry) part.first
       (resting-each part owners old rests left))
 
   -- The part is sound where the area is,
@@ -149,7 +149,7 @@ module _ (part : KeyedChain) (owners : Owners) (area : ℕ) (old new : Seen)
       → MayHold (KeyedShape part) new.may place item
       → MayAlsoHold (KeyedShape part) old.may A place item
   lift-holds A place item here holds = by_found (area_for part old.cur place) refl
-      (ways-down part old.cur new.may place item most_areas part.first heads-each
+      (ways-down part old.cur new.may place item (area_count part.geometry) part.first heads-each
       holds)
       (hold-up part owners old rests left place item)
     where
@@ -220,35 +220,35 @@ module _ (part : KeyedChain) (owners : Owners) (area : ℕ) (old : Seen)
 
   alike-each : EachArea part (IsAlike part old.cur image) (IsOf old.cur)
   alike-each = each-after-less part (IsResting part owners old) (IsAlike part old.cur image)
-      (IsOf old.cur) (IsOf old.cur) image-alike (λ at is top here. here) most_areas
+      (IsOf old.cur) (IsOf old.cur) image-alike (λ at is top here. here) (area_count part.geometry)
       part.first (resting-each part owners old rests left)
 
   -- So is the chain,
-  image-links : LinksIn part image most_areas part.first None
-  image-links = links-in-kept part old.cur image most_areas part.first None
+  image-links : LinksIn part image (area_count part.geometry) part.first None
+  image-links = links-in-kept part old.cur image (area_count part.geometry) part.first None
       (resting-links part owners old rests left) alike-each
 
   -- and what is true of each area of it before is true of each now.
   image-each : (P : ℕ → Type 0) → ((at : ℕ) → IsResting part owners old at → P at)
       → EachArea part P (IsOf image)
-  image-each P all = each-after-kept part old.cur P (IsOf image) most_areas
+  image-each P all = each-after-kept part old.cur P (IsOf image) (area_count part.geometry)
       part.first
       (each-after-less part (IsResting part owners old)
       (λ at. KeepsHead part old.cur (IsOf image) at × P at) (IsOf old.cur) (IsOf old.cur)
       (λ at is. (keeps-head part old.cur image at (image-alike at is).ends, all at is))
-      (λ at is top here. here) most_areas part.first
+      (λ at is top here. here) (area_count part.geometry) part.first
       (resting-each part owners old rests left))
 
   -- a place has the item of the area to which it came
   image-item : (place : List ℕ) → item_of (KeyedShape part) image place
       ≡ item_by part image place (area_for part old.cur place)
   image-item place =
-      found-area part image place most_areas part.first
+      found-area part image place (area_count part.geometry) part.first
       ∙ ap (item_by part image place)
-      (area-kept part old.cur image place most_areas part.first
+      (area-kept part old.cur image place (area_count part.geometry) part.first
       (each-after-less part (IsAlike part old.cur image) (HasSameEnds part old.cur image)
       (IsOf old.cur) (IsOf old.cur) (λ at is. is.ends) (λ at is top here. here)
-      most_areas part.first alike-each))
+      (area_count part.geometry) part.first alike-each))
 
   -- Each place of the part has what it might hold before, or what is allowed, where that is so of
   -- the area.
@@ -269,7 +269,8 @@ module _ (part : KeyedChain) (owners : Owners) (area : ℕ) (old : Seen)
       by_found (Some at) is up = by-area
           (λ one. ((item : Option Item) → MayHoldHere (area_of part one) old.may place item
           → MayHold (KeyedShape part) old.may place item)
-          → MayAlsoHold (KeyedShape part) old.may A place (item_here (area_of part one) image place))
+          → MayAlsoHold (KeyedShape part) old.may A place
+          (item_here (area_of part one) image place))
           area at
           (λ back. ⊎_elim (λ before. inl (back _ before)) (λ added. inr added) (here place))
           (λ differ back.
@@ -285,7 +286,7 @@ module _ (part : KeyedChain) (owners : Owners) (area : ℕ) (old : Seen)
       (item_here (area_of part area) image place))
       → HasOnly (KeyedShape part) owners (MayAlsoHold (KeyedShape part) old.may A) image
   image-only A here =
-      let content = content_after part image most_areas part.first in
+      let content = content_after part image (area_count part.geometry) part.first in
       let stands : ChainStandsFor part image content =
       record { part_is = rests.on.part_is; chain = image-links; records = refl } in
       record {
@@ -302,13 +303,13 @@ module _ (part : KeyedChain) (owners : Owners) (area : ℕ) (old : Seen)
       → KeepsRoom (area_of part at) kept old → HasRoomHere (area_of part at) kept image)
       → ChainKeepsRoom part kept old → ChainHasRoom part kept image
   image-room kept all room = each-after-kept part old.cur
-      (λ at. HasRoomHere (area_of part at) kept image) (IsOf image) most_areas
+      (λ at. HasRoomHere (area_of part at) kept image) (IsOf image) (area_count part.geometry)
       part.first
       (each-after-less part (IsRestingRoom part owners kept old)
       (λ at. KeepsHead part old.cur (IsOf image) at × HasRoomHere (area_of part at) kept image)
       (IsOf old.cur) (IsOf old.cur)
       (λ at is. (keeps-head part old.cur image at (image-alike at is.0).ends, all at is.0 is.1))
-      (λ at is top here. here) most_areas part.first
+      (λ at is top here. here) (area_count part.geometry) part.first
       (resting-rooms part owners old rests left kept room))
 
   pub lift-image-room : (kept : Lengths) → HasRoomHere (area_of part area) kept image
@@ -400,7 +401,7 @@ module _ (part : KeyedChain) (owners : Owners) (area : ℕ) (old new : Seen)
     pub lift-room : (kept : Lengths) → KeepsRoom (area_of part area) kept new
         → ChainKeepsRoom part kept old → ChainKeepsRoom part kept new
     lift-room kept here room = each-after-kept part old.cur
-        (λ at. KeepsRoom (area_of part at) kept new) new.may most_areas part.first
+        (λ at. KeepsRoom (area_of part at) kept new) new.may (area_count part.geometry) part.first
         (each-after-less part (IsRestingRoom part owners kept old)
         (λ at. KeepsHead part old.cur new.may at × KeepsRoom (area_of part at) kept new)
         (IsOf old.cur) (IsOf old.cur)
@@ -410,7 +411,7 @@ module _ (part : KeyedChain) (owners : Owners) (area : ℕ) (old new : Seen)
               (λ differ. area-room-less (area_of part at) kept old new
               (others-less part owners area old new rests left inside puts at differ) is.0.1 is.1),
         ))
-        (λ at is top is_top. is_top) most_areas part.first
+        (λ at is top is_top. is_top) (area_count part.geometry) part.first
         (resting-rooms part owners old rests left kept room))
 
     -- The current head has the ends that it had.
@@ -431,11 +432,11 @@ module _ (part : KeyedChain) (owners : Owners) (area : ℕ) (old new : Seen)
         → IsDueTo (KeyedShape part) listed old place → IsDueTo (KeyedShape part) listed new place
     lift-due-place listed place changes here due item holds =
         by_found (area_for part old.cur place) refl
-        (ways-down part old.cur (MayOnceForced listed new) place item most_areas
+        (ways-down part old.cur (MayOnceForced listed new) place item (area_count part.geometry)
         part.first
         (each-after-less part (KeepsHead part old.cur new.may)
         (KeepsHead part old.cur (MayOnceForced listed new)) (IsOf old.cur) (IsOf old.cur)
-        (λ at keeps top may. keeps top may.0) (λ at keeps top is. is) most_areas
+        (λ at keeps top may. keeps top may.0) (λ at keeps top is. is) (area_count part.geometry)
         part.first (heads-each part owners area old new rests left inside puts)) holds)
       where
         now-at : (found : Option ℕ) → area_for part old.cur place ≡ found

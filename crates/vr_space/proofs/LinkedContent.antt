@@ -10,9 +10,9 @@ use Rattle.vr_seqset.specs.Reading.{record_in}
 use Rattle.vr_space.specs.AreaCalls.{item_here}
 use Rattle.vr_space.specs.Keyed.{KeyedStandsFor, entries_of, low_of, way_under}
 use Rattle.vr_space.specs.Areas.{ChainStandsFor, EachAfter, IsFollowed, KeyedChain}
-use Rattle.vr_space.specs.Areas.{LinksIn, area_after, area_of, areas_after, areas_way, content_after}
+use Rattle.vr_space.specs.Areas.{LinksIn, area_after, area_of, areas_after, areas_way}
+use Rattle.vr_space.specs.Areas.{content_after}
 use Rattle.vr_space.specs.Areas.{content_in, end_of, head_in, is_upto, reaches}
-use Rattle.vr_space.specs.Areas.{most_areas}
 use Rattle.vr_space.specs.Room.{is_above}
 use Rattle.vr_space.specs.Rosters.{IsOf, after_next}
 use Rattle.vr_space.specs.Way.{Found, found_on}
@@ -323,10 +323,10 @@ linked-content part image place (suc k) area low chain above =
 pub chain-item : (part : KeyedChain) (image : Image) (content : Content)
     → ChainStandsFor part image content → (place : List ℕ)
     → item_at content place
-    ≡ found_on image (areas_way part place most_areas part.first)
+    ≡ found_on image (areas_way part place (area_count part.geometry) part.first)
 chain-item part image content stands place =
     ap (λ (c : Content). item_at c place) stands.records
-    ∙ linked-content part image place most_areas part.first None stands.chain refl
+    ∙ linked-content part image place (area_count part.geometry) part.first None stands.chain refl
 
 -- What is true of no item, and of two contents one after the other where it is of both, is true of
 -- the content of a chain where it is of that of each area.

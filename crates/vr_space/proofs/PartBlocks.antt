@@ -10,7 +10,6 @@ use Rattle.vr_types.specs.Seen.{Seen}
 use Rattle.vr_types.proofs.CallerLemmas.{cur-elsewhere}
 use Rattle.vr_space.specs.Areas.{IsChainAtRest, IsChainOn, IsChainSound, IsOwnedArea, IsQuietArea}
 use Rattle.vr_space.specs.Areas.{KeyedChain, area_of, head_of}
-use Rattle.vr_space.specs.Areas.{most_areas}
 use Rattle.vr_space.specs.Keyed.{IsKeyedAtRest, Keyed}
 use Rattle.vr_space.specs.Owners.{Owners}
 use Rattle.vr_space.specs.Part.{InFirstArea, InPart, IsAtRest, IsQuiet, IsSound, KeyedShape}
@@ -64,7 +63,7 @@ pub way-within : (shape : Shape) (owners : Owners) (now : Seen) → IsSound shap
     → (place : List ℕ) → IsWithin (IsPartBlock shape owners now) now.may (way_to shape place)
 way-within (KeyedShape part) owners now sound place = links-within part (IsOwnedArea part owners)
     (IsPartBlock (KeyedShape part) owners now) now place (keyed-owned part owners now)
-    most_areas part.first None sound.chain
+    (area_count part.geometry) part.first None sound.chain
 way-within (NumberedShape part) owners now sound place = numbered-within part owners now sound place
 
 -- So a place may hold no more where no more is allowed of the part's blocks.
@@ -80,7 +79,7 @@ holds-less shape owners now less sound each place item = find-less (IsPartBlock 
 pub first-owned : (shape : Shape) (owners : Owners) (now : Seen) → IsSound shape owners now
     → (n : ℕ) → InFirstArea shape n → InPart shape owners n
 first-owned (KeyedShape part) owners now sound n inside =
-    (links-here part (IsOwnedArea part owners) now most_areas part.first None
+    (links-here part (IsOwnedArea part owners) now (area_count part.geometry) part.first None
     sound.chain).owned n inside
 first-owned (NumberedShape part) owners now sound n inside =
     (chain-here part (IsOwnArea part owners) (IsFilled part) now.may (area_count part.geometry)
@@ -92,7 +91,7 @@ pub rest-sound : (shape : Shape) (owners : Owners) (now : Seen) → IsAtRest sha
 rest-sound (KeyedShape part) owners now rests = record {
   on = rests.on;
   chain = links-less part (IsQuietArea part owners now) (IsOwnedArea part owners) now now refl refl
-      (λ area is. is.own) (λ area is n inside block may. may) most_areas part.first
+      (λ area is. is.own) (λ area is n inside block may. may) (area_count part.geometry) part.first
       None rests.chain;
 }
 rest-sound (NumberedShape part) owners now rests = record {
@@ -191,7 +190,7 @@ module _ (a b : Seen) where
     chain = links-less part (IsOwnedArea part owners) (IsOwnedArea part owners) a b count size
         (λ area own. own)
         (λ area own n is block may. less n block (keyed-owned part owners a area own n is) may)
-        most_areas part.first None sound.chain;
+        (area_count part.geometry) part.first None sound.chain;
   }
   sound-less (NumberedShape part) owners count size less sound = record {
     on = on-less part a b count size sound.on;
@@ -210,7 +209,7 @@ module _ (a b : Seen) where
     chain = links-less part (IsQuietArea part owners a) (IsQuietArea part owners b) a b stays.count
         stays.size (quiet-stays part owners stays rests.on)
         (λ area is n inside block. stays.fewer n block inside.0 (is.own.owned n inside.1))
-        most_areas part.first None rests.chain;
+        (area_count part.geometry) part.first None rests.chain;
   }
   rest-stays (NumberedShape part) owners stays rests =
       let there : (area : ℕ) → IsOwnArea part owners area → (n : ℕ) → IsInArea part area n
@@ -258,7 +257,7 @@ module _ (owners grown : Owners) (now : Seen)
     on = sound.on;
     chain = links-less part (IsOwnedArea part owners) (IsOwnedArea part grown) now now refl refl
         (owned-grows part owners grown leaves) (λ area own n inside block may. may)
-        most_areas part.first None sound.chain;
+        (area_count part.geometry) part.first None sound.chain;
   }
   sound-grows (NumberedShape part) sound = record {
     on = sound.on;
@@ -277,7 +276,7 @@ module _ (owners grown : Owners) (now : Seen)
           own = owned-grows part owners grown leaves area is.own;
           one_head = is.one_head;
         })
-        (λ area is n inside block may. may) most_areas part.first None rests.chain;
+        (λ area is n inside block may. may) (area_count part.geometry) part.first None rests.chain;
   }
   rest-grows (NumberedShape part) rests = record {
     on = rests.on;
@@ -312,9 +311,9 @@ keyed-quiet part owners other now rests sound = record {
       (λ area. IsQuietArea part other now area × IsOwnedArea part owners area)
       (IsQuietArea part owners now) now now refl refl
       (λ area both. record { own = both.1; one_head = both.0.one_head })
-      (λ area both n inside block may. may) most_areas part.first None
+      (λ area both n inside block may. may) (area_count part.geometry) part.first None
       (links-both part (IsQuietArea part other now) (IsOwnedArea part owners) now
-      most_areas part.first None rests.chain sound.chain);
+      (area_count part.geometry) part.first None rests.chain sound.chain);
 }
 
 -- A part that is at rest by some owners is so by those by which it is sound.

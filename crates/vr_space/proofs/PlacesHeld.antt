@@ -15,7 +15,6 @@ use Rattle.vr_ci.specs.Interval as ci
 use Rattle.vr_seqset.specs.Entry.{Entry}
 use Rattle.vr_space.specs.Room.{Range, is_in}
 use Rattle.vr_space.specs.Areas.{ChainStandsFor, KeyedChain, area_of, content_after, head_in}
-use Rattle.vr_space.specs.Areas.{most_areas}
 use Rattle.vr_space.specs.Keyed.{HoldRanges, IsKept, Keyed, content_from, entries_of, entry_block}
 use Rattle.vr_space.specs.Keyed.{items_of, key_of, low_of, placed, range_of, records_in}
 use Rattle.vr_space.specs.Part.{IsPlaceOf, KeyedShape, NumberedShape, Shape, Stands, item_of}
@@ -71,12 +70,12 @@ content-keys part image low (entry ∷ entries) hold =
 chain-keys : (part : KeyedChain) (image : Image) → {content : Content}
     → ChainStandsFor part image content
     → AllByRecursion (HasKey part.key)
-    (content_after part image most_areas part.first)
+    (content_after part image (area_count part.geometry) part.first)
 chain-keys part image stands = content-each (AllByRecursion (HasKey part.key)) tt
     (keys-both part.key) part image
     (λ area is. content-keys (area_of part area) image (low_of (head_in part image area))
     (entries_of (head_in part image area)) is.stands.intervals)
-    most_areas part.first None stands.chain
+    (area_count part.geometry) part.first None stands.chain
 
 -- what stands at a place of a content has the length of its keys
 found-key : (key : ℕ) (content : Content) (place : List ℕ) → AllByRecursion (HasKey key) content
@@ -104,7 +103,7 @@ read-place (KeyedShape part) image place stands some =
     by_item None is =
         absurd (some (ap (λ (item : Option Item). option_and_then record_of item) is))
     by_item (Some item) is =
-        found-key part.key (content_after part image most_areas part.first) place
+        found-key part.key (content_after part image (area_count part.geometry) part.first) place
         (chain-keys part image stands.1) item
         (sym (ap (λ (content : Content). item_at content place) stands.1.records)
         ∙ content_item (KeyedShape part) image stands.0 stands.1 place ∙ is)

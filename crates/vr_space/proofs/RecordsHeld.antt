@@ -13,7 +13,6 @@ use Rattle.vr_ci.specs.Interval as ci
 use Rattle.vr_seqset.specs.Entry.{Entry}
 use Rattle.vr_space.specs.Room.{Range, is_in}
 use Rattle.vr_space.specs.Areas.{ChainStandsFor, KeyedChain, area_of, head_in}
-use Rattle.vr_space.specs.Areas.{most_areas}
 use Rattle.vr_space.specs.Keyed.{HoldRanges, IsKept, IsValid, content_from, entries_of, entry_block}
 use Rattle.vr_space.specs.Keyed.{items_of, low_of, placed, range_of, records_in}
 use Rattle.vr_space.specs.Numbered.{start_of}
@@ -82,9 +81,10 @@ content-records part image content stands = subst (AreRecords part) (sym stands.
     (content-each (AreRecords part) tt (append-records part) part image
     (λ area is. from-records part area image (low_of (head_in part image area))
     (entries_of (head_in part image area)) is.stands.intervals)
-    most_areas part.first None stands.chain)
+    (area_count part.geometry) part.first None stands.chain)
 
-read-record : (part : KeyedChain) (content : Content) (place bytes : List ℕ) → AreRecords part content
+read-record : (part : KeyedChain) (content : Content) (place bytes : List ℕ) → AreRecords part
+    content
     → item_at content place ≡ Some (Standing bytes) → IsRecordOf (KeyedShape part) place bytes
 read-record part [] place bytes all is = absurd (cc)
 read-record part (entry ∷ content) place bytes all is =

@@ -11,7 +11,6 @@ use Rattle.vr_space.specs.Areas.{ChainKeepsRoom, EachArea}
 use Rattle.vr_space.specs.Areas.{IsChainOn, IsChainAtRest, IsQuietArea, KeyedChain}
 use Rattle.vr_space.specs.Areas.{LinksIn, area_for, area_of, areas_in, content_after, head_in}
 use Rattle.vr_space.specs.Areas.{head_of}
-use Rattle.vr_space.specs.Areas.{most_areas}
 use Rattle.vr_space.specs.Keyed.{HasEnds, IsKeyedAtRest, IsKeyedSound}
 use Rattle.vr_space.specs.Keyed.{IsValid, KeepsRoom, key_of}
 use Rattle.vr_space.specs.Owners.{Owners}
@@ -41,14 +40,14 @@ IsRestingRoom part owners kept now area =
 module _ (part : KeyedChain) (owners : Owners) (old : Seen) (rests : IsChainAtRest part owners old)
     (left : Left old old.cur) where
   abbrev count : ℕ
-  count = most_areas
+  count = area_count part.geometry
 
   head-may : (at : ℕ) → IsKeyedSound (area_of part at) old
       → old.may (head_of part at) (head_in part old.cur at)
   head-may at sound = left.each (head_of part at) (omega (arith, sound.area))
 
   -- its chain is in order,
-  pub resting-links : LinksIn part old.cur most_areas part.first None
+  pub resting-links : LinksIn part old.cur (area_count part.geometry) part.first None
   resting-links = links-image part (IsQuietArea part owners old) old old.cur
       (λ at is. is.own.there) (λ at is n block. left.each n block.0) count part.first None
       rests.chain

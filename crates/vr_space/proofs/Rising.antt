@@ -27,7 +27,6 @@ use Rattle.vr_space.specs.Keyed.{placed, records_of, records_in, range_of, conte
 use Rattle.vr_space.specs.Keyed.{last_high, low_of}
 use Rattle.vr_space.specs.Areas.{IsFollowed, KeyedChain, LinksIn, area_of, content_after, end_of}
 use Rattle.vr_space.specs.Areas.{head_in}
-use Rattle.vr_space.specs.Areas.{most_areas}
 use Rattle.vr_space.specs.Numbered.{start_of}
 use Rattle.vr_space.specs.Part.{Shape, KeyedShape, NumberedShape, StandsFor}
 use Rattle.vr_space.specs.Rosters.{Numbered, after_next}
@@ -326,7 +325,7 @@ items-lengths part from to ((place, item) ∷ content) (number, is, least, below
 pub stands_content : (shape : Shape) (image : Image) (content : Content)
     → StandsFor shape image content → IsContent content
 stands_content (KeyedShape part) image content stands =
-    let count = most_areas in
+    let count = area_count part.geometry in
     subst IsContent (sym stands.records) (record {
       ascends = sorted-rising _ (chain-rises part image count part.first None stands.chain);
       lengths = All-from_recursion HasLength _

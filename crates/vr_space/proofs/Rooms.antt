@@ -12,7 +12,6 @@ use Rattle.vr_space.specs.Room.{Lengths, HaveRoom}
 use Rattle.vr_space.specs.AreaCalls.{HasRoomHere}
 use Rattle.vr_space.specs.Areas.{ChainKeepsRoom, EachAfter, IsChainSound, IsOwnedArea, KeyedChain}
 use Rattle.vr_space.specs.Areas.{area_of, head_of}
-use Rattle.vr_space.specs.Areas.{most_areas}
 use Rattle.vr_space.specs.Keyed.{Keyed, EachMayLeave, HaveRooms, IsKeyedSound, KeepsRoom}
 use Rattle.vr_space.specs.Keyed.{InArea, entries_of, entry_block, lengths_of, low_of}
 use Rattle.vr_space.specs.Owners.{Owners}
@@ -46,10 +45,10 @@ IsRoomyArea part owners kept now area =
 
 pub roomy-each : (part : KeyedChain) (owners : Owners) (kept : Lengths) (now : Seen)
     → IsChainSound part owners now → ChainKeepsRoom part kept now
-    → EachAfter part (IsRoomyArea part owners kept now) now.may most_areas
+    → EachAfter part (IsRoomyArea part owners kept now) now.may (area_count part.geometry)
     part.first
 roomy-each part owners kept now sound room =
-    let count = most_areas in
+    let count = area_count part.geometry in
     each-after-both part
     (λ area. IsOwnedArea part owners area × IsKeyedSound (area_of part area) now)
     (λ area. KeepsRoom (area_of part area) kept now) now.may count part.first
@@ -68,7 +67,7 @@ room-less (KeyedShape part) owners kept a b less sound room =
     (λ area is. area-room-less (area_of part area) kept a b (each area is) is.0.1 is.1)
     (λ area is top. each area is (head_of part area) top
     (head-block (area_of part area) a is.0.1))
-    most_areas part.first (roomy-each part owners kept a sound room)
+    (area_count part.geometry) part.first (roomy-each part owners kept a sound room)
 room-less (NumberedShape part) owners kept a b less sound room =
     numbered-less part (IsOwnArea part owners) (IsFilled part) b.may a.may kept
     (λ area own n inside block. less n block (area-owned part owners a sound.on area own n inside))
@@ -120,7 +119,7 @@ room-image (KeyedShape part) owners kept now sound room image left =
     (mine area is.0.0))
     (λ area is. let at_head = head-block (area_of part area) now is.0.1 in
     (mine area is.0.0).each (head_of part area) at_head.0 at_head.1)
-    most_areas part.first (roomy-each part owners kept now sound room)
+    (area_count part.geometry) part.first (roomy-each part owners kept now sound room)
 room-image (NumberedShape part) owners kept now sound room image left =
     numbered-less part (IsOwnArea part owners) (IsFilled part) (IsOf image) now.may kept
     (λ area own n inside block is.

@@ -16,7 +16,6 @@ use Rattle.vr_space.specs.Areas.{EachAfter, EachArea, IsFollowed, KeyedChain, Kn
 use Rattle.vr_space.specs.Areas.{LinksIn, area_after}
 use Rattle.vr_space.specs.Areas.{area_of, areas_after, areas_way, end_of, head_in, head_of, is_upto}
 use Rattle.vr_space.specs.Areas.{reaches}
-use Rattle.vr_space.specs.Areas.{most_areas}
 use Rattle.vr_space.specs.Rosters.{IsOf, after_next}
 use Rattle.vr_space.specs.Way.{Found, MayFind, Way}
 use Rattle.vr_space.proofs.Ends.{ends-low}
@@ -300,7 +299,7 @@ pub knows-kept : (part : KeyedChain) (image other : Image) (areas : List ℕ) (e
     → EachArea part (HasSameEnds part image other) (IsOf image)
     → KnowsAreas part areas ends image → KnowsAreas part areas ends other
 knows-kept part image other areas ends each knows =
-    let count = most_areas in
+    let count = area_count part.geometry in
     let now : ℕ → Option (List ℕ) = λ area. end_of (head_in part image area) in
     let then : ℕ → Option (List ℕ) = λ area. end_of (head_in part other area) in
     let same : AllByRecursion (λ area. then area ≡ now area) areas =

@@ -13,7 +13,6 @@ use Rattle.vr_types.specs.Image.{Image, block_at}
 use Rattle.vr_ci.specs.Interval as ci
 use Rattle.vr_seqset.specs.Entry.{Entry}
 use Rattle.vr_space.specs.Areas.{KeyedChain, area_for, area_of, head_in}
-use Rattle.vr_space.specs.Areas.{most_areas}
 use Rattle.vr_space.specs.Keyed.{Keyed, entry_block, entry_in, items_of, placed}
 use Rattle.vr_space.specs.Keyed.{way_in}
 use Rattle.vr_space.specs.Numbered.{left_in}
@@ -57,7 +56,7 @@ area-stands part image place (Some area) =
 pub item-read : (shape : Shape) (image : Image) (place : List ℕ) → WithdrawsNone shape
     → item_of shape image place ≡ option_map Standing (record_read shape image place)
 item-read (KeyedShape part) image place none = subst IsRecord
-    (sym (found-area part image place most_areas part.first))
+    (sym (found-area part image place (area_count part.geometry) part.first))
     (area-stands part image place (area_for part image place))
 item-read (NumberedShape part) image place relative = slot-stands part image place relative
 

@@ -34,10 +34,6 @@ pub record IsKeyedChain (part : KeyedChain) : Type 0 where
   pub first : part.first < area_count part.geometry
   pub fits : part.most + 7 ≤ part.geometry.size
 
--- How many areas a chain has at most: one, until control areas can split.
-abbrev pub most_areas : ℕ
-most_areas = 1
-
 -- one of its areas, by the number that it has on the volume
 abbrev pub area_of : KeyedChain → ℕ → Keyed
 area_of part area = record {
@@ -92,7 +88,7 @@ Links part Own now (suc k) area low =
 
 -- the same from the part's first area on
 abbrev pub AreLinked : KeyedChain → (ℕ → Type 0) → Seen → Type 0
-AreLinked part Own now = Links part Own now most_areas part.first None
+AreLinked part Own now = Links part Own now (area_count part.geometry) part.first None
 
 -- the volume has the part's blocks, with their size
 pub record IsChainOn (part : KeyedChain) (now : Seen) : Type 0 where
@@ -125,7 +121,7 @@ areas_after part image (suc k) area =
     area ∷ after_next [] (areas_after part image k) (record_in (head_in part image area)).next
 
 abbrev pub areas_in : KeyedChain → Image → List ℕ
-areas_in part image = areas_after part image most_areas part.first
+areas_in part image = areas_after part image (area_count part.geometry) part.first
 
 -- the records of an area, and of the chain from one on
 abbrev pub content_in : KeyedChain → Image → ℕ → Content
@@ -157,9 +153,9 @@ LinksIn part image (suc k) area low = IsLinkedIn part image area low (LinksIn pa
 -- The blocks stand for the content: the records of each area, in the order of the chain.
 pub record ChainStandsFor (part : KeyedChain) (image : Image) (content : Content) : Type 0 where
   pub part_is : IsKeyedChain part
-  pub chain : LinksIn part image most_areas part.first None
+  pub chain : LinksIn part image (area_count part.geometry) part.first None
   pub records : content
-      ≡ content_after part image most_areas part.first
+      ≡ content_after part image (area_count part.geometry) part.first
 
 -- ---- the way to a place
 
@@ -184,7 +180,7 @@ areas_way part place (suc k) area =
     Reads (head_of part area) (way_past part place area (areas_way part place k))
 
 abbrev pub chain_way : KeyedChain → List ℕ → Way
-chain_way part place = areas_way part place most_areas part.first
+chain_way part place = areas_way part place (area_count part.geometry) part.first
 
 -- the area whose ranges reach a place, from one on
 abbrev pub area_after : KeyedChain → Image → List ℕ → ℕ → ℕ → Option ℕ
@@ -194,7 +190,7 @@ area_after part image place (suc k) area =
     else after_next None (area_after part image place k) (record_in (head_in part image area)).next
 
 abbrev pub area_for : KeyedChain → Image → List ℕ → Option ℕ
-area_for part image place = area_after part image place most_areas part.first
+area_for part image place = area_after part image place (area_count part.geometry) part.first
 
 -- ---- what is true of each area
 
@@ -206,7 +202,7 @@ EachAfter part P may (suc k) area = P area
     → IfSome (record_in top).next (EachAfter part P may k))
 
 abbrev pub EachArea : KeyedChain → (ℕ → Type 0) → (ℕ → Block → Type 0) → Type 0
-EachArea part P may = EachAfter part P may most_areas part.first
+EachArea part P may = EachAfter part P may (area_count part.geometry) part.first
 
 -- the image leads to areas of the part's own alone
 abbrev pub ChainStaysIn : KeyedChain → Owners → Image → Type 0
@@ -231,3 +227,10 @@ pub record KnowsAreas (part : KeyedChain) (areas : List ℕ) (ends : List (List 
     Type 0 where
   pub areas_are : areas ≡ areas_in part image
   pub ends_are : map Some ends ≡ map (λ area. end_of (head_in part image area)) areas
+
+-- the first of these areas whose end isn't before the place
+abbrev pub area_by : List ℕ → List (List ℕ) → List ℕ → Option ℕ
+area_by [] ends place = None
+area_by (area ∷ areas) [] place = None
+area_by (area ∷ areas) (end ∷ ends) place =
+    if is_le (place_cmp place end) then Some area else area_by areas ends place

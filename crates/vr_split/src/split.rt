@@ -109,6 +109,16 @@ fn stage_again(stage: StageKind) -> Option<StageKind>
 }
 
 impl CiSplit {
+    /// Moves to another area of the part, where no split is under way. The buffers stay.
+    pub fn move_to(&mut self, layout: &Layout)
+        requires none { self.old.split ≡ None }
+        requires size { layout.now.size ≡ self.old.part.size }
+        requires key { layout.now.key ≡ self.old.part.key }
+        ensures { self.new ≡ record { part = layout.now; split = None } }
+    {
+        self.layout = layout.copy();
+    }
+
     /// Begins a split: of interval `old`, with `into` for the upper records, and `cut`, the
     /// greatest place that stays below it. Nothing is written yet.
     pub fn begin(&mut self, old: u16, into: u16, cut: &[u8])

@@ -125,7 +125,7 @@ fn next_in<'a>(
     first_place(records, order, Whose::Log, part, from)
 }
 
-/// Whose before-images a search goes over: those that the log has, or those of other units.
+/// Whose before-images a search iterates over: those that the log has, or those of other units.
 #[derive(Clone, Copy)]
 pub(crate) enum Whose {
     Log,

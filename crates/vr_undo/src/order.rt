@@ -5,7 +5,8 @@ ghost use Rattle.std.specs.Option.{option_copied};
 ghost use Rattle.std.specs.List.{Contains};
 ghost use Rattle.std.specs.List.Sorted.{IsPartitionPoint};
 ghost use Rattle.vr_types.specs.Content.{place_cmp};
-ghost use Rattle.vr_undo.specs.Order.{AreNumbers, HasRoom, IsInOrder, IsLive, IsOrder, comes_before};
+ghost use Rattle.vr_undo.specs.Order.{AreNumbers, HasRoom, IsInOrder, IsLive, IsOrder};
+ghost use Rattle.vr_undo.specs.Order.{comes_before};
 ghost use Rattle.vr_undo.specs.Order.{key_at, key_by, key_in, listed, shelf_of};
 
 use crate::before::Before;
@@ -22,8 +23,8 @@ pub(crate) const STOOD: u8 = 1;
 /// The end of a part, past both.
 pub(crate) const END: u8 = 2;
 
-/// What a record is in order by: its part, then its shelf, then its place. A search for records that
-/// stood passes over no others, since these have a shelf of their own.
+/// What a record is in order by: its part, then its shelf, then its place. A search for records
+/// that stood passes over no others, since these have a shelf of their own.
 #[derive(Clone, Copy)]
 pub(crate) struct Key<'a> {
     pub(crate) part: PartNo,
@@ -87,7 +88,8 @@ pub(crate) fn at_place<'a>(
 pub(crate) fn first_from(records: &[KeptRecord], order: &[usize], bound: Bound<'_>) -> usize
     requires { IsInOrder records.now order.now }
     ensures within { result ≤ length order.now }
-    ensures first { IsPartitionPoint (λ number. comes_before bound.entry (key_at records.now number) ≡ true)
+    ensures first { IsPartitionPoint
+        (λ number. comes_before bound.entry (key_at records.now number) ≡ true)
         (λ number. comes_before bound.entry (key_at records.now number) ≡ false) order.now result }
 {
     order.partition_point(|number| comes_before(key_at(records, *number), bound))

@@ -1,9 +1,7 @@
-use Rattle.vr_types.specs.Geometry.{area_count}
-use Rattle.vr_space.specs.Areas.{area_of}
-use Rattle.vr_attach.proofs.Walks.{damaged_one}
+use Rattle.std.proofs.Common.{ℕ, IsTrue}
+use Rattle.vr_attach.proofs.LinkDamage.{damaged-once}
 use Rattle.vr_attach.proofs.laws.one_damage.Goals as goal
 
 pub returns : goal.returns
-returns c part image one other rule rule_of_other =
-    damaged_one (area_of part part.first) part.first (area_count part.geometry) image one other
-    rule rule_of_other
+returns c part taken image one other rule rule_of_other =
+    damaged-once part image (λ (area : ℕ). IsTrue (taken area)) one other rule rule_of_other

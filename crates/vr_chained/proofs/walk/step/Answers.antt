@@ -4,12 +4,13 @@ use Rattle.vr_types.specs.Geometry.{area_count}
 use Rattle.vr_types.specs.Image.{block_at}
 use Rattle.vr_space.specs.Part.{NumberedShape, part_no}
 use Rattle.vr_space.specs.Rosters.{Numbered, roster_block}
+use Rattle.vr_attach.specs.Marked.{IsTakenIn}
+use Rattle.vr_attach.proofs.CallerLemmas.{marks-more}
 use Rattle.vr_chained.specs.Chain.{ChainNow}
-use Rattle.vr_chained.specs.Walked.{AreMarked, IsReadOf, IsTakenIn, IsWalkedAt, IsWalkedOver}
+use Rattle.vr_chained.specs.Walked.{AreChainMarked, IsReadOf, IsWalkedAt, IsWalkedOver}
 use Rattle.vr_chained.proofs.Stepping.{found-bad, found-read, found-sound, further, read-most}
 use Rattle.vr_chained.proofs.Stepping.{read-there}
 use Rattle.vr_chained.proofs.Stepping.{step-bad, step-on, step-over, step-twice}
-use Rattle.vr_chained.proofs.Taking.{marks-more}
 use Rattle.vr_chained.proofs.walk.step.Goals as goal
 
 pub walk_area-requires-clause-area : goal.walk_area-requires-clause-area
@@ -43,7 +44,8 @@ returns-in-Err-clause-bad g c told before marks walk =
     let part = c.args.chain.now.part in
     let cur = (g.B.Blocks.seen c.args.blocks.now).cur in
     step-bad before c.args.taken.now cur c.args.chain.now c.last.result marks walk
-    (c.last.ensures.last walk.before walk.area walk.listed) c.in-Err.damage.block c.in-Err.damage.rule
+    (c.last.ensures.last walk.before walk.area walk.listed) c.in-Err.damage.block
+    c.in-Err.damage.rule
     (found-bad part c.layout.result.now c.layout.ensures c.in_ok-roster.field-0 cur c.last.result
     c.in-Err.damage c.in-Err.is (c.in_ok-roster.ensures.bad told))
 
@@ -83,10 +85,11 @@ returns-in-Ok-go_on-clause-marked g c before marks =
     c.in-Ok-go_on.ensures.taken
     ∙ ap (λ (chain : ChainNow). slice_set c.args.taken.now c.in-Some.next
     (Some (part_no (NumberedShape chain.part)))) c.use_more.ensures in
-    subst (λ (areas : List ℕ). AreMarked part areas before c.go_on.new.taken)
+    subst (λ (areas : List ℕ). AreChainMarked part areas before c.go_on.new.taken)
     (sym (ap (λ (chain : ChainNow). chain.areas) goes))
-    (subst (AreMarked part (c.args.chain.now.areas ++ c.in-Some.next ∷ []) before) (sym taken)
-    (marks-more part c.args.chain.now.areas before c.args.taken.now c.in-Some.next marks
+    (subst (AreChainMarked part (c.args.chain.now.areas ++ c.in-Some.next ∷ []) before) (sym taken)
+    (marks-more (part_no (NumberedShape part)) part.first c.args.chain.now.areas before
+    c.args.taken.now c.in-Some.next marks
     (omega (arith, there, c.requires.ready.count)) c.in-Ok-go_on.ensures.free))
 
 pub returns-in-Ok-go_on-clause-walked : goal.returns-in-Ok-go_on-clause-walked

@@ -2,7 +2,8 @@ use Rattle.std.proofs.Common.{◌≡◌, ◌-◌, IsTrue, List, Option, length}
 use Rattle.vr_types.specs.Blocks.{Keeps}
 use Rattle.vr_types.specs.Geometry.{area_count}
 use Rattle.vr_types.specs.declared.unit.PartNo.{PartNo}
-use Rattle.vr_chained.specs.Walked.{AreMarked, IsOpen, IsTakenIn, IsWalkedAt}
+use Rattle.vr_attach.specs.Marked.{IsTakenIn}
+use Rattle.vr_chained.specs.Walked.{AreChainMarked, IsOpen, IsWalkedAt}
 use Rattle.vr_chained.proofs.walk.walk.Given as goal
 
 abbrev pub invariant-loop-damage : goal.invariant-loop-damage
@@ -16,10 +17,10 @@ invariant-loop-damage g l =
       top : length l.top ≡ length l.fn.top;
       count : length l.taken ≡ length l.fn.taken;
       marked : (before : List (Option PartNo))
-          → AreMarked l.fn.chain.part l.fn.chain.areas before l.fn.taken
-          → AreMarked l.fn.chain.part l.chain.areas before l.taken;
+          → AreChainMarked l.fn.chain.part l.fn.chain.areas before l.fn.taken
+          → AreChainMarked l.fn.chain.part l.chain.areas before l.taken;
       walked : IsTrue B.tells → (before : List (Option PartNo))
-          → AreMarked l.fn.chain.part l.fn.chain.areas before l.fn.taken
+          → AreChainMarked l.fn.chain.part l.fn.chain.areas before l.fn.taken
           → IsWalkedAt (IsTakenIn before) (B.seen l.fn.blocks).cur l.fn.chain
           → IsWalkedAt (IsTakenIn before) (B.seen l.fn.blocks).cur l.chain;
     }

@@ -8,4 +8,4 @@ returns c =
     omega (arith, c.requires.size) in
     let top = one_top c.args.layout.now c.write_record.new.out c.requires.part size
     c.write_record.ensures in
-    record { head = top.0; whole = top.1; entries = top.2 }
+    record { head = top.0; only = top.1; entries = top.2 }

@@ -34,7 +34,7 @@ returns-clause-stands g c told =
     (omega (arith, interval, room, same, c.requires.part.used)) left-then.length_is third.cur
     (c.in_ok-write-2.ensures.written told) in
     one-stands part c.args.entries.now third.cur top block c.write_head.ensures.head
-    c.write_head.ensures.whole c.write_head.ensures.entries c.requires.records
+    c.write_head.ensures.only c.write_head.ensures.entries c.requires.records
     (omega (arith, c.requires.buffer))
     c.write_interval.ensures
     (subst (λ (n : ℕ). block_at third.cur n ≡ top) head at-head)

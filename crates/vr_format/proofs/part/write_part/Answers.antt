@@ -2,9 +2,8 @@ use Rattle.std.proofs.Common.{◌≡◌, ◌∙◌, ℕ, ap, subst}
 use Rattle.vr_types.specs.Image.{Image}
 use Rattle.vr_space.specs.Areas.{KeyedChain, area_of}
 use Rattle.vr_space.specs.Keyed.{Keyed}
-use Rattle.vr_space.specs.Part.{KeyedShape, StandsFor}
-use Rattle.vr_attach.proofs.CallerLemmas.{whole-stands}
-use Rattle.vr_format.specs.Planned.{StandsWholeFor, content_of, first_area}
+use Rattle.vr_format.specs.Planned.{StandsAlone, StandsInFirst, content_of, first_area}
+use Rattle.vr_format.proofs.OneArea.{alone-stands}
 use Rattle.vr_format.proofs.Steps.{on-ok}
 use Rattle.vr_format.proofs.part.write_part.Goals as goal
 
@@ -17,10 +16,9 @@ returns-clause-stands g c told =
     c.area.ensures.layout
     ∙ ap (λ (area : ℕ). area_of part area) (ap (λ (k : KeyedChain). k.first) c.layout.view_is) in
     on-ok c.write_area.result
-    (StandsWholeFor c.area.result image (content_of c.area.result entries))
-    (StandsFor (KeyedShape part) image (content_of (first_area part) entries))
-    (λ stands. let one =
-    subst (λ (k : Keyed). StandsWholeFor k image (content_of k entries)) layout stands in
-    whole-stands part image (content_of (first_area part) entries) c.requires.on.part_is one.stands
-    one.whole)
+    (StandsAlone c.area.result image (content_of c.area.result entries))
+    (StandsInFirst part image (content_of (first_area part) entries))
+    (λ stands. alone-stands part image (content_of (first_area part) entries)
+    c.requires.on.part_is
+    (subst (λ (k : Keyed). StandsAlone k image (content_of k entries)) layout stands))
     (c.write_area.ensures.stands told)

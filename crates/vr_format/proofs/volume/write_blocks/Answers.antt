@@ -3,12 +3,11 @@ use Rattle.vr_types.specs.Regions.{Touches}
 use Rattle.vr_types.specs.Seen.{Seen}
 use Rattle.vr_space.specs.Areas.{KeyedChain}
 use Rattle.vr_space.specs.Keyed.{InArea}
-use Rattle.vr_space.specs.Part.{KeyedShape, StandsFor}
 use Rattle.vr_mount.specs.Touched.{Anything}
 use Rattle.vr_types.proofs.CallerLemmas.{touches-then}
 use Rattle.vr_format.specs.Formatted.{IsFormatted, IsWritten}
-use Rattle.vr_format.specs.Planned.{AreNew, InClusters, catalog_area, catalog_keyed}
-use Rattle.vr_format.specs.Planned.{content_of, first_area}
+use Rattle.vr_format.specs.Planned.{AreNew, InClusters, StandsInFirst, catalog_area}
+use Rattle.vr_format.specs.Planned.{catalog_keyed, content_of, first_area}
 use Rattle.vr_format.proofs.Steps.{all-made, in-catalog, in-clusters, in-start, on-ok}
 use Rattle.vr_format.proofs.Steps.{touches-more}
 use Rattle.vr_format.proofs.volume.write_blocks.Goals as goal
@@ -31,7 +30,7 @@ returns-clause-formatted g c told =
     c.requires.planned c.requires.allowed (record {
       header = c.in_ok-write_start.ensures.header told;
       log = c.in_ok-write_start.ensures.log told;
-      catalog = subst (λ (k : KeyedChain). StandsFor (KeyedShape k) third.cur
+      catalog = subst (λ (k : KeyedChain). StandsInFirst k third.cur
           (content_of (first_area k) entries)) layout (c.in_ok-write_part.ensures.stands told);
       to_third = subst (λ (k : KeyedChain). Touches (InArea (first_area k)) Anything second third)
           layout (c.write_part.ensures.after told);

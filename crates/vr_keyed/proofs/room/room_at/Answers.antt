@@ -1,15 +1,34 @@
-use Rattle.std.proofs.Common.{ℕ, List, sym, subst}
+use Rattle.std.proofs.Common.{List, ℕ, All, sym, subst}
 use Rattle.vr_types.specs.Image.{Image}
 use Rattle.vr_space.specs.Met.{IsMet}
 use Rattle.vr_keyed.specs.Look.{AreaStands, HasEntry}
-use Rattle.vr_keyed.specs.Slots.{met_in}
-use Rattle.vr_keyed.proofs.MetRoom.{first-met}
+use Rattle.vr_keyed.specs.Slots.{IsInside, IsMetAt, LeavesMet, MeetsAt, met_in, mets}
+use Rattle.vr_keyed.proofs.Adding.{on-ok-from}
 use Rattle.vr_keyed.proofs.room.room_at.Goals as goal
 
 pub meet-requires-clause-entry : goal.meet-requires-clause-entry
 meet-requires-clause-entry g c told =
     subst (λ (q : List ℕ). HasEntry c.args.layout.now (g.B.Blocks.seen c.args.blocks.now).cur q)
     (sym c.as_slice.ensures) (c.requires.entry told)
+
+pub meet-requires-clause-inside : goal.meet-requires-clause-inside
+meet-requires-clause-inside g c =
+    subst (λ (q : List ℕ). All (IsInside c.args.layout.now q) (mets c.args.slots.now))
+    (sym c.as_slice.ensures) c.requires.inside
+
+pub meet-requires-clause-met : goal.meet-requires-clause-met
+meet-requires-clause-met g c told =
+    subst (λ (q : List ℕ).
+    All (IsMetAt c.args.layout.now (g.B.Blocks.seen c.args.blocks.now).cur q)
+    (mets c.args.slots.now))
+    (sym c.as_slice.ensures) (c.requires.met told)
+
+pub returns-in_err-meet-clause-leaves : goal.returns-in_err-meet-clause-leaves
+returns-in_err-meet-clause-leaves g c =
+    subst (λ (q : List ℕ).
+    LeavesMet c.args.layout.now g.B.Blocks.tells (g.B.Blocks.seen c.args.blocks.now).cur q
+    (mets c.args.slots.now) (mets c.meet.new.slots))
+    c.as_slice.ensures c.meet.ensures.leaves
 
 pub room_met-requires-clause-stands : goal.room_met-requires-clause-stands
 room_met-requires-clause-stands g c told =
@@ -18,9 +37,20 @@ room_met-requires-clause-stands g c told =
 
 pub room_met-requires-clause-met : goal.room_met-requires-clause-met
 room_met-requires-clause-met g c told =
-    let slots = c.meet.new.slots in
-    subst (λ (image : Image). IsMet c.args.layout.now image (met_in slots.first))
-    (sym (c.meet.ensures.keeps.content told))
-    (first-met (IsMet c.args.layout.now (g.B.Blocks.seen c.args.blocks.now).cur)
-    (met_in slots.first) (met_in slots.second) slots.filled c.in_ok-meet.ensures.first.some
-    (c.meet.ensures.met told))
+    subst (λ (image : Image). IsMet c.args.layout.now image (met_in c.meet.new.slots.first))
+    (sym (c.meet.ensures.keeps.content told)) (c.in_ok-meet.ensures.meets.newly.is_met told)
+
+pub returns-clause-meets : goal.returns-clause-meets
+returns-clause-meets g c =
+    on-ok-from c.room_met.result _
+    (subst (λ (q : List ℕ).
+    MeetsAt c.args.layout.now g.B.Blocks.tells (g.B.Blocks.seen c.args.blocks.now).cur q
+    (mets c.args.slots.now) c.meet.new.slots)
+    c.as_slice.ensures c.in_ok-meet.ensures.meets)
+
+pub returns-clause-leaves : goal.returns-clause-leaves
+returns-clause-leaves g c =
+    subst (λ (q : List ℕ).
+    LeavesMet c.args.layout.now g.B.Blocks.tells (g.B.Blocks.seen c.args.blocks.now).cur q
+    (mets c.args.slots.now) (mets c.meet.new.slots))
+    c.as_slice.ensures c.meet.ensures.leaves

@@ -8,3 +8,9 @@ returns-clause-met c =
     (met_in c.args.slots.now.first) (met_in c.args.slots.now.second)
     (met_in c.refresh_slot.new.slot) (met_in c.refresh_slot-2.new.slot)
     c.refresh_slot.ensures.met c.refresh_slot-2.ensures.met
+
+pub returns-clause-room : goal.returns-clause-room
+returns-clause-room c part all = record {
+  first = c.refresh_slot.ensures.slot part all.first;
+  second = c.refresh_slot-2.ensures.slot part all.second;
+}

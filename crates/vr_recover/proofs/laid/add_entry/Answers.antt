@@ -1,4 +1,5 @@
-use Rattle.std.proofs.Common.{◌≡◌, ◌∙◌, ◌+◌, ◌<◌, ℕ, List, Some, ap, arith, get_or, length, map, refl, sym}
+use Rattle.std.proofs.Common.{◌≡◌, ◌∙◌, ◌+◌, ◌<◌, ℕ, List, Some, ap, arith, get_or, length, map}
+use Rattle.std.proofs.Common.{sym}
 use Rattle.std.proofs.Common.{subst}
 use Rattle.std.specs.Borrow.{Bor}
 use Rattle.std.specs.Option.{option_map}
@@ -16,15 +17,17 @@ use Rattle.vr_mount.proofs.Parts.{parts_told}
 use Rattle.vr_part.specs.Any.{shape_any}
 use Rattle.vr_part.specs.Attached.{IsAnyShown}
 use Rattle.vr_part.specs.declared.any.AnyPart.{AnyPart}
-use Rattle.vr_chained.specs.Walked.{IsTakenIn}
-use Rattle.vr_space.specs.Part.{Shape}
+use Rattle.vr_attach.specs.Marked.{IsTakenIn}
+use Rattle.vr_space.specs.Part.{Shape, part_no}
 use Rattle.vr_recover.specs.Found.{AllStand, AreAdded, AreKnown, HasLength, held_entries}
 use Rattle.vr_recover.specs.Opening.{IsEntryShown}
 use Rattle.vr_recover.specs.Unserved.{IsPlain}
 use Rattle.vr_recover.proofs.Adding.{IsNewPart, added-more, added-none, first-alone, first-own}
+use Rattle.vr_recover.proofs.Adding.{same-part}
 use Rattle.vr_recover.proofs.Attaching.{area-below, entry-shape, known-more, longest-fits}
 use Rattle.vr_recover.proofs.Attaching.{longest-some, shows-answer}
 use Rattle.vr_recover.proofs.Attaching.{stand-more}
+use Rattle.vr_recover.proofs.Shapes.{shape-number}
 use Rattle.vr_recover.proofs.Taking.{entry-shown}
 use Rattle.vr_recover.proofs.laid.add_entry.Goals as goal
 
@@ -123,11 +126,11 @@ returns-in_err-part-clause-damaged g c told known stand =
     let there = here held c.args.at lent c.requires.at c.index-entries-at.is in
     let of = entry-shape geometry entry c.in-Some.area c.in-Some.definition c.in-Some.ensures in
     let p = err_from_is_err_and c.from_residual.result c.from_residual.ensures.1 in
-    rw (p.1, p.2) (shows-answer (IsAnyShown geometry of.shape (IsTakenIn owners) now.cur)
+    rw (p.1, p.2) (shows-answer (IsAnyShown of.shape (IsTakenIn owners) now.cur)
     (IsEntryShown geometry entries now)
     (λ block rule shown. entry-shown geometry entries c.args.at parts owners c.requires.may
-    c.requires.ascend c.requires.added now.cur known entry there now refl stand of.shape of.laid
-    (omega (arith, two-areas geometry c.requires.allowed)) of.same block rule shown)
+    c.requires.ascend c.requires.added now known entry there stand of.shape of.laid
+    (omega (arith, two-areas geometry c.requires.allowed)) block rule shown)
     c.in_err-part.field-0.0
     (c.in_err-part.ensures.damaged told of.shape
     (sym (c.in-Some.ensures.shape geometry) ∙ of.laid)))
@@ -145,9 +148,10 @@ returns-clause-added g c =
     let there = here held c.args.at lent c.requires.at c.index-entries-at.is in
     let of = entry-shape geometry entry c.in-Some.area c.in-Some.definition c.in-Some.ensures in
     let laid = c.in-Some.ensures.shape geometry ∙ made.shape in
-    let new : IsNewPart geometry entry it c.args.space.now c.attach_part.new.space = record {
+    let new : IsNewPart geometry entry.part it c.args.space.now c.attach_part.new.space = record {
       area = c.in-Some.area;
-      shape = laid;
+      number = same-part (part_no (shape_any it)) entry.part
+          (shape-number geometry entry (shape_any it) laid);
       begins = subst (BeginsWith (head_block geometry c.in-Some.area))
           (shape-is of.shape (shape_any it) (sym of.laid ∙ laid)) of.begins;
       split = made.split;
@@ -159,9 +163,10 @@ returns-clause-added g c =
       count = made.count;
     } in
     subst (λ (ps : List AnyPart).
-    AreAdded geometry entries (c.args.at + 1) ps c.attach_part.new.space) (sym {A = List AnyPart} c.in_ok-add.ensures)
-    (added-more geometry entry it c.args.space.now c.attach_part.new.space new entries c.args.at
-    parts c.requires.may c.requires.added there)
+    AreAdded geometry entries (c.args.at + 1) ps c.attach_part.new.space)
+    (sym {A = List AnyPart} c.in_ok-add.ensures)
+    (added-more geometry entries c.args.at parts c.args.space.now c.attach_part.new.space
+    c.requires.may c.requires.added entry there it laid new)
   where
     shape-is : (x y : Shape) → Some x ≡ Some y → x ≡ y
     shape-is x y same = cc

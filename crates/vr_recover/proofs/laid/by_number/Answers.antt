@@ -1,9 +1,8 @@
-use Rattle.std.proofs.Common.{◌≡◌, ◌≤◌, ◌<◌, ◌∙◌, ℕ, List, arith, get_or, map, rules, subst, length}
+use Rattle.std.proofs.Common.{◌∙◌, List, arith, rules, subst}
 use Rattle.std.specs.Borrow.{Bor}
-use Rattle.std.specs.List.Sorted.{IsNonDecreasingBy, IsPermutation}
-use Rattle.std.proofs.lemmas.List.{get_or-map, length-map, take_all}
+use Rattle.std.specs.List.Sorted.{IsPermutation}
+use Rattle.std.proofs.lemmas.List.{take_all}
 use Rattle.std.proofs.lemmas.List.Sorted.{IsNonDecreasingBy-from_sort_by_key, IsPermutation-map}
-use Rattle.std.proofs.lemmas.Option.{slice_get-get_or}
 use Rattle.vr_catalog.specs.declared.entry.CatEntry.{CatEntry}
 use Rattle.vr_recover.specs.Found.{held_entries}
 use Rattle.vr_recover.specs.Opening.{number_of}

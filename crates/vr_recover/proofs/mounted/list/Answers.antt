@@ -1,8 +1,6 @@
-use Rattle.std.proofs.Common.{List, ◌∙◌, ap, subst, sym}
+use Rattle.std.proofs.Common.{List, ◌∙◌, subst, sym}
 use Rattle.std.specs.Prelude.{All}
 use Rattle.std.proofs.lemmas.List.Elements.{All-nil}
-use Rattle.vr_attach.proofs.CallerLemmas.{alone-knows}
-use Rattle.vr_keyed.specs.Owned.{split_of}
 use Rattle.vr_space.specs.Met.{IsChainMet, Met}
 use Rattle.vr_recover.proofs.mounted.list.Goals as goal
 
@@ -14,9 +12,9 @@ records_of_part-requires-clause-knows g c told =
     let part = c.args.part.now.part in
     let cur = (g.B.Blocks.seen c.args.blocks.now).cur in
     record {
-      no_split = ap (split_of part) c.requires.split;
+      no_split = c.requires.split;
       met = (
-        alone-knows part cur (c.requires.stands told),
+        c.requires.knows told,
         subst (λ (met : List Met). All (IsChainMet part cur) met) (sym c.requires.met)
             (All-nil (IsChainMet part cur)),
       );

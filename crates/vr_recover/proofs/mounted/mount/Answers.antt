@@ -1,9 +1,7 @@
-use Rattle.std.proofs.Common.{map, subst, sym}
+use Rattle.std.proofs.Common.{map, subst}
 use Rattle.std.proofs.lemmas.Result.{err_from_is_err_and}
 use Rattle.vr_types.proofs.CallerLemmas.{keeps-then}
-use Rattle.vr_attach.specs.Laid.{catalog_shape}
 use Rattle.vr_part.specs.Any.{shape_any}
-use Rattle.vr_space.specs.Part.{Stands}
 use Rattle.vr_volume.specs.PutBack.{images_of}
 use Rattle.vr_recover.specs.Found.{AllStand, AreKnown}
 use Rattle.vr_recover.proofs.Attaching.{areas-shown, parts-shown}
@@ -40,11 +38,6 @@ returns-in_err-space-clause-keeps g c =
     keeps-then g.B.Blocks.tells (g.B.Blocks.seen c.args.blocks.now)
     (g.B.Blocks.seen c.read_catalog.new.blocks) (g.B.Blocks.seen c.lay.new.blocks)
     c.read_catalog.ensures.keeps c.lay.ensures.keeps
-
-pub lay-requires-clause-stands : goal.lay-requires-clause-stands
-lay-requires-clause-stands g c told =
-    subst (Stands (catalog_shape c.args.geometry.now))
-    (sym (c.read_catalog.ensures.keeps.content told)) (c.in_ok-catalog.ensures.stands told)
 
 pub returns-clause-known : goal.returns-clause-known
 returns-clause-known g c told =

@@ -1,10 +1,8 @@
 use Rattle.std.proofs.lemmas.Result.{IfErr-weaker, IfOk-weaker, err_from_is_err_and}
-use Rattle.vr_catalog.specs.Definition.{catalog_definition}
-use Rattle.vr_attach.specs.Laid.{keyed_part}
-use Rattle.vr_keyed.specs.Attached.{IsRuleShown}
 use Rattle.vr_volume.specs.PutBack.{images_of}
 use Rattle.vr_recover.specs.Found.{AreEntriesBack, AreEntriesOf, AtCatalog, IsBackShown}
 use Rattle.vr_recover.specs.Found.{IsMountShown, ShowsOnly}
+use Rattle.vr_recover.specs.Opening.{IsCatalogPartShown}
 use Rattle.vr_recover.proofs.Attaching.{shows-more}
 use Rattle.vr_recover.proofs.Mounting.{entries-as, shown-as}
 use Rattle.vr_recover.proofs.mounted.read_catalog.Goals as goal
@@ -15,7 +13,7 @@ returns-in_err-records-clause-damaged g c told =
     let a = g.B.Blocks.seen c.args.blocks.now in
     let images = images_of c.args.begun.now.content.records in
     let p = err_from_is_err_and c.from_residual.result c.from_residual.ensures.1 in
-    rw (p.1, p.2) (shows-more (IsRuleShown (keyed_part geometry 0 0 catalog_definition) a.cur)
+    rw (p.1, p.2) (shows-more (IsCatalogPartShown geometry a.cur)
     (IsMountShown geometry images a)
     (λ block rule shown. AtCatalog shown) c.in_err-records.field-0.0
     (c.in_err-records.ensures.damaged told))

@@ -6,10 +6,11 @@ use Rattle.vr_space.specs.Part.{NumberedShape, Stands}
 use Rattle.vr_space.specs.Rosters.{Numbered}
 use Rattle.vr_space.specs.Numbered.{KnowsTail}
 use Rattle.vr_attach.specs.Chain.{IsChainDamagedAt}
+use Rattle.vr_attach.specs.Marked.{IsTakenIn}
 use Rattle.vr_chained.specs.Chain.{ChainNow, IsChainOf}
 use Rattle.vr_chained.specs.Owned.{OwnedChain}
 use Rattle.vr_chained.specs.Tail.{tail_of}
-use Rattle.vr_chained.specs.Walked.{AreMarked, IsTakenIn, IsWalkedOver}
+use Rattle.vr_chained.specs.Walked.{AreChainMarked, IsWalkedOver}
 use Rattle.vr_chained.proofs.Attaching.{IsFound, attached-marks, attached-over, over-stands, start}
 use Rattle.vr_chained.proofs.Attaching.{start-marked, start-ready, start-walk}
 use Rattle.vr_chained.proofs.chained.Chained.attach.Given as over
@@ -101,7 +102,7 @@ module _ (g : over.Over) (c : In_ok-part-inside g) where
   same-part : c.walk.new.chain.part ≡ c.args.layout
   same-part = c.walk.ensures.part ∙ ap (λ (chain : ChainNow). chain.part) starts
 
-  marks : AreMarked c.args.layout c.walk.new.chain.areas c.args.taken.now c.walk.new.taken
+  marks : AreChainMarked c.args.layout c.walk.new.chain.areas c.args.taken.now c.walk.new.taken
   marks =
       attached-marks c.args.layout c.args.taken.now c.walk.new.taken c.part.inside.chain
       c.walk.new.chain starts c.requires.first c.requires.alone c.in_ok-damage.field-0
@@ -116,7 +117,7 @@ module _ (g : over.Over) (c : In_ok-part-inside g) where
       (c.in_ok-damage.ensures.found told c.args.taken.now)
 
 pub returns-clause-first : goal.returns-clause-first
-returns-clause-first g c = (marks g c).first
+returns-clause-first g c = (marks g c).there
 
 pub returns-clause-marked : goal.returns-clause-marked
 returns-clause-marked g c = marks g c

@@ -1,11 +1,12 @@
-use Rattle.std.proofs.Common.{Option, ap, sym, ◌∙◌}
-use Rattle.std.specs.Prelude.{unwrap_or}
-use Rattle.vr_types.specs.declared.unit.AreaNo.{AreaNo}
+use Rattle.vr_types.proofs.CallerLemmas.{keeps-none}
 use Rattle.vr_keyed.proofs.keyed.Keyed.attach.Goals as goal
 
-pub layout_for-layout-requires-clause-entry : goal.layout_for-layout-requires-clause-entry
-layout_for-layout-requires-clause-entry g c = (
-  c.requires.entry,
-  ap (λ (o : Option AreaNo). unwrap_or o c.requires.entry.area)
-      (sym c.requires.entry.first ∙ c.in-Some.is),
-)
+pub returns-in_err-top-clause-keeps : goal.returns-in_err-top-clause-keeps
+returns-in_err-top-clause-keeps g c =
+    keeps-none g.B.Blocks.tells (g.B.Blocks.seen c.args.blocks.now)
+    (λ told image now. g.met.B.Blocks.images_may c.args.blocks.now image told now)
+
+pub returns-in_err-areas-clause-keeps : goal.returns-in_err-areas-clause-keeps
+returns-in_err-areas-clause-keeps g c =
+    keeps-none g.B.Blocks.tells (g.B.Blocks.seen c.args.blocks.now)
+    (λ told image now. g.met.B.Blocks.images_may c.args.blocks.now image told now)

@@ -1,0 +1,49 @@
+-- The areas of a keyed part in memory: their numbers, and where the ranges of each end. The rules
+-- are this project's own.
+use Rattle.std.specs.Prelude.{◌≡◌, ◌<◌, ◌≤◌, ◌^◌, ◌++◌, ◌∷◌, [], ℕ, IsTrue, List, All, Contains}
+use Rattle.std.specs.Prelude.{length}
+use Rattle.std.specs.Prelude.{drop, map, replicate, take}
+use Rattle.std.specs.List.Sorted.{IsStrictlySortedBy}
+use Rattle.std.specs.Ordering.{is_le}
+use Rattle.std.specs.declared.cmp.Ordering.TheVariants.{Less}
+use Rattle.vr_types.specs.Content.{place_cmp}
+use Rattle.vr_types.specs.Geometry.{area_count}
+use Rattle.vr_space.specs.Areas.{KeyedChain}
+use Rattle.vr_attach.specs.declared.areas.AreaEnd.{AreaEnd}
+
+-- the areas in the order of their chain, and where each ends
+pub record AreasNow : Type 0 where
+  pub part : KeyedChain
+  pub areas : List ℕ
+  pub ends : List (List ℕ)
+
+-- the areas of entries, and their ends
+abbrev pub areas_seen : List AreaEnd → List ℕ
+areas_seen entries = map (λ (entry : AreaEnd). entry.area) entries
+
+abbrev pub ends_seen : List AreaEnd → List (List ℕ)
+ends_seen entries = map (λ (entry : AreaEnd). entry.end.place) entries
+
+-- The first entries, this many, are used: areas of the volume, each of which ends before the next,
+-- at a place of the part. There is an entry with room for a place for each area of the volume.
+pub record AreEnds (part : KeyedChain) (entries : List AreaEnd) (used : ℕ) : Type 0 where
+  pub within : used ≤ length entries
+  pub count : length entries ≡ area_count part.geometry
+  pub few : length entries < 2 ^ 32
+  pub room : All (λ (entry : AreaEnd). entry.end.room ≡ part.key) entries
+  pub there : All (λ (area : ℕ). area < area_count part.geometry) (areas_seen (take used entries))
+  pub places : All (λ (end : List ℕ). length end ≡ part.key) (ends_seen (take used entries))
+  pub ascend : IsStrictlySortedBy place_cmp (ends_seen (take used entries))
+
+-- They are a whole chain: the first area of the part is among them, and the last goes up to the
+-- greatest key.
+pub record AreWhole (chain : AreasNow) : Type 0 where
+  pub first : Contains chain.areas chain.part.first
+  pub before : List (List ℕ)
+  pub last : chain.ends ≡ before ++ replicate chain.part.key 255 ∷ []
+
+-- this many of the areas end before the place, and the others at it or past it
+pub record IsAreaPosition (ends : List (List ℕ)) (place : List ℕ) (n : ℕ) : Type 0 where
+  pub within : n ≤ length ends
+  pub before : All (λ (end : List ℕ). place_cmp end place ≡ Less) (take n ends)
+  pub past : All (λ (end : List ℕ). IsTrue (is_le (place_cmp place end))) (drop n ends)

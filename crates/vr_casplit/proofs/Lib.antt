@@ -1,0 +1,17 @@
+pub mod Fuel
+pub mod Upper
+pub mod Heads
+pub mod Switching
+pub mod SwitchedLinks
+pub mod SwitchedWay
+pub mod SwitchedAreas
+pub mod Switched
+pub mod Elsewhere
+pub mod WrittenHeads
+pub mod Writing
+pub mod Listing
+pub mod Reading
+pub mod Moves
+pub mod Works
+pub mod Stays
+pub mod CallerLemmas

@@ -1,0 +1,4 @@
+pub mod Halves
+pub mod Moving
+pub mod Growing
+pub mod Splits
