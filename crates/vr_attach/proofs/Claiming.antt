@@ -39,7 +39,9 @@ inside-on geometry (NumberedShape part) now count size inside = record {
 claimed-inside : (geometry : Geometry) (shape : Shape) → IsInside geometry shape → (area n : ℕ)
     → InClaimed shape area n
     → (head_block geometry area ≤ n) × (n ≤ head_block geometry area + geometry.area)
-claimed-inside geometry (KeyedShape part) inside area n claims = absurd claims
+claimed-inside geometry (KeyedShape part) inside area n claims =
+    subst (λ (g : Geometry). (head_block g area ≤ n) × (n ≤ head_block g area + g.area)) inside.1
+    claims
 claimed-inside geometry (NumberedShape part) inside area n claims =
     subst (λ (g : Geometry). (head_block g area ≤ n) × (n ≤ head_block g area + g.area)) inside.1
     (claims.from, claims.to)

@@ -7,6 +7,7 @@ pub mod Links
 pub mod LinkDamage
 pub mod LinkWalk
 pub mod AreaLists
+pub mod AreaCuts
 pub mod Taking
 pub mod WalkedOn
 pub mod Stepping

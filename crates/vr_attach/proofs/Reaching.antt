@@ -90,6 +90,7 @@ chain-owns part Own Interval image chain area among =
     known : Known
     known = record {
       split = None;
+      move = None;
       met = [];
       areas = chain_of part image;
       ends = [];

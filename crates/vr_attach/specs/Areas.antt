@@ -1,7 +1,7 @@
 -- The areas of a keyed part in memory: their numbers, and where the ranges of each end. The rules
 -- are this project's own.
 use Rattle.std.specs.Prelude.{◌≡◌, ◌<◌, ◌≤◌, ◌^◌, ◌++◌, ◌∷◌, [], ℕ, IsTrue, List, All, Contains}
-use Rattle.std.specs.Prelude.{length}
+use Rattle.std.specs.Prelude.{IfSome, Some, length, slice_get}
 use Rattle.std.specs.Prelude.{drop, map, replicate, take}
 use Rattle.std.specs.List.Sorted.{IsStrictlySortedBy}
 use Rattle.std.specs.Ordering.{is_le}
@@ -9,6 +9,7 @@ use Rattle.std.specs.declared.cmp.Ordering.TheVariants.{Less}
 use Rattle.vr_types.specs.Content.{place_cmp}
 use Rattle.vr_types.specs.Geometry.{area_count}
 use Rattle.vr_space.specs.Areas.{KeyedChain}
+use Rattle.vr_space.specs.Moves.{with_area, with_end}
 use Rattle.vr_attach.specs.declared.areas.AreaEnd.{AreaEnd}
 
 -- the areas in the order of their chain, and where each ends
@@ -47,3 +48,21 @@ pub record IsAreaPosition (ends : List (List ℕ)) (place : List ℕ) (n : ℕ) 
   pub within : n ≤ length ends
   pub before : All (λ (end : List ℕ). place_cmp end place ≡ Less) (take n ends)
   pub past : All (λ (end : List ℕ). IsTrue (is_le (place_cmp place end))) (drop n ends)
+
+-- The place is one at which the ranges of this area may end: past where the area before it ends,
+-- and before where it ends itself. There is room for one area more.
+pub record IsCut (chain : AreasNow) (area : ℕ) (cut : List ℕ) : Type 0 where
+  pub long : length cut ≡ chain.part.key
+  pub at : ℕ
+  pub position : IsAreaPosition chain.ends cut at
+  pub is : slice_get chain.areas at ≡ Some area
+  pub first : Contains (take at chain.areas) area → ⊥
+  pub before : IfSome (slice_get chain.ends at) (λ end. place_cmp cut end ≡ Less)
+  pub room : length chain.areas < area_count chain.part.geometry
+
+-- the chain with one area more, after this one, which ends at the cut from then on
+abbrev pub with_cut : AreasNow → ℕ → ℕ → List ℕ → AreasNow
+with_cut chain area into cut = record chain {
+  areas = with_area area into chain.areas;
+  ends = with_end area cut chain.areas chain.ends;
+}

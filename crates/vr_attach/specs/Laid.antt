@@ -15,7 +15,7 @@ use Rattle.vr_catalog.specs.declared.definition.Definition.{Definition}
 use Rattle.vr_catalog.specs.declared.entry.CatEntry.{CatEntry}
 use Rattle.vr_space.specs.Areas.{IsKeyedChain, KeyedChain, areas_in}
 use Rattle.vr_space.specs.Known.{Known}
-use Rattle.vr_space.specs.Part.{Shape, KeyedShape, NumberedShape, InFirstArea}
+use Rattle.vr_space.specs.Part.{Shape, KeyedShape, NumberedShape, InFirstArea, held_by}
 use Rattle.vr_space.specs.Rosters.{IsNumbered, Numbered, chain_of}
 
 -- a keyed part of this definition, whose first area is this one
@@ -89,9 +89,9 @@ abbrev pub ReachesArea : Geometry → Shape → Image → ℕ → Type 0
 ReachesArea geometry (KeyedShape part) image area = Contains (areas_in part image) area
 ReachesArea geometry (NumberedShape part) image area = Contains (chain_of part image) area
 
--- by what it keeps in memory of its blocks
+-- a part holds the area, by what it keeps in memory of its blocks
 abbrev pub HasArea : Geometry → Shape → Known → ℕ → Type 0
-HasArea geometry shape known area = Contains known.areas area
+HasArea geometry shape known area = Contains (held_by shape known) area
 
 -- one of these parts other than this one reaches the area
 pub record IsReachedElsewhere (geometry : Geometry) (shapes : ℕ → Option Shape) (image : Image)

@@ -1,13 +1,15 @@
 //! The areas of a part in memory, in room that was taken once.
 ghost use Rattle.std.specs.Prelude.{◌≡◌, ◌<◌, ◌^◌, ◌++◌, ◌∷◌, [], ℕ, List, Some, IfOk, All, length};
-ghost use Rattle.std.specs.Prelude.{MatchOption};
-ghost use Rattle.std.specs.List.{slice_get};
+ghost use Rattle.std.specs.Prelude.{◌↔◌, ◌≤◌, Contains, IfSome, IsTrue, MatchOption, false, nat_eq};
+ghost use Rattle.std.specs.List.{list_any, slice_get};
 ghost use Rattle.std.specs.Ordering.{is_lt};
 ghost use Rattle.std.specs.declared.cmp.Ordering.TheVariants.{Less};
 ghost use Rattle.vr_types.specs.Content.{place_cmp};
 ghost use Rattle.vr_types.specs.Geometry.{area_count};
 ghost use Rattle.vr_space.specs.Areas.{area_by};
-ghost use Rattle.vr_attach.specs.Areas.{AreWhole, IsAreaPosition};
+ghost use Rattle.vr_space.specs.Part.{HoldsSame};
+ghost use Rattle.vr_attach.specs.Areas.{AreWhole, IsAreaPosition, IsCut, with_cut};
+ghost use Rattle.vr_attach.specs.declared.areas.AreaEnd.{AreaEnd};
 
 use std::alloc::Global;
 use std::marker::Model;
@@ -28,6 +30,29 @@ impl AreaEnd {
     {
         self.end.as_slice().cmp(place).is_lt()
     }
+}
+
+/// Cuts the area of the first entry in two: `area` ends at the cut, and `into` where it ended. The
+/// last entry is spare, and its room takes the cut. The entries between them stay in their order.
+fn cut_first(entries: &mut [AreaEnd], area: u32, into: u32, cut: &[u8])
+    requires some { 2 ≤ length entries.old }
+    requires room { All (λ (entry : AreaEnd). length cut.now ≤ entry.end.room) entries.old }
+    ensures { (first spare : AreaEnd) (between : List AreaEnd)
+        → entries.old ≡ first ∷ between ++ spare ∷ []
+        → entries.new ≡ record { area = area; end = record spare.end { place = cut.now } }
+        ∷ record { area = into; end = first.end } ∷ between }
+{
+    entries.rotate_right(1);
+    entries[0].area = area;
+    entries[0].end.set(cut);
+    entries[1].area = into;
+}
+
+/// Whether an area is one of these.
+fn is_among(entries: &[AreaEnd], area: u32) -> bool
+    ensures { result ≡ list_any (λ (entry : AreaEnd). nat_eq area entry.area) entries.now }
+{
+    entries.iter().any(|entry| area == entry.area)
 }
 
 /// The areas of a part in the order of their chain, with where the ranges of each end. There is
@@ -103,6 +128,70 @@ impl Areas {
         entry.area = area;
         entry.end.set(end);
         self.used += 1;
+    }
+
+    /// Whether an area may be added: it is one of the volume, the chain doesn't have it yet, and
+    /// there is room for it.
+    pub fn takes(&self, area: u32) -> bool
+        ensures there { IsTrue result → area < area_count self.now.part.geometry }
+        ensures room { IsTrue result
+            → length self.now.areas < area_count self.now.part.geometry }
+        ensures apart { IsTrue result → Contains self.now.areas area → ⊥ }
+        ensures has { result ≡ false → area < area_count self.now.part.geometry
+            → length self.now.areas < area_count self.now.part.geometry
+            → Contains self.now.areas area }
+    {
+        area < self.layout.geometry.areas() && self.used < self.entries.len() && !self.has(area)
+    }
+
+    /// Whether an area is one of the chain.
+    fn has(&self, area: u32) -> bool
+        ensures { IsTrue result ↔ Contains self.now.areas area }
+    {
+        is_among(&self.entries[..self.used], area)
+    }
+
+    /// Adds an area after this one, which ends at `cut` from then on; the other ends where this one
+    /// ended. False, and nothing is added, where this isn't the area of the chain that has the
+    /// place, or ends at it, or there is no room. It takes no memory.
+    pub fn insert(&mut self, area: u32, into: u32, cut: &[u8]) -> bool
+        requires there { into < area_count self.old.part.geometry }
+        ensures is { IsCut self.old area cut.now → IsTrue result }
+        ensures inserted { IsCut self.old area cut.now
+            → self.new ≡ with_cut self.old area into cut.now }
+        // Whether it is a cut of them or not.
+        ensures part { self.new.part ≡ self.old.part }
+        ensures more { IsTrue result → HoldsSame (self.old.areas ++ into ∷ []) self.new.areas }
+        ensures none { result ≡ false → self.new ≡ self.old }
+        ensures whole { AreWhole self.old → AreWhole self.new }
+    {
+        let i = self.position(cut);
+        if !self.has_room(cut) || !self.is_cut(i, area, cut) {
+            return false;
+        }
+        cut_first(&mut self.entries[i..=self.used], area, into, cut);
+        self.used += 1;
+        true
+    }
+
+    /// Whether there is room for one area more, which ends at a place as long as this one.
+    fn has_room(&self, place: &[u8]) -> bool
+        ensures { IsTrue result ↔ ((length self.now.areas < area_count self.now.part.geometry)
+            × (length place.now ≡ self.now.part.key)) }
+    {
+        self.used < self.entries.len() && place.len() == usize::from(self.layout.key)
+    }
+
+    /// Whether the area of a number is this one, and ends past a place.
+    fn is_cut(&self, i: usize, area: u32, place: &[u8]) -> bool
+        ensures { IsTrue result ↔ ((slice_get self.now.areas i ≡ Some area)
+            × IfSome (slice_get self.now.ends i) (λ end. place_cmp place.now end ≡ Less)) }
+    {
+        if i >= self.used {
+            return false;
+        }
+        let entry = &self.entries[i];
+        entry.area == area && place.cmp(entry.end.as_slice()).is_lt()
     }
 
     /// Where the last area ends, if there is one.

@@ -1,5 +1,5 @@
 -- The two heads that an area split writes: the old one, shortened, and that of the area that gets
--- the upper half. Each is a head of the part, and both lead a place to where the old one led it.
+-- the others. Each is a head of the part, and both lead a place to where the old one led it.
 use Rattle.std.proofs.Common.{◌≡◌, ℕ, ◌<◌, ◌≤◌, Bool, true, false, List, Option, Some}
 use Rattle.std.proofs.Common.{None, length, take, drop, refl, sym, ap, subst, ◌∙◌, arith, All}
 use Rattle.std.specs.Prelude.{cond}
@@ -20,19 +20,12 @@ use Rattle.vr_space.specs.Way.{MayFind}
 use Rattle.vr_space.proofs.CallerLemmas.{AscendFrom, above-end, head-ascends, leads-above}
 use Rattle.vr_space.proofs.CallerLemmas.{past-above}
 use Rattle.vr_space.proofs.CallerLemmas.{reached-below}
-use Rattle.vr_casplit.specs.Halves.{cut_of, lower_record, numbered_from, staying, upper_record}
-use Rattle.vr_casplit.specs.Moving.{IsLower, IsUpper}
+use Rattle.vr_space.specs.Moves.{IsLower, IsUpper, cut_of, lower_record, numbered_from}
+use Rattle.vr_space.specs.Moves.{upper_record}
 use Rattle.vr_casplit.proofs.Upper.{AreCopied, ascend-dropped, ascend-taken, dropped-end}
 use Rattle.vr_casplit.proofs.Upper.{each-dropped}
 use Rattle.vr_casplit.proofs.Upper.{each-taken, end-is, end-length, found-lower, found-upper}
 use Rattle.vr_casplit.proofs.Upper.{moved-each, moved-way, numbered-end, numbered-single}
-
--- of two entries or more some stay, and some move
-pub some-stay : (e : ℕ) → 2 ≤ e → 0 < staying e
-some-stay e two = omega (arith, two)
-
-pub some-move : (e : ℕ) → 2 ≤ e → staying e < e
-some-move e two = omega (arith, two)
 
 -- The head of an area, with entries that stay and entries that move, and the two that are written.
 pub record AreHeads (part : KeyedChain) (area into stay : ℕ) (top lower upper : Block) : Type 0

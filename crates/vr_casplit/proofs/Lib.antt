@@ -13,5 +13,3 @@ pub mod Listing
 pub mod Reading
 pub mod Moves
 pub mod Works
-pub mod Stays
-pub mod CallerLemmas

@@ -21,10 +21,10 @@ use Rattle.vr_space.specs.Room.{Lengths}
 use Rattle.vr_space.specs.UnderWay.{interval_block}
 use Rattle.vr_space.proofs.CallerLemmas.{areas-apart, head-in}
 use Rattle.vr_casplit.specs.Growing.{IsGrowing}
-use Rattle.vr_casplit.specs.Halves.{staying}
-use Rattle.vr_casplit.specs.Moving.{IsCopy, IsMoved, IsUpper}
-use Rattle.vr_casplit.specs.Splits.{HasCopy, IsAside, IsMoving, IsMovingHead, IsReadyTo}
-use Rattle.vr_casplit.specs.Splits.{MoveNow, moving}
+use Rattle.vr_space.specs.Moves.{HasCopy, IsAside, IsCopy, IsMoved, IsMoving, IsReadyTo, IsUpper}
+use Rattle.vr_space.specs.Moves.{moving}
+use Rattle.vr_casplit.specs.Splits.{IsMovingHead}
+use Rattle.vr_space.specs.Split.{MoveNow}
 use Rattle.vr_casplit.proofs.Elsewhere.{put-areas}
 use Rattle.vr_casplit.proofs.Switching.{in-nth}
 
@@ -33,15 +33,14 @@ use Rattle.vr_casplit.proofs.Switching.{in-nth}
 -- Interval j of the area that gets the entries has what the interval of entry j of them had.
 pub record IsPut (part : KeyedChain) (move : MoveNow) (j : ℕ) (a b : Image) : Type 0 where
   pub entry : Entry
-  pub is : slice_get (entries_of (head_in part a move.area)) (staying move.entries + j)
-      ≡ Some entry
+  pub is : slice_get (entries_of (head_in part a move.area)) (move.stay + j) ≡ Some entry
   pub same : block_at b (interval_block (area_of part move.into) j)
       ≡ block_at a (entry_block (area_of part move.area) entry)
 
 -- It is so of what was copied by the head that was read.
 pub is-put : (part : KeyedChain) (move : MoveNow) (j number : ℕ) (a m b : Image) (top out : Block)
-    → top ≡ head_in part a move.area → m ≡ a → number ≡ staying move.entries + j
-    → staying move.entries + j < length (entries_of (head_in part a move.area))
+    → top ≡ head_in part a move.area → m ≡ a → number ≡ move.stay + j
+    → move.stay + j < length (entries_of (head_in part a move.area))
     → ((entry : Entry) → slice_get (entries_of top) number ≡ Some entry
     → out ≡ block_at m (entry_block (area_of part move.area) entry))
     → block_at b (interval_block (area_of part move.into) j) ≡ out
@@ -49,9 +48,9 @@ pub is-put : (part : KeyedChain) (move : MoveNow) (j number : ℕ) (a m b : Imag
 is-put part move j number a m b top out top-is read number-is below made done =
     let entries : List Entry = entries_of (head_in part a move.area) in
     let none : Entry = record { intervals = []; high = [] } in
-    let entry : Entry = get_or entries (staying move.entries + j) none in
-    let is : slice_get entries (staying move.entries + j) ≡ Some entry =
-    slice_get-get_or entries (staying move.entries + j) none below in
+    let entry : Entry = get_or entries (move.stay + j) none in
+    let is : slice_get entries (move.stay + j) ≡ Some entry =
+    slice_get-get_or entries (move.stay + j) none below in
     record {
       entry = entry;
       is = is;
@@ -66,10 +65,10 @@ module _ (part : KeyedChain) (move : MoveNow) (a b : Image)
     (is_head : IsMovingHead part move.area move.entries (head_in part a move.area))
     (same : (n : ℕ) → InArea (area_of part move.area) n → block_at b n ≡ block_at a n) where
   -- The head of the area is as it was, and so is the interval of each entry.
-  pub head-same : head_in part b move.area ≡ head_in part a move.area
+  head-same : head_in part b move.area ≡ head_in part a move.area
   head-same = same (head_of part move.area) (omega arith, omega arith)
 
-  pub entry-same : (i : ℕ) (entry : Entry)
+  entry-same : (i : ℕ) (entry : Entry)
       → slice_get (entries_of (head_in part a move.area)) i ≡ Some entry
       → block_at b (entry_block (area_of part move.area) entry)
       ≡ block_at a (entry_block (area_of part move.area) entry)
@@ -80,17 +79,16 @@ module _ (part : KeyedChain) (move : MoveNow) (a b : Image)
       same (entry_block (area_of part move.area) entry) (omega arith, omega (arith, below))
 
   -- So a copy stays one, however far the split is,
-  pub copy-stays : (j copied : ℕ) (stage : StageKind)
+  copy-stays : (j copied : ℕ) (stage : StageKind)
       → block_at b (interval_block (area_of part move.into) j)
       ≡ block_at a (interval_block (area_of part move.into) j)
       → HasCopy part move j a
       → HasCopy part (record move { copied = copied; stage = stage }) j b
   copy-stays j copied stage there has = record {
     entry = has.entry;
-    is = subst
-        (λ (top : Block). slice_get (entries_of top) (staying move.entries + j) ≡ Some has.entry)
+    is = subst (λ (top : Block). slice_get (entries_of top) (move.stay + j) ≡ Some has.entry)
         (sym head-same) has.is;
-    same = there ∙ has.same ∙ sym (entry-same (staying move.entries + j) has.entry has.is);
+    same = there ∙ has.same ∙ sym (entry-same (move.stay + j) has.entry has.is);
   }
 
   -- and what is put is one.
@@ -98,10 +96,9 @@ module _ (part : KeyedChain) (move : MoveNow) (a b : Image)
       → HasCopy part (record move { copied = copied; stage = stage }) j b
   copy-made j copied stage put = record {
     entry = put.entry;
-    is = subst
-        (λ (top : Block). slice_get (entries_of top) (staying move.entries + j) ≡ Some put.entry)
+    is = subst (λ (top : Block). slice_get (entries_of top) (move.stay + j) ≡ Some put.entry)
         (sym head-same) put.is;
-    same = put.same ∙ sym (entry-same (staying move.entries + j) put.entry put.is);
+    same = put.same ∙ sym (entry-same (move.stay + j) put.entry put.is);
   }
 
 -- ---- a claim
@@ -115,9 +112,10 @@ claim-way part move now claimed is none there apart = record {
   inside = is.inside;
   entries = is.entries;
   some = is.some;
+  fewer = is.fewer;
   ready = (
     record { there = there; apart = apart },
-    omega (arith, none, is.some),
+    omega (arith, none, is.fewer),
     λ j below. absurd (omega (arith, none, below)),
   );
 }
@@ -160,6 +158,7 @@ module _ (tells : Bool) (told : IsTrue tells) (part : KeyedChain) (move : MoveNo
         (head-same part move a.cur b.cur under.head same-area)
         ∙ under.moving.entries;
     some = under.moving.some;
+    fewer = under.moving.fewer;
     ready = ready;
   }
 
@@ -221,8 +220,7 @@ module _ (tells : Bool) (told : IsTrue tells) (part : KeyedChain) (move : MoveNo
 
   module _ (at : n ≡ head_of part move.into)
       (before : (j : ℕ) → j < moving move → HasCopy part move j a.cur)
-      (upper : IsUpper (area_of part move.area) (staying move.entries)
-      (head_in part a.cur move.area) bytes)
+      (upper : IsUpper (area_of part move.area) move.stay (head_in part a.cur move.area) bytes)
       (stable : Only b (head_of part move.into) (λ block. block ≡ bytes))
       (copies : (j : ℕ) → j < moving move
       → Only b (interval_block (area_of part move.into) j) (λ block. block
@@ -234,35 +232,30 @@ module _ (tells : Bool) (told : IsTrue tells) (part : KeyedChain) (move : MoveNo
     count-same = ap (λ (top : Block). length (entries_of top)) top-same ∙ under.moving.entries
 
     is-copy : (j : ℕ) → j < moving move → HasCopy part move j a.cur
-        → IsCopy part move.area move.into (staying move.entries) j b
+        → IsCopy part move.area move.into move.stay j b
     is-copy j below has =
         let block : ℕ = entry_block (area_of part move.area) has.entry in
         let kept : block_at b.cur block ≡ block_at a.cur block =
-        entry-same part move a.cur b.cur under.head same-area (staying move.entries + j) has.entry
-        has.is in
+        entry-same part move a.cur b.cur under.head same-area (move.stay + j) has.entry has.is
+        in
         let from : block_at a.cur (interval_block (area_of part move.into) j)
         ≡ block_at b.cur block = has.same ∙ sym kept in
         record {
           entry = has.entry;
-          is = subst (λ (top : Block). slice_get (entries_of top) (staying move.entries + j)
-              ≡ Some has.entry) (sym top-same) has.is;
+          is = subst (λ (top : Block). slice_get (entries_of top) (move.stay + j) ≡ Some has.entry)
+              (sym top-same) has.is;
           stable = λ found may. copies j below found may ∙ from;
         }
 
-    moved : IsMoved part move.area move.into b
+    moved : IsMoved part move.area move.into move.stay b
     moved = record {
       upper = bytes;
-      is_upper = subst
-          (λ (count : ℕ). IsUpper (area_of part move.area) (staying count)
-          (head_in part b.cur move.area) bytes) (sym count-same)
-          (subst
-          (λ (top : Block). IsUpper (area_of part move.area) (staying move.entries) top bytes)
-          (sym top-same) upper);
+      is_upper = subst (λ (top : Block). IsUpper (area_of part move.area) move.stay top bytes)
+          (sym top-same) upper;
       stable = stable;
       copies = λ j inside.
           let below : j < moving move = omega (arith, inside, count-same) in
-          subst (λ (count : ℕ). IsCopy part move.area move.into (staying count) j b)
-          (sym count-same) (is-copy j below (before j below));
+          is-copy j below (before j below);
     }
 
     -- The old head may be shortened.

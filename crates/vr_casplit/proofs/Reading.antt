@@ -15,7 +15,9 @@ use Rattle.vr_space.proofs.CallerLemmas.{due-keeps, due-then, keeps-adds, keeps-
 use Rattle.vr_space.proofs.CallerLemmas.{records-then, rest-here, rest-keeps, rest-sound}
 use Rattle.vr_space.proofs.CallerLemmas.{room-keeps, same-keeps}
 use Rattle.vr_casplit.specs.Growing.{IsGrowing, LeavesRecords, LeavesRest}
-use Rattle.vr_casplit.specs.Splits.{IsMoving, IsMovingHead, MoveNow}
+use Rattle.vr_space.specs.Split.{MoveNow}
+use Rattle.vr_space.specs.Moves.{IsMoving}
+use Rattle.vr_casplit.specs.Splits.{IsMovingHead}
 
 module _ (tells : Bool) (told : IsTrue tells) (part : KeyedChain) (owners : Owners) (a m : Seen)
     (call : Keeps tells a m) (rests : IsChainAtRest part owners a) where

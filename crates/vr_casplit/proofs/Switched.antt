@@ -1,7 +1,7 @@
 -- What the last stage of a split leaves of its part: the records that it had, with the room that
 -- was kept, whether the put fails or not; and a part at rest where it is done.
 use Rattle.std.proofs.Common.{◌≡◌, ◌⊎◌, inl, inr, ⊎_elim, ℕ, zero, suc, ◌<◌, Bool, IsTrue, List, []}
-use Rattle.std.proofs.Common.{Option, Some, None, length, refl, sym, ap, subst, ◌∙◌, arith}
+use Rattle.std.proofs.Common.{Option, Some, None, refl, sym, ap, subst, ◌∙◌, arith}
 use Rattle.std.specs.Prelude.{Contains}
 use Rattle.vr_types.specs.Blocks.{Puts}
 use Rattle.vr_types.specs.Content.{Item}
@@ -14,7 +14,7 @@ use Rattle.vr_space.specs.Areas.{ChainKeepsRoom, IsChainAtRest, IsChainSound, Is
 use Rattle.vr_space.specs.Areas.{IsQuietArea, KeyedChain, KnowsAreas, area_for, area_of, areas_in}
 use Rattle.vr_space.specs.Areas.{chain_way}
 use Rattle.vr_space.specs.Areas.{head_in, head_of}
-use Rattle.vr_space.specs.Keyed.{IsKeyedSound, KeepsRoom, area_way, entries_of}
+use Rattle.vr_space.specs.Keyed.{IsKeyedSound, KeepsRoom, area_way}
 use Rattle.vr_space.specs.Owners.{Owners}
 use Rattle.vr_space.specs.Part.{AddsTo, DueMore, HasOnly, HasRoom, InPart, KeyedShape, MayAlsoHold}
 use Rattle.vr_space.specs.Part.{MayHold, Nothing, SameRecords, item_of}
@@ -26,8 +26,8 @@ use Rattle.vr_space.proofs.CallerLemmas.{each-after-less}
 use Rattle.vr_space.proofs.CallerLemmas.{hold-up, item-of-area, item-of-none, links-each}
 use Rattle.vr_space.proofs.CallerLemmas.{only-weaken}
 use Rattle.vr_space.proofs.CallerLemmas.{room-here, room-image, sound-image}
-use Rattle.vr_casplit.specs.Growing.{LeavesRecords, LeavesRest, with_area, with_end}
-use Rattle.vr_casplit.specs.Halves.{cut_of, staying}
+use Rattle.vr_space.specs.Moves.{cut_of, with_area, with_end}
+use Rattle.vr_casplit.specs.Growing.{LeavesRecords, LeavesRest}
 use Rattle.vr_casplit.proofs.SwitchedAreas.{IsShortened, into-is, knows-switched, other-same}
 use Rattle.vr_casplit.proofs.SwitchedLinks.{links-switched, other-only, rests-inside}
 use Rattle.vr_casplit.proofs.SwitchedWay.{way-switched}
@@ -62,8 +62,9 @@ one-less : (n : ℕ) → 0 < n → (k : ℕ) × (n ≡ suc k)
 one-less zero some = absurd (omega (arith, some))
 one-less (suc k) some = (k, refl)
 
-module _ (tells : Bool) (told : IsTrue tells) (part : KeyedChain) (owners : Owners) (area into : ℕ)
-    (a b : Seen) (lower : Block) (can : CanSwitch part owners area into a lower)
+module _ (tells : Bool) (told : IsTrue tells) (part : KeyedChain) (owners : Owners)
+    (area into stay : ℕ) (a b : Seen) (lower : Block)
+    (can : CanSwitch part owners area into stay a lower)
     (call : Puts tells (head_of part area) lower a b) where
   abbrev head : ℕ
   head = head_of part area
@@ -72,13 +73,13 @@ module _ (tells : Bool) (told : IsTrue tells) (part : KeyedChain) (owners : Owne
   more = also a (head_of part area) lower
 
   below : head_of part area < a.count
-  below = omega (arith, (here part owners area into a lower can).1.area)
+  below = omega (arith, (here part owners area into stay a lower can).1.area)
 
   counted : (k : ℕ) × (area_count part.geometry ≡ suc k)
   counted = one-less (area_count part.geometry) (omega (arith, can.rests.on.part_is.first))
 
   inside : InPart (KeyedShape part) owners (head_of part area)
-  inside = (here part owners area into a lower can).0.own.owned (head_of part area)
+  inside = (here part owners area into stay a lower can).0.own.owned (head_of part area)
       (omega arith, omega arith)
 
   -- ---- what is allowed
@@ -87,7 +88,7 @@ module _ (tells : Bool) (told : IsTrue tells) (part : KeyedChain) (owners : Owne
   also-narrows = record {
     others = λ n block under other. ⊎_elim (λ old. old) (λ new. absurd (other new.0));
     heads = λ top. ⊎_elim
-        (λ old. inl ((here part owners area into a lower can).0.one_head top old))
+        (λ old. inl ((here part owners area into stay a lower can).0.one_head top old))
         (λ new. inr new.1);
     allowed = λ n block under may. may;
     current = λ n under. can.left.each n under;
@@ -125,10 +126,10 @@ module _ (tells : Bool) (told : IsTrue tells) (part : KeyedChain) (owners : Owne
     sound-now : IsChainSound part owners now
     sound-now = record {
       on = chain-on-less part a now count size can.rests.on;
-      chain = links-switched part owners area into a lower can now count size narrows
+      chain = links-switched part owners area into stay a lower can now count size narrows
           (IsOwnedArea part owners)
-          (λ at is. (rests-inside part owners area into a lower can at is).0.own) can.own counted.0
-          counted.1;
+          (λ at is. (rests-inside part owners area into stay a lower can at is).0.own) can.own
+          counted.0 counted.1;
     }
 
     room-now : (kept : Lengths) → ChainKeepsRoom part kept a → ChainKeepsRoom part kept now
@@ -141,14 +142,14 @@ module _ (tells : Bool) (told : IsTrue tells) (part : KeyedChain) (owners : Owne
         (λ at is top may. may) (area_count part.geometry) part.first
         (links-each part (λ at. KeepsRoom (area_of part at) kept now) now
         (area_count part.geometry) part.first None
-        (links-switched part owners area into a lower can now count size narrows
+        (links-switched part owners area into stay a lower can now count size narrows
         (λ at. KeepsRoom (area_of part at) kept now)
         (λ at is. by-area (λ one. KeepsRoom (area_of part one) kept now) area at
-        (area-room part owners area into a lower can now count size narrows kept
+        (area-room part owners area into stay a lower can now count size narrows kept
         (has area can.inside))
-        (λ differ. other-room part owners area into a lower can now count size narrows kept at
-        differ (rests-inside part owners area into a lower can at is) (has at is)))
-        (into-room part owners area into a lower can now count size narrows kept
+        (λ differ. other-room part owners area into stay a lower can now count size narrows kept at
+        differ (rests-inside part owners area into stay a lower can at is) (has at is)))
+        (into-room part owners area into stay a lower can now count size narrows kept
         (has area can.inside))
         counted.0 counted.1))
 
@@ -159,7 +160,7 @@ module _ (tells : Bool) (told : IsTrue tells) (part : KeyedChain) (owners : Owne
       → MayHold (KeyedShape part) a.may place item
   held-before may narrows place item holds =
       hold-up part owners a can.rests can.left place item
-      (way-switched part owners area into a lower can may a.may narrows place item counted.0
+      (way-switched part owners area into stay a lower can may a.may narrows place item counted.0
       counted.1 holds)
 
   -- It adds nothing to what a place may hold,
@@ -180,8 +181,8 @@ module _ (tells : Bool) (told : IsTrue tells) (part : KeyedChain) (owners : Owne
   -- each has its record,
   pub switch-same : SameRecords (KeyedShape part) a.cur b.cur
   switch-same place = by_found (area_for part a.cur place) refl
-      (way-switched part owners area into a lower can (IsOf b.cur) (IsOf a.cur) read-narrows place
-      (item_of (KeyedShape part) b.cur place) counted.0 counted.1
+      (way-switched part owners area into stay a lower can (IsOf b.cur) (IsOf a.cur) read-narrows
+      place (item_of (KeyedShape part) b.cur place) counted.0 counted.1
       (found-is b.cur (chain_way part place)))
     where
       by_found : (found : Option ℕ) → area_for part a.cur place ≡ found
@@ -223,23 +224,25 @@ module _ (tells : Bool) (told : IsTrue tells) (part : KeyedChain) (owners : Owne
     rest-now : IsChainAtRest part owners b
     rest-now = record {
       on = chain-on-less part a b call.count_same call.size_same can.rests.on;
-      chain = links-switched part owners area into a lower can b call.count_same call.size_same
+      chain = links-switched part owners area into stay a lower can b call.count_same call.size_same
           then-narrows (IsQuietArea part owners b)
-          (λ at is. let resting = rests-inside part owners area into a lower can at is in record {
+          (λ at is.
+          let resting = rests-inside part owners area into stay a lower can at is in record {
             own = resting.0.own;
             one_head = by-area
                 (λ one. Only b (head_of part one) (λ top. top ≡ head_in part b.cur one)) area at
                 (λ top may. only top may ∙ sym is_now)
                 (λ differ top may.
-                other-only part owners area into a lower can b.may a.may then-narrows at resting
-                differ top may
-                ∙ sym (other-same part owners area into a lower can b.cur shortened at differ));
+                other-only part owners area into stay a lower can b.may a.may then-narrows at
+                resting differ top may
+                ∙ sym
+                (other-same part owners area into stay a lower can b.cur shortened at differ));
           })
           (record {
             own = can.own;
             one_head = λ top may.
-                upper-only part owners area into a lower can b.may a.may then-narrows top may
-                ∙ sym (into-is part owners area into a lower can b.cur shortened);
+                upper-only part owners area into stay a lower can b.may a.may then-narrows top may
+                ∙ sym (into-is part owners area into stay a lower can b.cur shortened);
           })
           counted.0 counted.1;
     }
@@ -260,7 +263,7 @@ module _ (tells : Bool) (told : IsTrue tells) (part : KeyedChain) (owners : Owne
     due-now : DueMore (KeyedShape part) [] a b
     due-now listed place due within item holds =
         by_found (area_for part a.cur place) refl
-        (way-switched part owners area into a lower can (MayOnceForced listed b)
+        (way-switched part owners area into stay a lower can (MayOnceForced listed b)
         (MayOnceForced listed a) (once-narrows listed) place item counted.0 counted.1 holds)
         ∙ sym (switch-same place)
       where
@@ -278,7 +281,6 @@ module _ (tells : Bool) (told : IsTrue tells) (part : KeyedChain) (owners : Owne
     -- What is kept in memory of its areas is right with one more.
     pub switch-knows : (areas : List ℕ) (ends : List (List ℕ)) → KnowsAreas part areas ends a.cur
         → KnowsAreas part (with_area area into areas)
-        (with_end area (cut_of (staying (length (entries_of (head_in part a.cur area))))
-        (record_in (head_in part a.cur area))) areas ends) b.cur
-    switch-knows = knows-switched part owners area into a lower can b.cur shortened counted.0
+        (with_end area (cut_of stay (record_in (head_in part a.cur area))) areas ends) b.cur
+    switch-knows = knows-switched part owners area into stay a lower can b.cur shortened counted.0
         counted.1

@@ -16,12 +16,11 @@ use Rattle.vr_space.specs.Keyed.{HasEnds}
 use Rattle.vr_space.specs.Owners.{Owners}
 use Rattle.vr_space.specs.Rosters.{after_next}
 use Rattle.vr_space.proofs.CallerLemmas.{HasSameEnds, areas-kept, resting-links, same-ends}
-use Rattle.vr_casplit.specs.Growing.{with_area, with_end}
-use Rattle.vr_casplit.specs.Halves.{cut_of}
+use Rattle.vr_space.specs.Moves.{cut_of, with_area, with_end}
 use Rattle.vr_casplit.proofs.Fuel.{areas-alike, contains-first, contains-later, each-listed}
 use Rattle.vr_casplit.proofs.Heads.{AreHeads, lower-end, lower-next, upper-end, upper-next}
 use Rattle.vr_casplit.proofs.SwitchedLinks.{IsBefore, IsPast, before-all, leads-before, leads-past}
-use Rattle.vr_casplit.proofs.Switching.{CanSwitch, are-heads, differs, into-there, other-head, stay}
+use Rattle.vr_casplit.proofs.Switching.{CanSwitch, are-heads, differs, into-there, other-head}
 
 -- ---- lists of areas
 
@@ -100,54 +99,51 @@ pub record IsShortened (part : KeyedChain) (area : ℕ) (lower : Block) (old new
     pub others : (n : ℕ) → (n ≡ head_of part area → ⊥) → block_at new n ≡ block_at old n
     pub here : head_in part new area ≡ lower
 
-module _ (part : KeyedChain) (owners : Owners) (area into : ℕ) (old : Seen) (lower : Block)
-    (can : CanSwitch part owners area into old lower) (new : Image)
+module _ (part : KeyedChain) (owners : Owners) (area into stay : ℕ) (old : Seen) (lower : Block)
+    (can : CanSwitch part owners area into stay old lower) (new : Image)
     (short : IsShortened part area lower old.cur new) where
   abbrev before : Block
   before = head_in part old.cur area
 
-  abbrev stay_now : ℕ
-  stay_now = stay part owners area into old lower can
-
-  both : AreHeads part area into stay_now before lower can.moved.upper
-  both = are-heads part owners area into old lower can
+  both : AreHeads part area into stay before lower can.moved.upper
+  both = are-heads part owners area into stay old lower can
 
   abbrev Before : ℕ → ℕ → Option (List ℕ) → Type 0
-  Before = IsBefore part owners area into old lower can
+  Before = IsBefore part owners area into stay old lower can
 
   -- ---- heads
 
   pub other-same : (at : ℕ) → (at ≡ area → ⊥) → head_in part new at ≡ head_in part old.cur at
   other-same at differ = short.others (head_of part at)
-      (other-head part owners area into old lower can at differ (head_of part at)
+      (other-head part owners area into stay old lower can at differ (head_of part at)
       (omega arith, omega arith))
 
   pub into-is : head_in part new into ≡ can.moved.upper
-  into-is = other-same into (differs part owners area into old lower can)
+  into-is = other-same into (differs part owners area into stay old lower can)
       ∙ can.moved.stable (head_in part old.cur into)
       (can.left.each (head_of part into)
-      (omega (arith, into-there part owners area into old lower can)))
+      (omega (arith, into-there part owners area into stay old lower can)))
 
   here-next : (record_in (head_in part new area)).next ≡ Some into
   here-next = ap (λ (head : Block). (record_in head).next) short.here
-      ∙ lower-next part area into stay_now before lower can.moved.upper both
+      ∙ lower-next part area into stay before lower can.moved.upper both
 
   into-next : (record_in (head_in part new into)).next ≡ (record_in before).next
   into-next = ap (λ (head : Block). (record_in head).next) into-is
-      ∙ upper-next part area into stay_now before lower can.moved.upper both
+      ∙ upper-next part area into stay before lower can.moved.upper both
 
-  here-end : end_of (head_in part new area) ≡ Some (cut_of stay_now (record_in before))
+  here-end : end_of (head_in part new area) ≡ Some (cut_of stay (record_in before))
   here-end = ap end_of short.here
-      ∙ lower-end part area into stay_now before lower can.moved.upper both
+      ∙ lower-end part area into stay before lower can.moved.upper both
 
   into-end : end_of (head_in part new into) ≡ end_of before
   into-end = ap end_of into-is
-      ∙ upper-end part area into stay_now before lower can.moved.upper both
+      ∙ upper-end part area into stay before lower can.moved.upper both
 
   -- ---- its areas
 
   -- past the one that is split they are those that were there
-  past-areas : (k at : ℕ) → IsPast part owners area into old lower can k at
+  past-areas : (k at : ℕ) → IsPast part owners area into stay old lower can k at
       → areas_after part new k at ≡ areas_after part old.cur k at
   past-areas k at past = areas-kept part old.cur new k at
       (each-listed part old.cur (HasSameEnds part old.cur new) k at
@@ -164,8 +160,8 @@ module _ (part : KeyedChain) (owners : Owners) (area into : ℕ) (old : Seen) (l
           ≡ after_next [] (areas_after part old.cur k) next
       by_next None is = refl
       by_next (Some further) is = past-areas k further
-          (leads-past part owners area into old lower can k k low is_before (omega arith) further
-          is)
+          (leads-past part owners area into stay old lower can k k low is_before (omega arith)
+          further is)
 
   -- from it on the new one is there too
   here-areas : (k : ℕ) (low : Option (List ℕ)) → Before (suc k) area low
@@ -187,7 +183,7 @@ module _ (part : KeyedChain) (owners : Owners) (area into : ℕ) (old : Seen) (l
       ≡ with_area area into (areas_after part old.cur (suc k) one)) (sym same)
       (here-areas k low (subst (λ (one : ℕ). Before (suc k) one low) same is_before)))
       (λ differ.
-      let on = leads-before part owners area into old lower can k at low is_before differ in
+      let on = leads-before part owners area into stay old lower can k at low is_before differ in
       ap (λ (head : Block). at ∷ after_next [] (areas_after part new (suc k)) (record_in head).next)
       (other-same at differ)
       ∙ ap (λ (next : Option ℕ). at ∷ after_next [] (areas_after part new (suc k)) next) on.1
@@ -216,39 +212,39 @@ module _ (part : KeyedChain) (owners : Owners) (area into : ℕ) (old : Seen) (l
           ≡ map end_before (after_next [] (areas_after part old.cur k) next)
       by_next None is = refl
       by_next (Some further) is =
-          let past = leads-past part owners area into old lower can k k low is_before (omega arith)
-          further is in
+          let past = leads-past part owners area into stay old lower can k k low is_before
+          (omega arith) further is in
           map-same end_before end_now (areas_after part old.cur k further)
           (λ one has. ap end_of (other-same one (past.each one has).1))
 
   before-ends : (k at : ℕ) (low : Option (List ℕ)) → Before k at low → (ends : List (List ℕ))
       → map Some ends ≡ map end_before (areas_after part old.cur k at)
-      → map Some (with_end area (cut_of stay_now (record_in before))
+      → map Some (with_end area (cut_of stay (record_in before))
       (areas_after part old.cur k at) ends)
       ≡ map end_now (with_area area into (areas_after part old.cur k at))
   before-ends zero at low is_before ends is = absurd is_before.chain
   before-ends (suc k) at low is_before ends is = ⊎_elim
       (λ same. subst
       (λ (one : ℕ). map Some ends ≡ map end_before (areas_after part old.cur (suc k) one)
-      → map Some (with_end area (cut_of stay_now (record_in before))
+      → map Some (with_end area (cut_of stay (record_in before))
       (areas_after part old.cur (suc k) one) ends)
       ≡ map end_now (with_area area into (areas_after part old.cur (suc k) one))) (sym same)
-      (λ ends_are. ends-here end_before end_now area into (cut_of stay_now (record_in before))
+      (λ ends_are. ends-here end_before end_now area into (cut_of stay (record_in before))
       (after_next [] (areas_after part old.cur k) (record_in before).next) ends ends_are here-end
       into-end
       (next-ends k low (subst (λ (one : ℕ). Before (suc k) one low) same is_before)))
       is)
       (λ differ.
-      let on = leads-before part owners area into old lower can k at low is_before differ in
+      let on = leads-before part owners area into stay old lower can k at low is_before differ in
       subst
       (λ (next : Option ℕ).
       map Some ends ≡ map end_before (at ∷ after_next [] (areas_after part old.cur k) next)
-      → map Some (with_end area (cut_of stay_now (record_in before))
+      → map Some (with_end area (cut_of stay (record_in before))
       (at ∷ after_next [] (areas_after part old.cur k) next) ends)
       ≡ map end_now (with_area area into (at ∷ after_next [] (areas_after part old.cur k) next)))
       (sym on.1)
       (λ ends_are. ends-there end_before end_now area into at
-      (cut_of stay_now (record_in before)) (areas_after part old.cur k on.0) ends ends_are differ
+      (cut_of stay (record_in before)) (areas_after part old.cur k on.0) ends ends_are differ
       (ap end_of (other-same at differ))
       (before-ends k on.0 (end_of (head_in part old.cur at)) on.2))
       is)
@@ -258,10 +254,10 @@ module _ (part : KeyedChain) (owners : Owners) (area into : ℕ) (old : Seen) (l
   pub knows-switched : (k : ℕ) → area_count part.geometry ≡ suc k → (areas : List ℕ)
       (ends : List (List ℕ)) → KnowsAreas part areas ends old.cur
       → KnowsAreas part (with_area area into areas)
-      (with_end area (cut_of stay_now (record_in before)) areas ends) new
+      (with_end area (cut_of stay (record_in before)) areas ends) new
   knows-switched k is areas ends knows =
       let is_before : Before k part.first None =
-      before-all part owners area into old lower can k is in
+      before-all part owners area into stay old lower can k is in
       let same : areas ≡ areas_after part old.cur k part.first =
       knows.areas_are
       ∙ areas-alike part old.cur (area_count part.geometry) k part.first None None
@@ -272,7 +268,7 @@ module _ (part : KeyedChain) (owners : Owners) (area into : ℕ) (old : Seen) (l
             ∙ before-areas k part.first None is_before);
         ends_are = subst
             (λ (all : List ℕ).
-            map Some (with_end area (cut_of stay_now (record_in before)) all ends)
+            map Some (with_end area (cut_of stay (record_in before)) all ends)
             ≡ map end_now (with_area area into all)) (sym same)
             (before-ends k part.first None is_before ends
             (knows.ends_are ∙ ap (map end_before) same));

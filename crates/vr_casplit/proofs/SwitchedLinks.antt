@@ -21,18 +21,15 @@ use Rattle.vr_casplit.proofs.Fuel.{each-listed, links-fewer, links-wider, none-t
 use Rattle.vr_casplit.proofs.Heads.{AreHeads, lower-end, lower-low, lower-next, upper-followed}
 use Rattle.vr_casplit.proofs.Heads.{upper-low}
 use Rattle.vr_casplit.proofs.Switching.{CanSwitch, Narrows, are-heads, area-sound, into-sound}
-use Rattle.vr_casplit.proofs.Switching.{other-head, other-sound, stay, upper-only}
+use Rattle.vr_casplit.proofs.Switching.{other-head, other-sound, upper-only}
 
-module _ (part : KeyedChain) (owners : Owners) (area into : ℕ) (old : Seen) (lower : Block)
-    (can : CanSwitch part owners area into old lower) where
+module _ (part : KeyedChain) (owners : Owners) (area into stay : ℕ) (old : Seen) (lower : Block)
+    (can : CanSwitch part owners area into stay old lower) where
   abbrev top_now : Block
   top_now = head_in part old.cur area
 
-  abbrev stay_now : ℕ
-  stay_now = stay part owners area into old lower can
-
-  both : AreHeads part area into stay_now top_now lower can.moved.upper
-  both = are-heads part owners area into old lower can
+  both : AreHeads part area into stay top_now lower can.moved.upper
+  both = are-heads part owners area into stay old lower can
 
   -- ---- the old chain
 
@@ -134,7 +131,7 @@ module _ (part : KeyedChain) (owners : Owners) (area into : ℕ) (old : Seen) (l
       resting.0.one_head head
       (narrows.allowed (head_of part at) head below
       (narrows.others (head_of part at) head below
-      (other-head part owners area into old lower can at differ (head_of part at)
+      (other-head part owners area into stay old lower can at differ (head_of part at)
       (omega arith, omega arith)) held))
 
   pub other-ends : (may less : ℕ → Block → Type 0) → Narrows part area lower old may less
@@ -159,7 +156,8 @@ module _ (part : KeyedChain) (owners : Owners) (area into : ℕ) (old : Seen) (l
         let resting = rests-inside one is.0 in (
           other-ends now.may old.may narrows one resting is.1,
           own one is.0,
-          other-sound part owners area into old lower can now count size narrows one is.1 resting,
+          other-sound part owners area into stay old lower can now count size narrows one is.1
+              resting,
         )))
 
     followed-past : (k n : ℕ) (low : Option (List ℕ)) → IsBefore (suc k) area low → k ≤ n
@@ -179,17 +177,17 @@ module _ (part : KeyedChain) (owners : Owners) (area into : ℕ) (old : Seen) (l
     into-links k low before =
         let upper : Block = can.moved.upper in
         let only : (head : Block) → now.may (head_of part into) head → head ≡ upper =
-        upper-only part owners area into old lower can now.may old.may narrows in (
+        upper-only part owners area into stay old lower can now.may old.may narrows in (
           own_into,
           record {
-            sound = into-sound part owners area into old lower can now count size narrows;
+            sound = into-sound part owners area into stay old lower can now count size narrows;
             begins = λ top may. ap low_of (only top may)
-                ∙ upper-low part area into stay_now top_now lower upper both
-                ∙ sym (lower-end part area into stay_now top_now lower upper both);
+                ∙ upper-low part area into stay top_now lower upper both
+                ∙ sym (lower-end part area into stay top_now lower upper both);
             next = λ top may. subst
                 (λ (one : Block). IsFollowed part (Links part Own now k) one (record_in one).next)
                 (sym (only top may))
-                (upper-followed part area into stay_now top_now lower upper both
+                (upper-followed part area into stay top_now lower upper both
                 (Links part Own now k)
                 (followed-past k k low before (omega arith)));
           },
@@ -202,11 +200,11 @@ module _ (part : KeyedChain) (owners : Owners) (area into : ℕ) (old : Seen) (l
         let upper : Block = can.moved.upper in (
           own area (before.each area (contains-first area _)),
           record {
-            sound = area-sound part owners area into old lower can now count size narrows;
+            sound = area-sound part owners area into stay old lower can now count size narrows;
             begins = λ top may. ⊎_elim
                 (λ same. ap low_of same ∙ before.chain.begins)
                 (λ new. ap low_of new
-                ∙ lower-low part area into stay_now top_now lower upper both
+                ∙ lower-low part area into stay top_now lower upper both
                 ∙ before.chain.begins)
                 (narrows.heads top may);
             next = λ top may. ⊎_elim
@@ -219,7 +217,7 @@ module _ (part : KeyedChain) (owners : Owners) (area into : ℕ) (old : Seen) (l
                 IsFollowed part (Links part Own now (suc k)) one (record_in one).next)
                 (sym new)
                 (subst (IsFollowed part (Links part Own now (suc k)) lower)
-                (sym (lower-next part area into stay_now top_now lower upper both))
+                (sym (lower-next part area into stay top_now lower upper both))
                 (into-links k low before)))
                 (narrows.heads top may);
           },
@@ -240,8 +238,8 @@ module _ (part : KeyedChain) (owners : Owners) (area into : ℕ) (old : Seen) (l
         let on = leads-before k at low before differ in (
           own at inside,
           record {
-            sound = other-sound part owners area into old lower can now count size narrows at differ
-                resting;
+            sound = other-sound part owners area into stay old lower can now count size narrows at
+                differ resting;
             begins = λ top may. ap low_of (only top may) ∙ before.chain.begins;
             next = λ top may. subst
                 (λ (one : Block).

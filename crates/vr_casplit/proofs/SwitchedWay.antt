@@ -28,10 +28,10 @@ use Rattle.vr_casplit.proofs.Heads.{upper-way}
 use Rattle.vr_casplit.proofs.SwitchedLinks.{IsBefore, IsPast, before-all, leads-before, leads-past}
 use Rattle.vr_casplit.proofs.SwitchedLinks.{other-ends, other-only, rests-inside}
 use Rattle.vr_casplit.proofs.Switching.{CanSwitch, Narrows, are-heads, copied, here, other-head}
-use Rattle.vr_casplit.proofs.Switching.{stay, top-head, upper-only}
+use Rattle.vr_casplit.proofs.Switching.{top-head, upper-only}
 
-module _ (part : KeyedChain) (owners : Owners) (area into : ℕ) (old : Seen) (lower : Block)
-    (can : CanSwitch part owners area into old lower) (may less : ℕ → Block → Type 0)
+module _ (part : KeyedChain) (owners : Owners) (area into stay : ℕ) (old : Seen) (lower : Block)
+    (can : CanSwitch part owners area into stay old lower) (may less : ℕ → Block → Type 0)
     (narrows : Narrows part area lower old may less) (place : List ℕ) (item : Option Item) where
   abbrev before : Block
   before = head_in part old.cur area
@@ -39,17 +39,14 @@ module _ (part : KeyedChain) (owners : Owners) (area into : ℕ) (old : Seen) (l
   abbrev upper : Block
   upper = can.moved.upper
 
-  abbrev stay_now : ℕ
-  stay_now = stay part owners area into old lower can
-
-  both : AreHeads part area into stay_now before lower upper
-  both = are-heads part owners area into old lower can
+  both : AreHeads part area into stay before lower upper
+  both = are-heads part owners area into stay old lower can
 
   abbrev Before : ℕ → ℕ → Option (List ℕ) → Type 0
-  Before = IsBefore part owners area into old lower can
+  Before = IsBefore part owners area into stay old lower can
 
   abbrev Past : ℕ → ℕ → Type 0
-  Past = IsPast part owners area into old lower can
+  Past = IsPast part owners area into stay old lower can
 
   abbrev Held : Option ℕ → Type 0
   Held = MayHoldBy part old.cur less place item
@@ -57,14 +54,14 @@ module _ (part : KeyedChain) (owners : Owners) (area into : ℕ) (old : Seen) (l
   -- ---- in one area
 
   resting : (at : ℕ) → Contains (areas_in part old.cur) at → IsResting part owners old at
-  resting = rests-inside part owners area into old lower can
+  resting = rests-inside part owners area into stay old lower can
 
   -- What may be held in another area at rest might be held,
   other-held : (at : ℕ) → IsResting part owners old at → (at ≡ area → ⊥)
       → MayHoldHere (area_of part at) may place item → MayHoldHere (area_of part at) less place item
   other-held at rests differ = find-less (IsBlock (area_of part at) old) may less item
       (λ n block is held. narrows.others n block is.0
-      (other-head part owners area into old lower can at differ n is.1) held)
+      (other-head part owners area into stay old lower can at differ n is.1) held)
       (area_way (area_of part at) place)
       (within-less (IsBlock (area_of part at) old) less old.may
       (λ n block is. narrows.allowed n block is.0) (area_way (area_of part at) place)
@@ -77,7 +74,7 @@ module _ (part : KeyedChain) (owners : Owners) (area into : ℕ) (old : Seen) (l
     before,
     narrows.current (head_of part area) (omega (
       arith,
-      (here part owners area into old lower
+      (here part owners area into stay old lower
           can).1.area,
     )),
     by_found (entry_in before place) refl found,
@@ -89,10 +86,10 @@ module _ (part : KeyedChain) (owners : Owners) (area into : ℕ) (old : Seen) (l
       by_found None is held = held
       by_found (Some at) is held =
           let within = found-in (area_of part area) before place at
-          (top-head part owners area into old lower can) is in (
+          (top-head part owners area into stay old lower can) is in (
             held.0,
             narrows.others (entry_block (area_of part area) at.1) held.0
-                (omega (arith, within, (here part owners area into old lower can).1.area))
+                (omega (arith, within, (here part owners area into stay old lower can).1.area))
                 (λ same. omega (arith, same)) held.1,
             held.2,
           )
@@ -105,7 +102,8 @@ module _ (part : KeyedChain) (owners : Owners) (area into : ℕ) (old : Seen) (l
       (ways-down part old.cur may place item k at
       (each-listed part old.cur (KeepsHead part old.cur may) k at
       (λ one has. let is = past.each one has in
-      other-ends part owners area into old lower can may less narrows one (resting one is.0) is.1))
+      other-ends part owners area into stay old lower can may less narrows one (resting one is.0)
+      is.1))
       found)
     where
       by_found : (to : Option ℕ) → area_after part old.cur place k at ≡ to
@@ -126,10 +124,10 @@ module _ (part : KeyedChain) (owners : Owners) (area into : ℕ) (old : Seen) (l
           → Held (after_next None (area_after part old.cur place k) next)
       by_next None is found = found
       by_next (Some further) is found =
-          let wider = leads-past part owners area into old lower can k n low is_before most further
-          is in
-          let same = leads-past part owners area into old lower can k k low is_before (omega arith)
+          let wider = leads-past part owners area into stay old lower can k n low is_before most
           further is in
+          let same = leads-past part owners area into stay old lower can k k low is_before
+          (omega arith) further is in
           subst Held (area-alike part old.cur place n k further (end_of before) (end_of before)
           wider.chain same.chain) (past-held n further wider found)
 
@@ -161,14 +159,14 @@ module _ (part : KeyedChain) (owners : Owners) (area into : ℕ) (old : Seen) (l
       (subst (λ (next : Option ℕ). MayFind may item (cond (reaches before place)
       (way_under (area_of part into) place upper)
       (after_next (Found None) (areas_way part place k) next)))
-      (upper-next part area into stay_now before lower upper both)
+      (upper-next part area into stay before lower upper both)
       (subst (λ (test : Bool). MayFind may item (cond test
       (way_under (area_of part into) place upper)
       (after_next (Found None) (areas_way part place k) (record_in upper).next)))
-      (upper-reach part area into stay_now before lower upper both place)
+      (upper-reach part area into stay before lower upper both place)
       (subst (λ (one : Block). MayFind may item
       (way_past part place into (areas_way part place k) one))
-      (upper-only part owners area into old lower can may less narrows head held) found)))
+      (upper-only part owners area into stay old lower can may less narrows head held) found)))
     where
       by_test : (test : Bool)
           → MayFind may item (cond test (way_under (area_of part into) place upper)
@@ -178,11 +176,11 @@ module _ (part : KeyedChain) (owners : Owners) (area into : ℕ) (old : Seen) (l
         before,
         narrows.current (head_of part area) (omega (
           arith,
-          (here part owners area into old lower
+          (here part owners area into stay old lower
               can).1.area,
         )),
-        upper-way part area into stay_now before lower upper both may less place item
-            (copied part owners area into old lower can may less narrows) past there,
+        upper-way part area into stay before lower upper both may less place item
+            (copied part owners area into stay old lower can may less narrows) past there,
       )
       by_test false there = next-held k k low is_before (omega arith) there
 
@@ -196,13 +194,13 @@ module _ (part : KeyedChain) (owners : Owners) (area into : ℕ) (old : Seen) (l
           (after_next (Found None) (areas_way part place (suc k)) (record_in lower).next))
           → Here k (reaches before place)
       by_test true upto found = subst (Here k)
-          (sym (lower-reached part area into stay_now before lower upper both place upto))
+          (sym (lower-reached part area into stay before lower upper both place upto))
           (under-held (subst (MayFind may item)
-          (lower-way part area into stay_now before lower upper both place upto) found))
+          (lower-way part area into stay before lower upper both place upto) found))
       by_test false past found = upper-held k low is_before past
           (subst (λ (next : Option ℕ).
           MayFind may item (after_next (Found None) (areas_way part place (suc k)) next))
-          (lower-next part area into stay_now before lower upper both) found)
+          (lower-next part area into stay before lower upper both) found)
 
   area-held : (k : ℕ) (low : Option (List ℕ)) → Before (suc k) area low
       → MayFind may item (areas_way part place (suc (suc k)) area)
@@ -230,8 +228,9 @@ module _ (part : KeyedChain) (owners : Owners) (area into : ℕ) (old : Seen) (l
       (λ differ.
       let rests = resting at (is_before.each at (contains-first at _)) in
       let only : head ≡ head_in part old.cur at =
-      other-only part owners area into old lower can may less narrows at rests differ head held in
-      let on = leads-before part owners area into old lower can k at low is_before differ in
+      other-only part owners area into stay old lower can may less narrows at rests differ head
+      held in
+      let on = leads-before part owners area into stay old lower can k at low is_before differ in
       subst (λ (next : Option ℕ). Held (cond (reaches (head_in part old.cur at) place) (Some at)
       (after_next None (area_after part old.cur place k) next))) (sym on.1)
       (by_test on.0 rests differ (reaches (head_in part old.cur at) place)
@@ -263,7 +262,7 @@ module _ (part : KeyedChain) (owners : Owners) (area into : ℕ) (old : Seen) (l
       → MayHoldBy part old.cur less place item (area_for part old.cur place)
   way-switched k is found =
       let is_before : Before k part.first None =
-      before-all part owners area into old lower can k is in
+      before-all part owners area into stay old lower can k is in
       subst Held
       (area-alike part old.cur place k (area_count part.geometry) part.first None None
       is_before.chain (resting-links part owners old can.rests can.left))

@@ -1,6 +1,6 @@
 -- What the last stage of a split finds, and the areas of the chain while the old head and the
 -- shortened one may be left: each is in order, the new one too, and has room for what is kept.
-use Rattle.std.proofs.Common.{◌≡◌, ◌⊎◌, ⊎_elim, ℕ, zero, suc, ◌+◌, ◌<◌, ◌≤◌, List, []}
+use Rattle.std.proofs.Common.{◌≡◌, ◌⊎◌, ⊎_elim, ℕ, zero, suc, ◌+◌, ◌<◌, List, []}
 use Rattle.std.proofs.Common.{◌∷◌, Option, Some, length, drop, refl, sym, ap, subst, ◌∙◌, arith}
 use Rattle.std.specs.Prelude.{Contains, slice_index, unwrap_or}
 use Rattle.std.specs.List.{slice_get}
@@ -17,27 +17,25 @@ use Rattle.vr_space.specs.Room.{HaveRoom, Lengths, Range}
 use Rattle.vr_space.specs.UnderWay.{interval_block}
 use Rattle.vr_space.proofs.CallerLemmas.{AreIn, IsBlock, IsResting, area-room-less, area-there}
 use Rattle.vr_space.proofs.CallerLemmas.{areas-apart, head-in, keyed-less, resting-area}
-use Rattle.vr_casplit.specs.Halves.{numbered_from, staying}
-use Rattle.vr_casplit.specs.Moving.{IsLower, IsMoved}
-use Rattle.vr_casplit.proofs.Heads.{AreHeads, lower-each, lower-head, some-move, some-stay}
+use Rattle.vr_space.specs.Moves.{IsLower, IsMoved, numbered_from}
+use Rattle.vr_casplit.proofs.Heads.{AreHeads, lower-each, lower-head}
 use Rattle.vr_casplit.proofs.Heads.{upper-each, upper-entries, upper-head}
 use Rattle.vr_casplit.proofs.Upper.{AreCopied, holds-alike}
 
 -- The part is at rest, the area is one of its chain and the other its own, but none of the chain;
--- and the entries that move are there, under a head that a crash leaves alone. The block is the old
--- head without them.
-pub record CanSwitch (part : KeyedChain) (owners : Owners) (area into : ℕ) (old : Seen)
+-- and the entries that move, all but the first `stay`, are there, under a head that a crash leaves
+-- alone. The block is the old head without them.
+pub record CanSwitch (part : KeyedChain) (owners : Owners) (area into stay : ℕ) (old : Seen)
     (lower : Block) : Type 0 where
   pub rests : IsChainAtRest part owners old
   pub left : Left old old.cur
   pub inside : Contains (areas_in part old.cur) area
   pub own : IsOwnedArea part owners into
   pub apart : Contains (areas_in part old.cur) into → ⊥
-  pub some : 2 ≤ length (entries_of (head_in part old.cur area))
-  pub moved : IsMoved part area into old
-  pub is_lower : IsLower (area_of part area)
-      (staying (length (entries_of (head_in part old.cur area)))) into (head_in part old.cur area)
-      lower
+  pub some : 0 < stay
+  pub fewer : stay < length (entries_of (head_in part old.cur area))
+  pub moved : IsMoved part area into stay old
+  pub is_lower : IsLower (area_of part area) stay into (head_in part old.cur area) lower
 
 -- What is allowed then of blocks beside the head of the area was allowed before, as their contents
 -- are; and of that head the old content and the shortened one.
@@ -95,13 +93,10 @@ each-still part old now Q less there low (entry ∷ entries) inside each = (
 
 -- ---- the areas
 
-module _ (part : KeyedChain) (owners : Owners) (area into : ℕ) (old : Seen) (lower : Block)
-    (can : CanSwitch part owners area into old lower) where
+module _ (part : KeyedChain) (owners : Owners) (area into stay : ℕ) (old : Seen) (lower : Block)
+    (can : CanSwitch part owners area into stay old lower) where
   abbrev pub top : Block
   top = head_in part old.cur area
-
-  abbrev pub stay : ℕ
-  stay = staying (length (entries_of (head_in part old.cur area)))
 
   pub here : IsResting part owners old area
   here = resting-area part owners old can.rests can.left area can.inside
@@ -116,8 +111,8 @@ module _ (part : KeyedChain) (owners : Owners) (area into : ℕ) (old : Seen) (l
   pub are-heads : AreHeads part area into stay top lower can.moved.upper
   are-heads = record {
     head = top-head;
-    some = some-stay (length (entries_of top)) can.some;
-    fewer = some-move (length (entries_of top)) can.some;
+    some = can.some;
+    fewer = can.fewer;
     is_lower = can.is_lower;
     is_upper = can.moved.is_upper;
   }

@@ -19,7 +19,7 @@ use Rattle.vr_space.specs.Room.{Range}
 use Rattle.vr_space.specs.UnderWay.{interval_block}
 use Rattle.vr_space.specs.Way.{MayFind}
 use Rattle.vr_space.proofs.CallerLemmas.{AscendFrom, above-end, above-past, past-above}
-use Rattle.vr_casplit.specs.Halves.{end_from, numbered_from}
+use Rattle.vr_space.specs.Moves.{end_from, numbered_from}
 
 -- ---- where they end
 

@@ -8,7 +8,9 @@ use Rattle.vr_space.specs.Areas.{KeyedChain, KnowsAreas}
 use Rattle.vr_space.specs.Owners.{Owners}
 use Rattle.vr_space.specs.Room.{Lengths}
 use Rattle.vr_casplit.specs.Growing.{IsGrowing, LeavesRecords, LeavesRest}
-use Rattle.vr_casplit.specs.Splits.{IsAside, IsAtWork, IsMoving, IsWorkDone, LeavesWork, MoveNow}
+use Rattle.vr_space.specs.Split.{MoveNow}
+use Rattle.vr_space.specs.Moves.{IsAside, IsMoving}
+use Rattle.vr_casplit.specs.Splits.{IsAtWork, IsWorkDone, LeavesWork}
 use Rattle.vr_casplit.specs.Splits.{areas_by, ends_by}
 use Rattle.vr_casplit.proofs.Reading.{grows-read, knows-read, read-leaves, then-leaves}
 use Rattle.vr_casplit.proofs.Reading.{then-rests}

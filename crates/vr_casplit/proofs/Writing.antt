@@ -6,7 +6,7 @@ use Rattle.std.proofs.Math.Seq.{take-suc}
 use Rattle.vr_seqset.specs.Entry.{Entry}
 use Rattle.vr_seqset.specs.SequenceSet.{KeepsRules, SequenceSet}
 use Rattle.vr_seqset.proofs.CallerLemmas.{earlier_keep}
-use Rattle.vr_casplit.specs.Halves.{numbered_from}
+use Rattle.vr_space.specs.Moves.{numbered_from}
 use Rattle.vr_casplit.proofs.WrittenHeads.{numbered-append}
 
 -- a record that is begun with what another says

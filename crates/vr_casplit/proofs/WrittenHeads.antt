@@ -20,7 +20,7 @@ use Rattle.vr_seqset.specs.Reading.{entry_of}
 use Rattle.vr_seqset.specs.SequenceSet.{KeepsRules, SequenceSet, bounds_of, used_by}
 use Rattle.vr_seqset.proofs.CallerLemmas.{count_within, earlier_keep}
 use Rattle.vr_seqset.proofs.CallerLemmas.{length-entry_bytes, length-spelling}
-use Rattle.vr_casplit.specs.Halves.{cut_of, end_from, lower_record, numbered_from, upper_record}
+use Rattle.vr_space.specs.Moves.{cut_of, end_from, lower_record, numbered_from, upper_record}
 
 -- ---- how many entries there are
 

@@ -1,6 +1,6 @@
 -- What the stages of an area split leave of a part: the same records, and in the end its chain with
 -- one area more. The rules are this project's own.
-use Rattle.std.specs.Prelude.{ℕ, List, [], ◌∷◌, Contains, if◌then◌else◌, nat_eq}
+use Rattle.std.specs.Prelude.{ℕ, [], Contains}
 use Rattle.vr_types.specs.Regions.{Touches}
 use Rattle.vr_types.specs.Seen.{Seen}
 use Rattle.vr_space.specs.Areas.{ChainKeepsRoom, IsChainAtRest, IsOwnedArea, KeyedChain, areas_in}
@@ -30,16 +30,3 @@ pub record LeavesRecords (part : KeyedChain) (owners : Owners) (kept : Lengths) 
 pub record LeavesRest (part : KeyedChain) (owners : Owners) (old new : Seen) : Type 0 where
   pub rests : IsChainAtRest part owners new
   pub due : DueMore (KeyedShape part) [] old new
-
--- the areas of a chain, with one more after this one
-abbrev pub with_area : ℕ → ℕ → List ℕ → List ℕ
-with_area area into [] = []
-with_area area into (one ∷ areas) =
-    if nat_eq one area then one ∷ into ∷ areas else one ∷ with_area area into areas
-
--- and where each ends, where this one ends at the cut now, and the other where it ended
-abbrev pub with_end : ℕ → List ℕ → List ℕ → List (List ℕ) → List (List ℕ)
-with_end area cut [] ends = []
-with_end area cut (one ∷ areas) [] = []
-with_end area cut (one ∷ areas) (end ∷ ends) =
-    if nat_eq one area then cut ∷ end ∷ ends else end ∷ with_end area cut areas ends

@@ -1,4 +1,3 @@
-pub mod Halves
 pub mod Moving
 pub mod Growing
 pub mod Splits

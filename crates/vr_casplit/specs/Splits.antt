@@ -1,35 +1,24 @@
 -- A split of an area of a keyed part under way: how far it is, and what its stages left so far. The
 -- stages are this project's own.
-use Rattle.std.specs.Prelude.{◌≡◌, ◌≢◌, ℕ, ◌+◌, ◌-◌, ◌<◌, ◌≤◌, List, Option, Some, None, Contains}
-use Rattle.std.specs.Prelude.{IfSome, if◌then◌else◌, length, nat_eq, slice_get, slice_set}
+use Rattle.std.specs.Prelude.{◌≡◌, ◌≢◌, ℕ, ◌+◌, ◌<◌, ◌≤◌, List, Option, Some, None}
+use Rattle.std.specs.Prelude.{IfSome, if◌then◌else◌, length, nat_eq, slice_set}
 use Rattle.vr_types.specs.Geometry.{area_count}
-use Rattle.vr_types.specs.Image.{Block, Image, block_at}
+use Rattle.vr_types.specs.Image.{Block}
 use Rattle.vr_types.specs.Seen.{Seen}
 use Rattle.vr_types.specs.Space.{least_free}
 use Rattle.vr_types.specs.declared.unit.PartNo.{PartNo}
 use Rattle.vr_types.specs.declared.unit.StageKind.{StageKind}
 use Rattle.vr_types.specs.declared.unit.StageKind.TheVariants.{CaClaim, CaCopy, CaLink, CaSwitch}
-use Rattle.vr_seqset.specs.Entry.{Entry}
 use Rattle.vr_space.specs.Areas.{ChainKeepsRoom, IsChainAtRest, IsOwnedArea, KeyedChain, KnowsAreas}
-use Rattle.vr_space.specs.Areas.{area_of, areas_in, head_in}
-use Rattle.vr_space.specs.Keyed.{IsHead, entries_of, entry_block}
+use Rattle.vr_space.specs.Areas.{area_of}
+use Rattle.vr_space.specs.Keyed.{IsHead, entries_of}
 use Rattle.vr_space.specs.Owners.{Owners}
 use Rattle.vr_space.specs.Part.{KeyedShape, part_no}
 use Rattle.vr_space.specs.Room.{Lengths}
-use Rattle.vr_space.specs.UnderWay.{interval_block}
-use Rattle.vr_casplit.specs.Growing.{LeavesRecords, LeavesRest, with_area, with_end}
-use Rattle.vr_casplit.specs.Halves.{staying}
-use Rattle.vr_casplit.specs.Moving.{IsMoved}
+use Rattle.vr_space.specs.Moves.{IsMoving, moving, with_area, with_end}
+use Rattle.vr_space.specs.Split.{MoveNow}
+use Rattle.vr_casplit.specs.Growing.{LeavesRecords, LeavesRest}
 use Rattle.vr_casplit.specs.declared.stages.Moving.{Moving}
-
--- The area that is split, and how many entries its head has; the area that gets the last half of
--- them, once it is claimed; how many of these were copied; and the stage that is next.
-pub record MoveNow : Type 0 where
-  pub area : ℕ
-  pub entries : ℕ
-  pub into : ℕ
-  pub copied : ℕ
-  pub stage : StageKind
 
 -- splits of the areas of a part, one of which may be under way, and where the ranges of the area
 -- end that was split last
@@ -39,11 +28,12 @@ pub record Moves : Type 0 where
   pub cut : List ℕ
 
 -- by the stage that is next, if there is one
-abbrev pub move_by : Option StageKind → ℕ → ℕ → ℕ → ℕ → Option MoveNow
-move_by None area entries into copied = None
-move_by (Some stage) area entries into copied = Some (record {
+abbrev pub move_by : Option StageKind → ℕ → ℕ → ℕ → ℕ → ℕ → Option MoveNow
+move_by None area entries stay into copied = None
+move_by (Some stage) area entries stay into copied = Some (record {
   area = area;
   entries = entries;
+  stay = stay;
   into = into;
   copied = copied;
   stage = stage;
@@ -54,29 +44,27 @@ abbrev pub move_of : Moving → StageKind → MoveNow
 move_of moving stage = record {
   area = moving.area;
   entries = moving.entries;
+  stay = moving.stay;
   into = moving.into;
   copied = moving.copied;
   stage = stage;
 }
 
--- how many entries move
-abbrev pub moving : MoveNow → ℕ
-moving move = move.entries - staying move.entries
-
--- how many of so many that move may be copied before a stage of an area split: not all, while there
+-- how many of those that move may be copied before a stage of an area split: not all, while there
 -- are copies to come
 abbrev pub IsCounted : StageKind → ℕ → ℕ → Type 0
-IsCounted CaClaim copied all = copied < all
-IsCounted CaCopy copied all = copied < all
-IsCounted CaLink copied all = copied ≤ all
-IsCounted CaSwitch copied all = copied ≤ all
-IsCounted stage copied all = ⊥
+IsCounted CaClaim copied moving = copied < moving
+IsCounted CaCopy copied moving = copied < moving
+IsCounted CaLink copied moving = copied ≤ moving
+IsCounted CaSwitch copied moving = copied ≤ moving
+IsCounted stage copied moving = ⊥
 
 -- its areas are of the volume, and its numbers are those of a split
 pub record IsMove (part : KeyedChain) (move : MoveNow) : Type 0 where
   pub area : move.area < area_count part.geometry
   pub into : move.into < area_count part.geometry
-  pub some : 2 ≤ move.entries
+  pub some : 0 < move.stay
+  pub fewer : move.stay < move.entries
   pub few : move.entries ≤ part.geometry.area
   pub counted : IsCounted move.stage move.copied (moving move)
 
@@ -84,11 +72,12 @@ pub record IsMove (part : KeyedChain) (move : MoveNow) : Type 0 where
 abbrev pub IsMoveOf : KeyedChain → Option MoveNow → Type 0
 IsMoveOf part move = IfSome move (IsMove part)
 
--- a split that begins
-abbrev pub begun_at : ℕ → ℕ → MoveNow
-begun_at area entries = record {
+-- a split that begins, of an area with so many entries, of which so many stay
+abbrev pub begun_at : ℕ → ℕ → ℕ → MoveNow
+begun_at area entries stay = record {
   area = area;
   entries = entries;
+  stay = stay;
   into = 0;
   copied = 0;
   stage = CaClaim;
@@ -107,36 +96,13 @@ after_by stage move claimed = None
 abbrev pub after_move : MoveNow → ℕ → Option MoveNow
 after_move move claimed = after_by move.stage move claimed
 
--- Interval j of the area that gets them is a copy, as the blocks are now.
-pub record HasCopy (part : KeyedChain) (move : MoveNow) (j : ℕ) (image : Image) : Type 0 where
-  pub entry : Entry
-  pub is : slice_get (entries_of (head_in part image move.area)) (staying move.entries + j)
-      ≡ Some entry
-  pub same : block_at image (interval_block (area_of part move.into) j)
-      ≡ block_at image (entry_block (area_of part move.area) entry)
+-- what a stage leaves of it: the last is still next, until the split ends
+abbrev pub left_at : StageKind → MoveNow → ℕ → Option MoveNow
+left_at CaSwitch move claimed = Some move
+left_at stage move claimed = after_by stage move claimed
 
--- the area that gets them is one of the volume's, and none of the chain
-pub record IsAside (part : KeyedChain) (move : MoveNow) (image : Image) : Type 0 where
-  pub there : move.into < area_count part.geometry
-  pub apart : Contains (areas_in part image) move.into → ⊥
-
--- what the stages before this one left
-abbrev pub IsReadyTo : StageKind → KeyedChain → MoveNow → Seen → Type 0
-IsReadyTo CaClaim part move now = move.copied ≡ 0
-IsReadyTo CaCopy part move now = IsAside part move now.cur × (move.copied < moving move)
-    × ((j : ℕ) → j < move.copied → HasCopy part move j now.cur)
-IsReadyTo CaLink part move now = IsAside part move now.cur
-    × ((j : ℕ) → j < moving move → HasCopy part move j now.cur)
-IsReadyTo CaSwitch part move now = IsAside part move now.cur × IsMoved part move.area move.into now
-IsReadyTo stage part move now = ⊥
-
--- The blocks are as the split under way left them: its area is one of the chain, with two entries
--- at least.
-pub record IsMoving (part : KeyedChain) (move : MoveNow) (now : Seen) : Type 0 where
-  pub inside : Contains (areas_in part now.cur) move.area
-  pub entries : length (entries_of (head_in part now.cur move.area)) ≡ move.entries
-  pub some : 2 ≤ move.entries
-  pub ready : IsReadyTo move.stage part move now
+abbrev pub left_by : MoveNow → ℕ → Option MoveNow
+left_by move claimed = left_at move.stage move claimed
 
 -- The part is at rest, with room for what is kept, and the area that gets the entries is its own,
 -- once it is claimed.

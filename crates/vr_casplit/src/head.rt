@@ -6,19 +6,12 @@ ghost use Rattle.vr_seqset.specs.SequenceSet.{KeepsRules};
 ghost use Rattle.vr_seqset.specs.Writer.{block_of, intervals_of, written};
 ghost use Rattle.vr_seqset.specs.Reading.{record_in};
 ghost use Rattle.vr_space.specs.Keyed.{IsHead, entries_of};
-ghost use Rattle.vr_casplit.specs.Halves.{cut_of, numbered_from, staying as entries_staying};
-ghost use Rattle.vr_casplit.specs.Moving.{HasShape, IsLower, IsUpper};
+ghost use Rattle.vr_space.specs.Moves.{IsLower, IsUpper, cut_of, numbered_from};
+ghost use Rattle.vr_casplit.specs.Moving.{HasShape};
 
 use vr_seqset::{SeqEntries, SeqHead, SeqView, SeqWriter};
 use vr_space::Layout;
 use vr_types::PlaceBuffer;
-
-/// How many of this many entries stay in their area: the last half of them moves.
-pub fn staying(entries: usize) -> usize
-    ensures { result ≡ entries_staying entries }
-{
-    entries - entries / 2
-}
 
 /// Whether a record is that of a head of the part, in a block of this size, with this many entries.
 fn has_shape(layout: &Layout, size: usize, view: &SeqView<'_>, entries: usize) -> bool
@@ -56,7 +49,7 @@ fn are_single(entries: SeqEntries<'_>) -> bool
     true
 }
 
-/// The place at which the ranges of the entries end that stay.
+/// The place at which the ranges of the first entries end, as many as stay.
 pub(crate) fn read_cut(layout: &Layout, top: &[u8], stay: usize, cut: &mut PlaceBuffer)
     requires head { IsHead layout.now top.now }
     requires some { 0 < stay }

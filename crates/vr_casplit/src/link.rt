@@ -8,11 +8,11 @@ ghost use Rattle.vr_types.specs.Image.{block_at};
 ghost use Rattle.vr_types.specs.Seen.{Only};
 ghost use Rattle.vr_space.specs.Areas.{IsChainOn, KnowsAreas, area_of, head_of};
 ghost use Rattle.vr_space.specs.Keyed.{IsHead, entries_of};
+ghost use Rattle.vr_space.specs.Moves.{IsUpper};
 ghost use Rattle.vr_space.specs.Owners.{Owners};
 ghost use Rattle.vr_space.specs.Room.{Lengths};
 ghost use Rattle.vr_space.specs.UnderWay.{interval_block};
 ghost use Rattle.vr_casplit.specs.Growing.{IsGrowing, LeavesRecords, LeavesRest};
-ghost use Rattle.vr_casplit.specs.Moving.{IsUpper};
 
 use crate::head::write_upper;
 use vr_space::{KeyedLayout, Layout, entry_count};

@@ -9,13 +9,14 @@ ghost use Rattle.vr_types.specs.Space.{least_free};
 ghost use Rattle.vr_types.specs.declared.fault.DeviceFault.TheVariants.{Read};
 ghost use Rattle.vr_types.specs.declared.unit.StageKind.TheVariants as stages;
 ghost use Rattle.vr_space.specs.Areas.{IsChainOn, KnowsAreas, areas_in};
+ghost use Rattle.vr_space.specs.Moves.{IsMoving};
 ghost use Rattle.vr_space.specs.Owners.{Owners};
 ghost use Rattle.vr_space.specs.Part.{IsQuiet, KeyedShape, part_no};
 ghost use Rattle.vr_space.specs.Room.{Lengths};
+ghost use Rattle.vr_space.specs.Split.{MoveNow};
 ghost use Rattle.vr_casplit.specs.Growing.{LeavesRecords, LeavesRest};
-ghost use Rattle.vr_casplit.specs.Splits.{HasClaimed, IsAtWork, IsMoving, IsWorkDone, LeavesWork};
-ghost use Rattle.vr_casplit.specs.Splits.{MoveNow, OwnersBy, after_move, areas_by, begun_at};
-ghost use Rattle.vr_casplit.specs.Splits.{ends_by};
+ghost use Rattle.vr_casplit.specs.Splits.{HasClaimed, IsAtWork, IsWorkDone, LeavesWork, OwnersBy};
+ghost use Rattle.vr_casplit.specs.Splits.{after_move, areas_by, begun_at, ends_by, left_by};
 
 use crate::stages::{Moving, do_stage, passed};
 use std::alloc::Global;
@@ -34,6 +35,7 @@ pub struct CaSplit {
     next: Option<StageKind>,
     area: u32,
     entries: usize,
+    stay: usize,
     into: u32,
     copied: usize,
     top: Vec<u8>,
@@ -50,7 +52,7 @@ impl Model for CaSplit {
 
     ghost view = { λ splits. record {
       part = splits.layout;
-      move = move_by splits.next splits.area splits.entries splits.into splits.copied;
+      move = move_by splits.next splits.area splits.entries splits.stay splits.into splits.copied;
       cut = splits.cut.place;
     } };
 
@@ -60,7 +62,7 @@ impl Model for CaSplit {
         × (splits.cut.room ≡ splits.layout.key)
         × (length splits.cut.place ≤ splits.layout.key)
         × IsMoveOf splits.layout
-        (move_by splits.next splits.area splits.entries splits.into splits.copied) };
+        (move_by splits.next splits.area splits.entries splits.stay splits.into splits.copied) };
 }
 
 /// A block of zeros.
@@ -86,6 +88,7 @@ pub fn ca_split(alloc: Global, layout: KeyedLayout) -> Result<CaSplit, OutOfMemo
         next: None,
         area: 0,
         entries: 0,
+        stay: 0,
         into: 0,
         copied: 0,
         top,
@@ -96,19 +99,20 @@ pub fn ca_split(alloc: Global, layout: KeyedLayout) -> Result<CaSplit, OutOfMemo
 }
 
 impl CaSplit {
-    /// Begins a split of an area whose head has this many entries. Nothing is claimed or written
-    /// yet.
-    pub fn begin(&mut self, area: u32, entries: usize)
+    /// Begins a split of an area whose head has this many entries, of which the first `stay` stay,
+    /// and the others move. Nothing is claimed or written yet.
+    pub fn begin(&mut self, area: u32, entries: usize, stay: usize)
         requires none { self.old.move ≡ None }
         requires there { area < area_count self.old.part.geometry }
-        requires some { 2 ≤ entries }
+        requires some { 0 < stay }
+        requires fewer { stay < entries }
         requires few { entries ≤ self.old.part.geometry.area }
         ensures part { self.new.part ≡ self.old.part }
-        ensures begun { self.new.move ≡ Some (begun_at area entries) }
-        ensures cut { self.new.cut ≡ self.old.cut }
+        ensures begun { self.new.move ≡ Some (begun_at area entries stay) }
     {
         self.area = area;
         self.entries = entries;
+        self.stay = stay;
         self.into = 0;
         self.copied = 0;
         self.next = Some(StageKind::CaClaim);
@@ -121,9 +125,13 @@ impl CaSplit {
         self.next
     }
 
-    /// The area that is split, and the one that gets the upper entries, while a split is under way.
+    /// The area that is split, and the one that gets the last entries, while a split is under way.
     pub fn areas(&self) -> (u32, u32)
-        ensures { IfSome self.now.move (λ move. (result.0 ≡ move.area) × (result.1 ≡ move.into)) }
+        ensures are { IfSome self.now.move (λ move.
+            (result.0 ≡ move.area) × (result.1 ≡ move.into)) }
+        ensures there { IfSome self.now.move (λ _.
+            (result.0 < area_count self.now.part.geometry)
+            × (result.1 < area_count self.now.part.geometry)) }
     {
         (self.area, self.into)
     }
@@ -136,18 +144,29 @@ impl CaSplit {
         self.cut.as_slice()
     }
 
+    /// Ends the split under way, whose last stage is done.
+    pub fn finish(&mut self)
+        requires { option_map (λ (move : MoveNow). move.stage) self.old.move
+            ≡ Some stages.CaSwitch }
+        ensures part { self.new.part ≡ self.old.part }
+        ensures none { self.new.move ≡ None }
+    {
+        self.next = None;
+    }
+
     /// Does the next stage of the split under way, and answers it. The first takes the least free
     /// area of `space`, in which one has to be free, and touches no block; a copy reads the head
     /// and an interval, and puts one block; the others read the head, put one, and force. A stage
-    /// that fails is still next.
+    /// that fails is still next, and so is the last one until `finish`.
     pub fn step<B: Blocks>(
         &mut self,
         blocks: &mut B,
         space: &mut Space,
     ) -> Result<StageKind, DeviceFault>
         requires on { IsChainOn self.old.part (B.seen blocks.old) }
-        requires count { length space.old ≡ area_count self.old.part.geometry }
         requires under_way { IsSome self.old.move }
+        requires there { IfSome self.old.move (λ move. (area : ℕ) → move.stage ≡ stages.CaClaim
+            → least_free space.old ≡ Some area → area < area_count self.old.part.geometry) }
         requires free { IfSome self.old.move (λ move. move.stage ≡ stages.CaClaim
             → IsSome (least_free space.old)) }
         requires rests { IsTrue B.tells → IsQuiet (KeyedShape self.old.part) (B.seen blocks.old) }
@@ -160,13 +179,13 @@ impl CaSplit {
         ensures stage { IfOk result (λ kind. IfSome self.old.move (λ move. kind ≡ move.stage)) }
         ensures next { OnOk result (IfSome self.old.move (λ move. (claimed : ℕ)
             → OwnersBy move.stage (part_no (KeyedShape self.old.part)) claimed space.old space.new
-            → self.new.move ≡ after_move move claimed)) }
+            → self.new.move ≡ left_by move claimed)) }
         ensures owners { OnOk result (IfSome self.old.move (λ move. (claimed : ℕ)
             × OwnersBy move.stage (part_no (KeyedShape self.old.part)) claimed space.old
             space.new)) }
         ensures failed { OnErr result (self.new.move ≡ self.old.move) }
-        ensures cut { IfSome self.old.move (λ move. move.stage ≢ stages.CaSwitch
-            → self.new.cut ≡ self.old.cut) }
+        ensures claims { IfErr result (λ _. IfSome self.old.move (λ move.
+            move.stage ≢ stages.CaClaim)) }
         ensures owners_stay { OnErr result (space.new ≡ space.old) }
         // At every moment, whether it fails or not.
         ensures leaves { IsTrue B.tells → IfSome self.old.move (λ move. (owners : Owners)
@@ -178,7 +197,7 @@ impl CaSplit {
             (B.seen blocks.new))) }
         ensures way { IsTrue B.tells → IfSome self.old.move (λ move. (owners : Owners)
             (kept : Lengths) → IsAtWork self.old.part move owners kept (B.seen blocks.old)
-            → OnOk result (IfSome self.new.move (λ after.
+            → OnOk result (move.stage ≢ stages.CaSwitch → IfSome self.new.move (λ after.
             IsMoving self.old.part after (B.seen blocks.new)))) }
         ensures knows { IsTrue B.tells → IfSome self.old.move (λ move. (owners : Owners)
             (kept : Lengths) (areas : List ℕ) (ends : List (List ℕ))
@@ -208,10 +227,10 @@ impl CaSplit {
     fn claim(&mut self, space: &mut Space)
         requires stage { option_map (λ (move : MoveNow). move.stage) self.old.move
             ≡ Some stages.CaClaim }
-        requires count { length space.old ≡ area_count self.old.part.geometry }
         requires free { IsSome (least_free space.old) }
+        requires there { (area : ℕ) → least_free space.old ≡ Some area
+            → area < area_count self.old.part.geometry }
         ensures part { self.new.part ≡ self.old.part }
-        ensures cut { self.new.cut ≡ self.old.cut }
         ensures claimed { IfSome self.old.move (λ move.
             HasClaimed self.old.part move self.new.move space.old space.new) }
     {
@@ -232,13 +251,12 @@ impl CaSplit {
             IsMoving self.old.part move (B.seen blocks.old)) }
         ensures part { self.new.part ≡ self.old.part }
         ensures next { OnOk result (IfSome self.old.move (λ move.
-            self.new.move ≡ after_move move 0)) }
+            self.new.move ≡ left_by move 0)) }
         ensures failed { OnErr result (self.new.move ≡ self.old.move) }
-        ensures cut { stage ≢ stages.CaSwitch → self.new.cut ≡ self.old.cut }
         ensures leaves { IsTrue B.tells → IfSome self.old.move (λ move.
             LeavesWork self.old.part move (B.seen blocks.old) (B.seen blocks.new)) }
         ensures done { IsTrue B.tells → OnOk result (IfSome self.old.move (λ move.
-            IsWorkDone self.old.part move self.new.move self.new.cut
+            IsWorkDone self.old.part move (after_move move 0) self.new.cut
             (B.seen blocks.old) (B.seen blocks.new))) }
         ensures unread { IfErr result (λ fault. fault ≡ Read
             → Keeps B.tells (B.seen blocks.old) (B.seen blocks.new)) }
@@ -249,6 +267,7 @@ impl CaSplit {
         let moving = Moving {
             area: self.area,
             entries: self.entries,
+            stay: self.stay,
             into: self.into,
             copied: self.copied,
         };
@@ -262,9 +281,11 @@ impl CaSplit {
             &mut self.listed,
             &mut self.cut,
         )?;
-        let (copied, next) = passed(&moving, stage);
-        self.copied = copied;
-        self.next = next;
+        if stage != StageKind::CaSwitch {
+            let (copied, next) = passed(&moving, stage);
+            self.copied = copied;
+            self.next = next;
+        }
         Ok(())
     }
 }

@@ -8,22 +8,24 @@ ghost use Rattle.vr_types.specs.declared.fault.DeviceFault.TheVariants.{Read};
 ghost use Rattle.vr_types.specs.declared.unit.StageKind.TheVariants as kinds;
 ghost use Rattle.vr_space.specs.Areas.{IsChainOn, head_in};
 ghost use Rattle.vr_space.specs.Part.{IsQuiet, KeyedShape};
-ghost use Rattle.vr_casplit.specs.Splits.{IsMove, IsMoving, IsMovingHead, IsWorkDone};
+ghost use Rattle.vr_space.specs.Moves.{IsMoving};
+ghost use Rattle.vr_casplit.specs.Splits.{IsMove, IsMovingHead, IsWorkDone};
 ghost use Rattle.vr_casplit.specs.Splits.{LeavesWork, after_by, move_by, move_of};
 
 use crate::copy::copy_entry;
-use crate::head::{is_head, staying};
+use crate::head::is_head;
 use crate::link::link_area;
 use crate::switch::switch_head;
 use vr_space::{KeyedLayout, read_block};
 use vr_types::{Blocks, DeviceFault, PlaceBuffer, StageKind};
 
-/// A split under way: the area that is split, how many entries its head has, the area that gets the
-/// last half of them, and how many of these were copied.
+/// A split under way: the area that is split, how many entries its head has, and how many of them
+/// stay; the area that gets the others, and how many of these were copied.
 #[derive(Clone, Copy)]
 pub(crate) struct Moving {
     pub area: u32,
     pub entries: usize,
+    pub stay: usize,
     pub into: u32,
     pub copied: usize,
 }
@@ -31,15 +33,16 @@ pub(crate) struct Moving {
 /// How many entries are copied once a stage is done that puts, and the stage that is next then.
 pub(crate) fn passed(moving: &Moving, stage: StageKind) -> (usize, Option<StageKind>)
     requires few { moving.now.entries < 65536 }
+    requires fewer { moving.now.stay < moving.now.entries }
     requires most { moving.now.copied < moving.now.entries }
     requires puts { stage ≢ kinds.CaClaim }
-    ensures { move_by result.1 moving.now.area moving.now.entries moving.now.into result.0
-        ≡ after_by stage (move_of moving.now stage) 0 }
+    ensures { move_by result.1 moving.now.area moving.now.entries moving.now.stay moving.now.into
+        result.0 ≡ after_by stage (move_of moving.now stage) 0 }
 {
     match stage {
         StageKind::CaCopy => {
             let copied = moving.copied + 1;
-            if copied == moving.entries - staying(moving.entries) {
+            if copied == moving.entries - moving.stay {
                 (copied, Some(StageKind::CaLink))
             } else {
                 (copied, Some(StageKind::CaCopy))
@@ -106,7 +109,7 @@ fn copy<B: Blocks>(
     if !read_head(blocks, layout, moving, top)? {
         return Ok(());
     }
-    let number = staying(moving.entries) + moving.copied;
+    let number = moving.stay + moving.copied;
     let to = moving.copied as u16;
     copy_entry(
         blocks,
@@ -153,14 +156,13 @@ fn link<B: Blocks>(
     if !read_head(blocks, layout, moving, top)? {
         return Ok(());
     }
-    let stay = staying(moving.entries);
     link_area(
         blocks,
         layout,
         moving.area,
         moving.into,
         top,
-        stay,
+        moving.stay,
         out,
         listed,
     )
@@ -201,7 +203,16 @@ fn switch<B: Blocks>(
     if !read_head(blocks, layout, moving, top)? {
         return Ok(());
     }
-    switch_head(blocks, layout, moving.area, moving.into, top, out, cut)
+    switch_head(
+        blocks,
+        layout,
+        moving.area,
+        moving.into,
+        top,
+        moving.stay,
+        out,
+        cut,
+    )
 }
 
 /// Does a stage that puts. `top` and `out` get a block each, `listed` has room for a number of each
@@ -234,7 +245,6 @@ pub(crate) fn do_stage<B: Blocks>(
         (after_by stage (move_of moving.now stage) 0) cut.new.place
         (B.seen blocks.old) (B.seen blocks.new)) }
     ensures listed { layout.now.geometry.area < vec_capacity listed.new }
-    ensures cut { stage ≢ kinds.CaSwitch → cut.new ≡ cut.old }
     ensures room { cut.new.room ≡ cut.old.room }
     ensures long { length cut.new.place ≤ layout.now.key }
     ensures unread { IfErr result (λ fault. fault ≡ Read

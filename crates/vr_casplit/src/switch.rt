@@ -8,24 +8,23 @@ ghost use Rattle.vr_space.specs.Keyed.{IsHead, entries_of};
 ghost use Rattle.vr_space.specs.Owners.{Owners};
 ghost use Rattle.vr_space.specs.Room.{Lengths};
 ghost use Rattle.vr_casplit.specs.Growing.{IsGrowing, LeavesRecords, LeavesRest};
-ghost use Rattle.vr_casplit.specs.Growing.{with_area, with_end};
-ghost use Rattle.vr_casplit.specs.Halves.{cut_of, staying as entries_staying};
-ghost use Rattle.vr_casplit.specs.Moving.{IsMoved};
+ghost use Rattle.vr_space.specs.Moves.{IsMoved, cut_of, with_area, with_end};
 
-use crate::head::{read_cut, staying, write_lower};
+use crate::head::{read_cut, write_lower};
 use vr_space::KeyedLayout;
 use vr_types::{Blocks, DeviceFault, PlaceBuffer, settle};
 
-/// Shortens the head of an area, whose upper intervals were moved to the area `into`: from then on
-/// the chain leads from it to that one, and on to where it led before. It writes and forces one
-/// block. The chain has this area, and not that one yet. `cut` gets the place at which its ranges
-/// end then.
+/// Shortens the head of an area to its first `stay` entries, where the intervals of the others were
+/// moved to the area `into`: from then on the chain leads from it to that one, and on to where it
+/// led before. It writes and forces one block. The chain has this area, and not that one yet. `cut`
+/// gets the place at which its ranges end then.
 pub fn switch_head<B: Blocks>(
     blocks: &mut B,
     layout: &KeyedLayout,
     area: u32,
     into: u32,
     top: &[u8],
+    stay: usize,
     out: &mut [u8],
     cut: &mut PlaceBuffer,
 ) -> Result<(), DeviceFault>
@@ -33,12 +32,13 @@ pub fn switch_head<B: Blocks>(
     requires area { area < area_count layout.now.geometry }
     requires into { into < area_count layout.now.geometry }
     requires head { IsHead (area_of layout.now area) top.now }
-    requires some { 2 ≤ length (entries_of top.now) }
+    requires some { 0 < stay }
+    requires fewer { stay < length (entries_of top.now) }
     requires out { length out.old ≡ layout.now.geometry.size }
     requires cut { cut.old.room ≡ layout.now.key }
     requires top { IsTrue B.tells → top.now ≡ head_in layout.now (B.seen blocks.old).cur area }
     requires inside { IsTrue B.tells → Contains (areas_in layout.now (B.seen blocks.old).cur) area }
-    requires moved { IsTrue B.tells → IsMoved layout.now area into (B.seen blocks.old) }
+    requires moved { IsTrue B.tells → IsMoved layout.now area into stay (B.seen blocks.old) }
     // At every moment, whether it fails or not.
     ensures leaves { IsTrue B.tells → (owners : Owners) (kept : Lengths)
         → IsGrowing layout.now into owners kept (B.seen blocks.old)
@@ -51,8 +51,7 @@ pub fn switch_head<B: Blocks>(
         → KnowsAreas layout.now areas ends (B.seen blocks.old).cur
         → OnOk result (KnowsAreas layout.now (with_area area into areas)
         (with_end area cut.new.place areas ends) (B.seen blocks.new).cur) }
-    ensures cut { cut.new.place
-        ≡ cut_of (entries_staying (length (entries_of top.now))) (record_in top.now) }
+    ensures cut { cut.new.place ≡ cut_of stay (record_in top.now) }
     ensures room { cut.new.room ≡ cut.old.room }
     ensures out { length out.new ≡ length out.old }
     ensures count { (B.seen blocks.new).count ≡ (B.seen blocks.old).count }
@@ -60,7 +59,6 @@ pub fn switch_head<B: Blocks>(
     ensures cause { HasWriteCause (B.faults blocks.old) (B.faults blocks.new) result }
 {
     let layout_here = layout.area(area);
-    let stay = staying(vr_space::entry_count(&layout_here, top).unwrap_or(2));
     read_cut(&layout_here, top, stay, cut);
     write_lower(&layout_here, top, stay, into, out);
     settle(blocks, layout_here.head, out)

@@ -22,6 +22,7 @@ module _ (part : Numbered) (Own : ℕ → Type 0) (Interval : Block → Type 0) 
   abbrev pub own-chain : Known
   own-chain = record {
     split = None;
+    move = None;
     met = [];
     areas = chain_of part image;
     ends = [];

@@ -130,6 +130,7 @@ due-taken chain areas a area left of due least = record {
     known : Known
     known = record {
       split = None;
+      move = None;
       met = [];
       areas = chain.areas;
       ends = [];

@@ -26,6 +26,7 @@ use Rattle.vr_chained.proofs.Reached.{way_at}
 abbrev pub known-chain : ChainNow → Known
 known-chain chain = record {
   split = None;
+  move = None;
   met = [];
   areas = chain.areas;
   ends = [];

@@ -17,6 +17,7 @@ pub record OwnedChain : Type 0 where
 abbrev pub known_of : OwnedChain → Known
 known_of owned = record {
   split = None;
+  move = None;
   met = owned.met;
   areas = owned.chain.areas;
   ends = [];

@@ -26,9 +26,9 @@ use Rattle.vr_space.specs.Part.{KeyedShape, NumberedShape, Shape, room_of}
 use Rattle.vr_space.specs.Room.{Lengths}
 use Rattle.vr_space.specs.Areas.{area_for, area_of}
 use Rattle.vr_space.specs.Keyed.{Keyed as KeyedArea}
-use Rattle.vr_space.specs.Split.{area_fits, area_stage, free_interval, keyed_room_by, room_after}
-use Rattle.vr_space.specs.Split.{split_in, stage_under}
-use Rattle.vr_space.specs.Split.{room_by, room_by_split}
+use Rattle.vr_space.specs.Split.{area_fits, area_stage, can_grow, free_interval, keyed_room_by}
+use Rattle.vr_space.specs.Split.{move_stage, room_after, room_by, room_by_split, split_in}
+use Rattle.vr_space.specs.Split.{stage_under}
 use Rattle.vr_space.specs.declared.room.Room.TheVariants as answers
 use Rattle.vr_history.specs.Case.{Case, file_of, new_record}
 use Rattle.vr_history.specs.Change.{place_changed}
@@ -54,7 +54,7 @@ use Rattle.vr_event.specs.declared.weighing.Weighed.TheVariants as weighed
 
 -- ---- what a part answers
 
--- one area is needed, and none is free
+-- one area is needed, and none is free to it
 needs-one : (need left : ℕ) → answers.NoSpace 1 0 ≡ answers.NoSpace need left
     → NoSpace need left ≡ lacks_area
 needs-one need left is =
@@ -62,17 +62,21 @@ needs-one need left is =
     let lefts : left ≡ 0 = cc in
     ap (λ (n : ℕ). NoSpace n left) needs ∙ ap (λ (n : ℕ). NoSpace 1 n) lefts
 
-lacks-after : (stage : Option StageKind) (fits : Bool) (split : Option StageKind) (free : Option ℕ)
-    (need left : ℕ)
-    → room_after stage (room_by fits (room_by_split split free)) ≡ answers.NoSpace need left
-    → NoSpace need left ≡ lacks_area
-lacks-after (Some stage) fits split free need left is = absurd cc
-lacks-after None true split free need left is = absurd cc
-lacks-after None false (Some split) free need left is = absurd cc
-lacks-after None false None (Some interval) need left is = absurd cc
-lacks-after None false None None need left is = needs-one need left is
+-- a part answers so only where no split is under way, no interval is free, and its area can't be
+-- split
+lacks-after : (move stage : Option StageKind) (fits : Bool) (under : Option StageKind)
+    (free : Option ℕ) (grows : Bool) (need left : ℕ)
+    → room_after move (room_after stage (room_by fits (room_by_split under free grows)))
+    ≡ answers.NoSpace need left → NoSpace need left ≡ lacks_area
+lacks-after (Some move) stage fits under free grows need left is = absurd cc
+lacks-after None (Some stage) fits under free grows need left is = absurd cc
+lacks-after None None true under free grows need left is = absurd cc
+lacks-after None None false (Some under) free grows need left is = absurd cc
+lacks-after None None false None (Some interval) grows need left is = absurd cc
+lacks-after None None false None None true need left is = absurd cc
+lacks-after None None false None None false need left is = needs-one need left is
 
--- A keyed part that lacks room needs one area, and none is free to it.
+-- A keyed part that lacks room answers that it needs one area, and that none is free to it.
 pub room-lacks : (shape : Shape) (known : Known) (image : Image) (free : ℕ) (kept : Lengths)
     (place : List ℕ) (n need left : ℕ) → IsKeyedShape shape
     → room_of shape known image free kept place n ≡ answers.NoSpace need left
@@ -82,14 +86,16 @@ room-lacks (KeyedShape part) known image free kept place n need left keyed is =
     by_area (area_for part image place) is
   where
     by_area : (found : Option ℕ)
-        → keyed_room_by part known.split image kept place n found ≡ answers.NoSpace need left
-        → NoSpace need left ≡ lacks_area
+        → keyed_room_by part known.split known.move image free kept place n found
+        ≡ answers.NoSpace need left → NoSpace need left ≡ lacks_area
     by_area None one = needs-one need left one
     by_area (Some area) one =
         let here : KeyedArea = area_of part area in
-        lacks-after (area_stage here (split_in known.split area) image place)
-        (area_fits here image kept place n) (stage_under known.split)
-        (free_interval here (block_at image here.head)) need left one
+        let top = block_at image here.head in
+        lacks-after (move_stage known.move area)
+        (area_stage here (split_in known.split area) image place)
+        (area_fits here image kept place n) (stage_under known.split known.move)
+        (free_interval here top) (can_grow free top) need left one
 
 module _ (store : StoreNow) (image : Image) (number : ℕ) (place : List ℕ) (n need left : ℕ)
     (laid : part_among store.parts number ≢ None)

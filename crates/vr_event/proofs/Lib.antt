@@ -20,6 +20,7 @@ pub mod Stepped
 pub mod Serves
 pub mod Weighs
 pub mod Lacks
+pub mod ClaimedAreas
 pub mod Replied
 pub mod MetParts
 pub mod RecordShapes

@@ -68,6 +68,7 @@ module _ (number : ℕ) (store : StoreNow) (old new : State) (now : Seen)
           laid = rested.laid;
           on = rested.on;
           rests = rested.rests;
+          claimed = rested.claimed;
           room = rested.room;
           knows = rested.knows;
           reads = rested.reads;

@@ -103,6 +103,7 @@ module _ (number : ℕ) (log : LogNow) (parts : List PartNow) (contents : ℕ �
     laid = opened.laid;
     on = opened.on;
     rests = opened.rests;
+    claimed = opened.claimed;
     room = opened.room;
     knows = opened.knows;
     reads = λ place. opened.holds place (item_of part.shape now.cur place)

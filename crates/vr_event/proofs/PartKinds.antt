@@ -1,8 +1,8 @@
 -- The kind of a part is that of its cluster: of the part that the catalog lays, and of the data set
 -- that a request's file is on.
-use Rattle.std.proofs.Common.{◌≡◌, ◌==◌, ℕ, Bool, true, false, cond, IsTrue, List, [], ◌∷◌}
-use Rattle.std.proofs.Common.{Option, Some, None, refl, sym, ap, subst, ◌∙◌, true≢false}
-use Rattle.std.specs.Prelude.{IfSome, find}
+use Rattle.std.proofs.Common.{◌≡◌, ◌==◌, ℕ, Bool, true, false, cond, List, [], ◌∷◌}
+use Rattle.std.proofs.Common.{Option, Some, None, refl, ap, subst}
+use Rattle.std.specs.Prelude.{find}
 use Rattle.std.specs.Option.{option_and_then, option_map_or}
 use Rattle.std.proofs.lemmas.Bool.{eqb-true}
 use Rattle.std.proofs.lemmas.Option.{none-some, same_Some}
@@ -22,10 +22,8 @@ use Rattle.vr_attach.specs.Laid.{shape_from, shape_in, shape_of}
 use Rattle.vr_history.specs.Case.{Case, file_of}
 use Rattle.vr_history.specs.Opened.{Unknown, base_of, built_over, by_name, by_path, catalog_of}
 use Rattle.vr_history.specs.Opened.{definition_in, opened, opened_base, opened_file}
-use Rattle.vr_history.specs.Replies.{fills_base, is_keyed}
+use Rattle.vr_history.specs.Replies.{is_keyed}
 use Rattle.vr_history.specs.State.{State}
-use Rattle.vr_store.specs.Store.{PartNow}
-use Rattle.vr_event.specs.Putting.{AreLaidBy, IsKeyedIn, IsKeyedShape}
 
 -- ---- what a definition says of the part that is laid by it
 
@@ -176,37 +174,3 @@ pub opened-by : (case : Case) (definition : Definition)
     → definition_in (opened case) ≡ Some definition
     → definition_of (catalog_of case.state) (base_of case) ≡ Some definition
 opened-by case definition is = by-file case.state definition (file_of case.request) is
-
--- ---- where it is key-sequenced
-
-kind-keyed : (kind : Kind) → is_keyed kind ≡ true → kind ≡ Keyed
-kind-keyed Keyed is = refl
-kind-keyed Entry is = absurd cc
-kind-keyed Relative is = absurd cc
-
--- where a request fills a key-sequenced data set, its part is keyed
-pub fills-keyed : (geometry : Geometry) (case : Case) (parts : List PartNow)
-    → AreLaidBy geometry (catalog_of case.state) parts → IsTrue (fills_base case)
-    → IsKeyedIn parts (base_of case)
-fills-keyed geometry case parts laid fills = by_definition (definition_in (opened case)) refl fills
-  where
-    entries : List CatEntry
-    entries = catalog_of case.state
-
-    by_shape : (o : Option Shape) → shape_in geometry entries (base_of case) ≡ o
-        → (definition : Definition) → definition_of entries (base_of case) ≡ Some definition
-        → definition.kind ≡ Keyed → IfSome o IsKeyedShape
-    by_shape None there definition is keyed = tt
-    by_shape (Some (KeyedShape part)) there definition is keyed = tt
-    by_shape (Some (NumberedShape part)) there definition is keyed =
-        let of = of-kind geometry entries (base_of case) definition (NumberedShape part) is there in
-        true≢false (sym (ap is_keyed keyed) ∙ of.0)
-
-    by_definition : (o : Option Definition) → definition_in (opened case) ≡ o
-        → option_map_or (λ (known : Definition). is_keyed known.kind) o false ≡ true
-        → IsKeyedIn parts (base_of case)
-    by_definition None there is = absurd cc
-    by_definition (Some definition) there is =
-        subst (λ (o : Option Shape). IfSome o IsKeyedShape) (sym (laid (base_of case)))
-        (by_shape (shape_in geometry entries (base_of case)) refl definition
-        (opened-by case definition there) (kind-keyed definition.kind is))

@@ -19,8 +19,7 @@ use Rattle.vr_types.specs.declared.unit.AreaNo.{AreaNo}
 use Rattle.vr_types.specs.declared.unit.PartNo.{PartNo}
 use Rattle.vr_types.specs.declared.unit.StageKind.{StageKind}
 use Rattle.vr_types.specs.declared.unit.Unit.{Unit as UnitOfRecovery}
-use Rattle.vr_space.specs.Part.{IsClaimed, IsStageOf, KeyedShape, OwnersAfter, NumberedShape, Shape}
-use Rattle.vr_space.proofs.CallerLemmas.{interval-owners}
+use Rattle.vr_space.specs.Part.{IsClaimed, OwnersAfter, Shape}
 use Rattle.vr_undo.specs.Records.{befores_of}
 use Rattle.vr_history.specs.Effects.{claims, has_areas, has_part, parts_laid}
 use Rattle.vr_history.specs.State.{BeforeImage, Owned, State}
@@ -36,8 +35,7 @@ use Rattle.vr_store.specs.Store.{shape_among}
 use Rattle.vr_store.proofs.CallerLemmas.{has-claimed, last-has, owners-after}
 use Rattle.vr_event.specs.Acting.{HasStepped}
 use Rattle.vr_event.specs.Getting.{IsEntered}
-use Rattle.vr_event.specs.Putting.{IsKeyedIn, IsKeyedShape}
-use Rattle.vr_event.specs.Staging.{IsStaged, IsTakenBy, stage_entered}
+use Rattle.vr_event.specs.Staging.{IsStaged, IsStateStaged, IsTakenBy, stage_entered}
 use Rattle.vr_event.specs.Volume.{IsHeld, IsWhole, OwnLaid, VolumeNow}
 use Rattle.vr_event.proofs.Areas.{least-owned, owned-same, owned-taken, unlaid-same}
 use Rattle.vr_event.proofs.Like.{stored_other}
@@ -145,36 +143,6 @@ taken-by part old new least free now is before after (inr claimed) =
           claimed.1 ∙ ap (λ (n : ℕ). Some n) (sym number),
           claimed.2 ∙ ap (λ (n : ℕ). slice_set old n (Some part)) (sym number),
         )
-
--- where the areas are as they were, none was
-pub taken-none : (part : PartNo) (old new : List (Option PartNo)) (taken : Option AreaNo)
-    → IsTakenBy part old new taken → new ≡ old → taken ≡ None
-taken-none part old new None by same = refl
-taken-none part old new (Some area) by same =
-    let fewer = (has-claimed part old new (area.0, by.0, by.1)).free in
-    absurd (omega (arith, fewer, ap free_count same))
-
--- a keyed part takes none
-keyed-owners : (shape : Shape) → IsKeyedShape shape → (part : PartNo) (kind : StageKind)
-    (old new : List (Option PartNo)) → IsStageOf shape kind → OwnersAfter part kind old new
-    → new ≡ old
-keyed-owners (KeyedShape keyed) is part kind old new stage after =
-    interval-owners part kind old new stage after
-keyed-owners (NumberedShape numbered) is part kind old new stage after = absurd is
-
-pub takes-none : (parts : List PartNow) (part : PartNo) (old new : List (Option PartNo))
-    → part_among parts part.0 ≢ None → IsKeyedIn parts part.0 → (kind : StageKind)
-    → IfSome (shape_among parts part.0) (λ (shape : Shape). IsStageOf shape kind)
-    → OwnersAfter part kind old new → new ≡ old
-takes-none parts part old new laid keyed kind = of (part_among parts part.0) laid keyed
-  where
-    of : (found : Option PartNow) → found ≢ None
-        → IfSome (option_map (λ (one : PartNow). one.shape) found) IsKeyedShape
-        → IfSome (option_map (λ (one : PartNow). one.shape) found)
-        (λ (shape : Shape). IsStageOf shape kind)
-        → OwnersAfter part kind old new → new ≡ old
-    of None some is stage after = absurd (some refl)
-    of (Some one) some is stage after = keyed-owners one.shape is part kind old new stage after
 
 -- ---- the part that took one
 
@@ -365,15 +333,20 @@ module _ (after : ℕ) (unit : UnitOfRecovery) (line : ℕ) (part : PartNo) (old
   not-staged request false None leaves entered =
       not-same after unit line request old new entered leaves
 
-  -- and its state stays where it took no area
-  pub state-unclaimed : (opening : State) (split : Bool) (taken : Option AreaNo) → taken ≡ None
+  -- and its state is as it was, or the part has one area more
+  pub state-staged : (opening : State) (split : Bool) (taken : Option AreaNo)
       → new ≡ stage_entered after unit line part split taken old
-      → state_now opening new ≡ state_now opening old
-  state-unclaimed opening split (Some area) none leaves = absurd (none-some area (sym none))
-  state-unclaimed opening true None none leaves =
-      Rattle.vr_event.proofs.Wholes.state-split opening old new after unit line part leaves
-  state-unclaimed opening false None none leaves =
-      ap (λ (f : FileNow). state_now opening f) leaves
+      → IsStateStaged part.0 (state_now opening old) (state_now opening new)
+  state-staged opening split (Some area) leaves = inr (
+    area.0,
+    ap (λ (f : FileNow). state_now opening f) leaves
+        ∙ state_of-append old.geometry opening old.entries
+        (entry_next old.entries after unit line (Claimed part area)),
+  )
+  state-staged opening true None leaves = inl
+      (Rattle.vr_event.proofs.Wholes.state-split opening old new after unit line part leaves)
+  state-staged opening false None leaves = inl
+      (ap (λ (f : FileNow). state_now opening f) leaves)
 
   pub geometry-staged : (split : Bool) (taken : Option AreaNo)
       → new ≡ stage_entered after unit line part split taken old → new.geometry ≡ old.geometry

@@ -6,7 +6,8 @@ use Rattle.vr_types.specs.Seen.{Seen}
 use Rattle.vr_types.specs.declared.geometry.Geometry.{Geometry}
 use Rattle.vr_types.specs.declared.unit.PartNo.{PartNo}
 use Rattle.vr_space.specs.Owners.{Owners}
-use Rattle.vr_space.specs.Part.{HasKeptRoom, IsAtRest, IsOn, Knows, MayHold, Shape, part_no}
+use Rattle.vr_space.specs.Part.{HasKeptRoom, IsAtRest, IsOn, Knows, MayHold, OwnsClaimed, Shape}
+use Rattle.vr_space.specs.Part.{part_no}
 use Rattle.vr_log.specs.LogNow.{IsForced, LogNow}
 use Rattle.vr_log.specs.Standing.{LogStands}
 use Rattle.vr_history.specs.State.{Owned}
@@ -30,13 +31,15 @@ abbrev pub opened_store : LogNow → List PartNow → List (Option PartNo) → S
 opened_store log parts space =
     record { log = log; undo = []; parts = parts; changed = []; space = space }
 
--- A part as it is opened: it is laid by the contents and at rest in blocks of its own, and whatever
--- a crash leaves of it, each place has the item of its content.
+-- A part as it is opened: it is laid by the contents and at rest in blocks of its own, among them
+-- those of the area that a split under way claimed, if one is; and whatever a crash leaves of it,
+-- each place has the item of its content.
 pub record IsPartOpened (geometry : Geometry) (owners : Owners) (contents : ℕ → Content)
     (now : Seen) (part : PartNow) : Type 0 where
   pub laid : shape_by geometry (contents 0) (part_no part.shape).0 ≡ Some part.shape
   pub on : IsOn part.shape now
   pub rests : IsAtRest part.shape owners now
+  pub claimed : OwnsClaimed part.shape owners part.known
   pub room : HasKeptRoom part.shape [] now
   pub knows : Knows part.shape part.known now
   pub holds : (place : List ℕ) (found : Option Item) → MayHold part.shape now.may place found

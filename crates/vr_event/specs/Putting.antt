@@ -129,10 +129,6 @@ abbrev pub IsKeyedShape : Shape → Type 0
 IsKeyedShape (KeyedShape part) = Unit {0}
 IsKeyedShape (NumberedShape part) = ⊥
 
--- the part is keyed, where it is laid
-abbrev pub IsKeyedIn : List PartNow → ℕ → Type 0
-IsKeyedIn parts part = IfSome (shape_among parts part) IsKeyedShape
-
 -- the part is laid, and the place is one of it
 pub record HasPlace (parts : List PartNow) (part : ℕ) (place : List ℕ) : Type 0 where
   pub laid : part_among parts part ≢ None

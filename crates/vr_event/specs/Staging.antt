@@ -1,6 +1,7 @@
 -- What a stage of a part leaves to be entered: the area that it took, or that it split an interval.
 -- The rules are this project's own.
-use Rattle.std.specs.Prelude.{◌≡◌, ◌≢◌, ℕ, Bool, true, false, List, Option, Some, None, length, slice_set}
+use Rattle.std.specs.Prelude.{◌≡◌, ◌≢◌, ◌⊎◌, ℕ, Bool, true, false, List, Option, Some, None, length}
+use Rattle.std.specs.Prelude.{slice_set}
 use Rattle.std.specs.List.Sorted.{IsPermutation}
 use Rattle.vr_types.specs.Geometry.{area_count}
 use Rattle.vr_types.specs.Seen.{Seen}
@@ -9,6 +10,7 @@ use Rattle.vr_types.specs.declared.request.Request.TheVariants.{Commit}
 use Rattle.vr_types.specs.declared.unit.AreaNo.{AreaNo}
 use Rattle.vr_types.specs.declared.unit.PartNo.{PartNo}
 use Rattle.vr_types.specs.declared.unit.Unit.{Unit as UnitOfRecovery}
+use Rattle.vr_history.specs.Effects.{claims}
 use Rattle.vr_history.specs.RefusedRoom.{free_areas}
 use Rattle.vr_history.specs.State.{State}
 use Rattle.vr_history.specs.Step.{case_of}
@@ -32,6 +34,10 @@ stage_entered after unit line part split (Some area) file =
     with_event after unit line (Claimed part area) file
 stage_entered after unit line part true None file = with_event after unit line (Split part) file
 stage_entered after unit line part false None file = file
+
+-- the state once it is: as it was, or the part has one area more
+abbrev pub IsStateStaged : ℕ → State → State → Type 0
+IsStateStaged part old new = (new ≡ old) ⊎ ((area : ℕ) × (new ≡ claims area part old))
 
 -- A volume of which a stage of a part was done, before that is entered: its history gives the areas
 -- as they were, one for each that its geometry has; the catalog lays the part, which got this area, or

@@ -21,6 +21,7 @@ ghost use Rattle.vr_event.specs.Cause.{HasReplyCause, is_faulted};
 ghost use Rattle.vr_event.specs.Getting.{IsEntered};
 ghost use Rattle.vr_event.specs.Lacking.{IfLacks, IsLacking, LacksRoomIn};
 ghost use Rattle.vr_event.specs.Putting as putting;
+ghost use Rattle.vr_event.specs.Staging.{IsStateStaged};
 ghost use Rattle.vr_store.specs.Room.{IsDueAt};
 ghost use Rattle.vr_event.specs.Volume.{Holds, IsHeld, IsWhole};
 ghost use Rattle.vr_event.specs.declared.act.Act.TheVariants as acts;
@@ -121,11 +122,11 @@ impl<B: Blocks, P: Part> Volume<B, P> {
             (RecoversTo self.old.store.log.geometry self.old.number
             (state_now opening self.old.file) []) }
         ensures catalog { self.new.file.catalog ≡ self.old.file.catalog }
-        // A keyed part takes no area, so the state stays.
-        ensures again { IsTrue B.tells → putting.IsKeyedIn self.old.store.parts part.0
-            → (opening : State) → putting.IfAgain result
+        // The state is as it was, or the part has one area more.
+        ensures again { (opening : State) → putting.IfAgain result
             ((self.new.file.geometry ≡ self.old.file.geometry)
-            × (state_now opening self.new.file ≡ state_now opening self.old.file)) }
+            × IsStateStaged part.0 (state_now opening self.old.file)
+            (state_now opening self.new.file)) }
         // Where it is entered, it is not for want of areas.
         ensures lacks { (entered : IsEntered after unit line request self.old.file self.new.file)
             (need free : ℕ) → entered.reply ≡ Refused (NoSpace need free) → ⊥ }
@@ -223,7 +224,7 @@ impl<B: Blocks, P: Part> Volume<B, P> {
     /// One step of a PUT or an ERASE that [`Volume::refused_early`] doesn't refuse, on a volume that
     /// has not stopped. The record at its place is looked at; it is refused by what the record is and
     /// by locks in the way, where the log is full (`LogFull`, before any split), where its part lacks
-    /// room and has no area to take (`NoSpace`, with the part's numbers), for a read that fails
+    /// room and can take no area for it (`NoSpace`, with the part's numbers), for a read that fails
     /// (`ReadFault`), and where memory runs out (`Memory`). A stage of its part that its place needs
     /// is done, and it is to be asked again (`Again`). Else its before-image is kept, logged and
     /// forced, its lock is taken, and the record is set (`Done`). A fault of a write stops the

@@ -145,7 +145,7 @@ abbrev pub FillsKeyed : Case → Type 0
 FillsKeyed case = ((new_record case.request ≡ None → ⊥) × IsTrue (fills_base case))
     ⊎ IsTrue (list_any gains_pair (pair_moves case))
 
--- A key-sequenced part that lacks room needs an area, and has none to take: it stays in its one.
+-- A key-sequenced part that lacks room needs an area, and none is free.
 abbrev pub lacks_area : Refusal
 lacks_area = NoSpace 1 0
 

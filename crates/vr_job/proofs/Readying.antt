@@ -34,6 +34,7 @@ use Rattle.vr_store.specs.Store.{ChangedBy, IsFitImage, IsPartSet, IsSet, PartNo
 use Rattle.vr_recover.specs.Opening.{IsHandedOut, IsOpenedBy as IsOpenedWith, shapes_laid}
 use Rattle.vr_recover.specs.Undone.{IsReady as IsReadyPart, alike}
 use Rattle.vr_recover.proofs.CallerLemmas.{laid-cases, ordered-distinct, shape-number}
+use Rattle.vr_space.proofs.CallerLemmas.{owns-none}
 use Rattle.vr_recover.specs.Opening.{IsRefused}
 use Rattle.vr_recover.specs.OpenNo.{IsToldNo}
 use Rattle.vr_recover.specs.declared.open_no.OpenNo.{OpenNo}
@@ -376,6 +377,7 @@ module _ (geometry : Geometry) (entries : List CatEntry) (owned : List AnyPart) 
           laid = there;
           on = on;
           rests = by-owners (λ (o : Owners). IsAtRest (shape_any one) o now) ready.rests;
+          claimed = owns-none (shape_any one) owners (known_any one) ready.no_move;
           room = ready.room;
           knows = ready.knows;
           holds = is.undone.all (part_no (shape_any one)).0 (shape_any one) there;

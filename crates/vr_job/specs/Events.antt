@@ -57,7 +57,8 @@ KeepsAtRest seen geometry number opening now entries =
     (state_of geometry opening entries).stopped ≡ None → (image : Image) → Left (seen now) image
     → KeepsItems geometry number (state_of geometry opening entries) image
 
--- And its blocks lead each part to the areas that the history gives it, and no other.
+-- And its blocks lead each part to the areas that the history gives it, and no other, but that a split
+-- under way may have claimed one that they don't lead to yet.
 abbrev pub OwnsAtRest : {B : Type 0} → (B → Seen) → Geometry → State → B → List Entry → Type 0
 OwnsAtRest seen geometry opening now entries = (state_of geometry opening entries).stopped ≡ None
     → HasOwners geometry (state_of geometry opening entries) (seen now).cur
@@ -100,13 +101,13 @@ FaultsFollow made = IsStop made ⊎ AreFaultless made
 
 -- An event, with the blocks and the history as it left them: it answered one request at most; it
 -- touched no block, or each image at each moment of it is as above; and it leaves the volume at
--- rest, with the items of the state wherever no live unit changed them, and each part with the areas
--- that the history gives it. A fault is entered after a request alone that was answered 905. Where a
--- COMMIT was answered 0, its unit is in every image that a crash may leave from then on. A request is
--- answered 904 only where a read failed in its event, and 905, so that the volume stops, only where a
--- write or a sync failed in it; and 28 only where its part lacks room. No failure is hidden: an event
--- in which the volume didn't stop is one in which no write or sync failed, and where besides no
--- request was answered 904 no read did.
+-- rest, with the items of the state wherever no live unit changed them, and each part as the owner
+-- of the areas that the history gives it. A fault is entered after a request alone that was
+-- answered 905. Where a COMMIT was answered 0, its unit is in every image that a crash may leave
+-- from then on. A request is answered 904 only where a read failed in its event, and 905, so that
+-- the volume stops, only where a write or a sync failed in it; and 28 only where its part lacks
+-- room. No failure is hidden: an event in which the volume didn't stop is one in which no write or
+-- sync failed, and where besides no request was answered 904 no read did.
 pub record IsEvent {B : Type 0} (seen : B → Seen) (counts : B → Faults) (geometry : Geometry)
     (number : ℕ) (opening : State) (event : Event B) (now : B) (entries : List Entry) : Type 0 where
   pub entries_are : entries ≡ event.entries ++ event.made

@@ -1,22 +1,20 @@
 -- Where a stage is due and no split is under way, the interval that was met lacks room.
 use Rattle.std.proofs.Common.{◌≡◌, ℕ, ◌+◌, ◌≤◌, Bool, true, false, List, length, refl, sym, ap}
-use Rattle.std.proofs.Common.{subst, ◌∙◌, arith, Option, Some, None, IsTrue, [], ◌||◌}
-use Rattle.std.specs.Prelude.{IfSome, slice_index, cond, nat_eq}
-use Rattle.vr_types.specs.Image.{Block, Image, block_at}
+use Rattle.std.proofs.Common.{subst, ◌∙◌, arith, Option, Some, None, IsTrue, []}
+use Rattle.vr_types.specs.Image.{Block, block_at}
 use Rattle.vr_types.specs.Seen.{Seen, Left}
 use Rattle.vr_types.specs.Blocks.{Keeps}
 use Rattle.vr_types.proofs.CallerLemmas.{touches-then}
 use Rattle.vr_types.specs.declared.unit.StageKind.{StageKind}
 use Rattle.vr_types.specs.declared.unit.StageKind.TheVariants.{CiCopy}
 use Rattle.vr_space.specs.declared.room.Room.TheVariants.{Stage, Ready, NoSpace}
-use Rattle.vr_seqset.specs.Entry.{Entry}
 use Rattle.vr_space.specs.Room.{Lengths, Range, HaveRoom, have_room, with_length}
 use Rattle.vr_space.specs.Keyed.{EachMayLeave, HasEnds, HoldsRange, InArea, IsHead, IsKeyedAtRest}
 use Rattle.vr_space.specs.Keyed.{KeepsRoom, Keyed}
-use Rattle.vr_space.specs.Keyed.{entries_of, entry_block, entry_in, lengths_of, low_of}
-use Rattle.vr_space.specs.Split.{SplitNow, area_room, free_interval, room_by, room_by_split}
+use Rattle.vr_space.specs.Keyed.{entries_of, entry_block, lengths_of, low_of}
+use Rattle.vr_space.specs.Split.{free_interval, room_by}
 use Rattle.vr_space.specs.Met.{Met, IsMet}
-use Rattle.vr_space.specs.Split.{room_after, stage_in, fits_in}
+use Rattle.vr_space.specs.Split.{room_by_split}
 use Rattle.vr_space.specs.Part.{Nothing}
 use Rattle.vr_space.specs.AreaCalls.{HasRoomHere}
 use Rattle.vr_space.proofs.CallerLemmas.{due-here-keeps, due-here-then, found-in, keeps-here}
@@ -25,12 +23,11 @@ use Rattle.vr_space.proofs.CallerLemmas.{same-here-keeps, same-here-then}
 use Rattle.vr_split.specs.Switching.{KeepsPart, IsStageDone}
 use Rattle.vr_keyed.specs.Advance.{IsDue}
 use Rattle.vr_keyed.specs.Planned.{LacksRoom}
-use Rattle.vr_keyed.specs.Splits.{room_here}
 use Rattle.vr_keyed.proofs.Looking.{each-in}
 use Rattle.vr_keyed.proofs.MetRoom.{answer-met}
 use Rattle.vr_keyed.proofs.Reading.{still-current, still-head}
 
--- What a stage that is due says where no split is under way.
+-- What a stage that is due says where no split is under way, and no area is free.
 pub record IsDueNew (fits : Bool) (free : Option ℕ) (kind : StageKind) : Type 0 where
   pub lacks : fits ≡ false
   pub into : ℕ
@@ -41,7 +38,7 @@ stage-is : (one other : StageKind) → Stage one ≡ Stage other → one ≡ oth
 stage-is one other same = cc
 
 new-due : (fits : Bool) (free : Option ℕ) (kind : StageKind)
-    → room_by fits (room_by_split None free) ≡ Stage kind → IsDueNew fits free kind
+    → room_by fits (room_by_split None free false) ≡ Stage kind → IsDueNew fits free kind
 new-due true free kind is = absurd (other is)
   where
     other : Ready ≡ Stage kind → ⊥
@@ -77,7 +74,7 @@ module _ (part : Keyed) (now : Seen) (left : Left now now.cur) (rests : IsKeyedA
   due-new =
       new-due (have_room part.size (with_length (lengths_of part kept met.range met.block) place n))
       (free_interval part (block_at now.cur part.head)) due.0
-      (sym (answer-met part now.cur met known None None kept n place None
+      (sym (answer-met part now.cur met known None None 0 kept n place None
       (have_room part.size (with_length (lengths_of part kept met.range met.block) place n)) same
       refl refl) ∙ due.1)
 
@@ -112,68 +109,6 @@ module _ (part : Keyed) (now : Seen) (left : Left now now.cur) (rests : IsKeyedA
     alone = alone;
     lacks = due-new.lacks;
   }
-
--- ---- the stage that is answered
-
-ready-other : (stage : StageKind) → Ready ≡ Stage stage → ⊥
-ready-other stage same = cc
-
--- where a stage is due in an area and a split of the part is under way, in it or elsewhere, it is
--- the stage of that split
-pub going-due : (part : Keyed) (split : Option SplitNow) (stage : StageKind) (image : Image)
-    (kept : Lengths) (place : List ℕ) (n : ℕ) (kind : StageKind)
-    → IfSome split (λ (now : SplitNow). now.stage ≡ stage)
-    → area_room part split (Some stage) image kept place n ≡ Stage kind → stage ≡ kind
-going-due part split stage image kept place n kind of_split due =
-    by split of_split (entry_in (block_at image part.head) place) due
-  where
-    free : Option ℕ
-    free = free_interval part (block_at image part.head)
-
-    lacking : (fits : Bool) → room_by fits (room_by_split (Some stage) free) ≡ Stage kind
-        → stage ≡ kind
-    lacking true is = absurd (ready-other kind is)
-    lacking false is = stage-is stage kind is
-
-    of_stage : (now : SplitNow) → now.stage ≡ stage → (b : Bool) (fits : Bool)
-        → room_after (cond b (Some now.stage) None)
-        (room_by fits (room_by_split (Some stage) free)) ≡ Stage kind → stage ≡ kind
-    of_stage now same true fits is = sym same ∙ stage-is now.stage kind is
-    of_stage now same false fits is = lacking fits is
-
-    by : (split : Option SplitNow) → IfSome split (λ (now : SplitNow). now.stage ≡ stage)
-        → (found : Option (Range × Entry))
-        → room_after (stage_in split found)
-        (room_by (fits_in part image kept place n found) (room_by_split (Some stage) free))
-        ≡ Stage kind → stage ≡ kind
-    by split same None is = lacking false is
-    by None same (Some found) is = lacking (fits_in part image kept place n (Some found)) is
-    by (Some now) same (Some found) is =
-        of_stage now same
-        (nat_eq (slice_index found.1.intervals 0) now.old
-        || nat_eq (slice_index found.1.intervals 0) now.into)
-        (fits_in part image kept place n (Some found)) is
-
--- where none is, it is a copy
-pub new-stage : (part : Keyed) (image : Image) (kept : Lengths) (place : List ℕ) (n : ℕ)
-    → (due : IsDue part None image kept place n)
-    → Stage CiCopy ≡ room_here part None image kept place n
-new-stage part image kept place n due =
-    by (entry_in (block_at image part.head) place) due.1 ∙ sym due.1
-  where
-    free : Option ℕ
-    free = free_interval part (block_at image part.head)
-
-    copy : (fits : Bool) (f : Option ℕ) → room_by fits (room_by_split None f) ≡ Stage due.0
-        → Stage CiCopy ≡ Stage due.0
-    copy fits f is = sym (ap (λ (k : StageKind). Stage k) (new-due fits f due.0 is).copy)
-
-    by : (found : Option (Range × Entry))
-        → room_after (stage_in None found)
-        (room_by (fits_in part image kept place n found) (room_by_split None free)) ≡ Stage due.0
-        → Stage CiCopy ≡ Stage due.0
-    by None is = copy false free is
-    by (Some found) is = copy (fits_in part image kept place n (Some found)) free is
 
 -- ---- calls that only read, and then a stage
 

@@ -1,29 +1,27 @@
 -- Changes in a part by what they are in one area: which stage comes before a record that lacks
 -- room.
 use Rattle.std.proofs.Common.{◌≡◌, ℕ, Bool, true, false, List, Option, Some, None, refl, sym, ap}
-use Rattle.std.proofs.Common.{◌∙◌, subst, true≢false}
-use Rattle.std.specs.Prelude.{IfOk, IsSome, OnErr, cond, nat_eq, slice_index, ◌||◌}
-use Rattle.std.specs.Option.{is_some}
+use Rattle.std.proofs.Common.{◌≢◌, ◌∙◌, subst, true≢false}
+use Rattle.std.specs.Prelude.{IfOk, IsSome, OnErr, cond, nat_eq, slice_index, unwrap_or, ◌||◌}
+use Rattle.std.specs.Option.{is_some, option_map}
 use Rattle.std.specs.declared.result.Result.{Result}
 use Rattle.std.specs.declared.result.Result.TheVariants.{Ok, Err}
 use Rattle.vr_types.specs.Image.{Image}
 use Rattle.vr_types.specs.declared.unit.StageKind.{StageKind}
-use Rattle.vr_types.specs.declared.unit.StageKind.TheVariants.{CiCopy, CiSwitch, CiClean}
+use Rattle.vr_types.specs.declared.unit.StageKind.TheVariants.{CaClaim, CiCopy, CiSwitch, CiClean}
 use Rattle.vr_seqset.specs.Entry.{Entry}
-use Rattle.vr_space.specs.declared.room.Room as answer
 use Rattle.vr_space.specs.declared.room.Room.TheVariants.{Stage}
 use Rattle.vr_space.specs.Areas.{KeyedChain, area_for, area_of, head_in}
 use Rattle.vr_space.specs.Keyed.{entry_in}
 use Rattle.vr_space.specs.Room.{Lengths, Range}
-use Rattle.vr_space.specs.Split.{AreaSplit, SplitNow, area_fits, area_stage, free_interval}
-use Rattle.vr_space.specs.Split.{keyed_room, keyed_room_by, room_after, room_by, room_by_split}
-use Rattle.vr_space.specs.Split.{split_in, stage_in, stage_under}
-use Rattle.vr_space.proofs.CallerLemmas.{room-of-area}
+use Rattle.vr_space.specs.Split.{AreaSplit, MoveNow, SplitNow, area_fits, area_stage, can_grow}
+use Rattle.vr_space.specs.Split.{free_interval, keyed_room, keyed_room_by, move_stage, room_after}
+use Rattle.vr_space.specs.Split.{room_by, room_by_split, split_in, stage_in}
 use Rattle.vr_split.specs.Splits.{after_fault, after_stage, split_by, stage_again, stage_after}
 use Rattle.vr_split.specs.Splits.{stage_now}
 use Rattle.vr_split.specs.Splits.{split_at as split_of}
 use Rattle.vr_keyed.specs.Advance.{IsDue, IsLater, IsLaterStage}
-use Rattle.vr_keyed.specs.Owned.{split_at}
+use Rattle.vr_keyed.specs.Owned.{split_at, stage_of_move}
 
 -- ---- answers
 
@@ -52,11 +50,12 @@ none-under next some None same tests is = refl
 none-under next some (Some split) same tests is = absurd (true≢false
     (sym (tests ∙ ap (λ (stage : Option StageKind). is_some stage) same) ∙ is))
 
--- its stage is that of the part
-pub stage-same : (area : ℕ) (split : Option SplitNow)
-    → stage_now split ≡ stage_under (split_at area split)
-stage-same area None = refl
-stage-same area (Some split) = refl
+-- the same of a split of an area
+pub is-moving : (next : Option StageKind) (some : Bool) (move : Option MoveNow)
+    → next ≡ stage_of_move move → some ≡ is_some next → some ≡ true → IsSome move
+is-moving next some None same tests is = absurd (true≢false
+    (sym is ∙ tests ∙ ap (λ (stage : Option StageKind). is_some stage) same))
+is-moving next some (Some move) same tests is = refl
 
 -- a stage that fails leaves a split whose copy is done as it was
 pub fault-same : (split : Option SplitNow) → IsLater split → after_fault split ≡ split
@@ -74,36 +73,90 @@ fault-same (Some split) later = by_stage split.stage refl later
     by_stage CiClean is later = same CiClean is
     by_stage stage is later = absurd later
 
--- and one that is done leaves one whose copy is done, or none
-pub later-stage : (split : Option SplitNow) → IsLater split → IsLater (after_stage split)
-later-stage None later = tt
-later-stage (Some split) later = by_stage split.stage later
+-- ---- a split goes on
+
+-- once a stage is done it isn't the split that it was,
+pub stage-other : (split : Option SplitNow) → IsSome split → after_stage split ≢ split
+stage-other None some same = cc
+stage-other (Some split) some same = by_stage split.stage refl same
   where
-    by_stage : (stage : StageKind) → IsLaterStage stage
-        → IsLater (split_by (stage_after stage) split.old split.into split.cut)
-    by_stage CiSwitch later = tt
-    by_stage CiClean later = tt
-    by_stage stage later = absurd later
+    other : (stage next : StageKind) → split.stage ≡ stage
+        → Some (split_of split.old split.into split.cut next) ≡ Some split → stage ≡ next
+    other stage next is same = sym is
+        ∙ sym (ap (λ (one : Option SplitNow). unwrap_or (stage_now one) stage) same)
+
+    by_stage : (stage : StageKind) → split.stage ≡ stage
+        → split_by (stage_after stage) split.old split.into split.cut ≡ Some split → ⊥
+    by_stage CiCopy is same =
+        let both : CiCopy ≡ CiSwitch = other CiCopy CiSwitch is same in cc
+    by_stage CiSwitch is same =
+        let both : CiSwitch ≡ CiClean = other CiSwitch CiClean is same in cc
+    by_stage stage is same = cc
+
+-- in whichever area,
+pub split-other : (area : ℕ) (one other : Option SplitNow) → one ≢ other
+    → split_at area one ≢ split_at area other
+split-other area one other differ same = differ (sym (inner one) ∙ ap splits same ∙ inner other)
+  where
+    splits : Option AreaSplit → Option SplitNow
+    splits now = option_map (λ (at : AreaSplit). at.split) now
+
+    inner : (now : Option SplitNow) → splits (split_at area now) ≡ now
+    inner None = refl
+    inner (Some now) = refl
+
+-- and one that begins isn't none.
+pub split-begun : (area : ℕ) (split : Option SplitNow) → IsSome split → split_at area split ≢ None
+split-begun area None some same = cc
+split-begun area (Some split) some same = cc
 
 -- ---- the stage that comes before a record
 
 -- of a split that is under way
-due-split : (here : Option StageKind) (fits : Bool) (free : Option ℕ) (now kind : StageKind)
+due-split : (wait here : Option StageKind) (fits : Bool) (free : Option ℕ) (grows : Bool)
+    (now kind : StageKind) → ((stage : StageKind) → wait ≡ Some stage → stage ≡ now)
     → ((stage : StageKind) → here ≡ Some stage → stage ≡ now)
-    → room_after here (room_by fits (room_by_split (Some now) free)) ≡ Stage kind → kind ≡ now
-due-split (Some stage) fits free now kind same is =
+    → room_after wait (room_after here (room_by fits (room_by_split (Some now) free grows)))
+    ≡ Stage kind → kind ≡ now
+due-split (Some stage) here fits free grows now kind waits same is =
+    let it : stage ≡ kind = cc in sym it ∙ waits stage refl
+due-split None (Some stage) fits free grows now kind waits same is =
     let it : stage ≡ kind = cc in sym it ∙ same stage refl
-due-split None true free now kind same is = absurd cc
-due-split None false free now kind same is = let it : now ≡ kind = cc in sym it
+due-split None None true free grows now kind waits same is = absurd cc
+due-split None None false free grows now kind waits same is =
+    let it : now ≡ kind = cc in sym it
 
--- or the first of a new one
-due-new : (here : Option StageKind) (fits : Bool) (free : Option ℕ) (kind : StageKind)
-    → here ≡ None → room_after here (room_by fits (room_by_split None free)) ≡ Stage kind
-    → kind ≡ CiCopy
-due-new (Some stage) fits free kind none is = absurd cc
-due-new None true free kind none is = absurd cc
-due-new None false None kind none is = absurd cc
-due-new None false (Some n) kind none is = let it : CiCopy ≡ kind = cc in sym it
+-- or the first of a new one: of the interval, or of its area where none of its intervals is free
+abbrev pub IsNew : Option ℕ → Bool → StageKind → Type 0
+IsNew (Some n) grows kind = kind ≡ CiCopy
+IsNew None grows kind = (kind ≡ CaClaim) × (grows ≡ true)
+
+due-new : (here : Option StageKind) (fits : Bool) (free : Option ℕ) (grows : Bool)
+    (kind : StageKind) → here ≡ None
+    → room_after here (room_by fits (room_by_split None free grows)) ≡ Stage kind
+    → IsNew free grows kind
+due-new (Some stage) fits free grows kind none is = absurd cc
+due-new None true free grows kind none is = absurd cc
+due-new None false None false kind none is = absurd cc
+due-new None false None true kind none is = let it : CaClaim ≡ kind = cc in (sym it, refl)
+due-new None false (Some n) grows kind none is = let it : CiCopy ≡ kind = cc in sym it
+
+-- a record that lacks room has a stage before it
+due-lacks : (here : Option StageKind) (fits : Bool) (free : Option ℕ) (grows : Bool)
+    (kind : StageKind) → here ≡ None
+    → room_after here (room_by fits (room_by_split None free grows)) ≡ Stage kind → fits ≡ false
+due-lacks (Some stage) fits free grows kind none is = absurd cc
+due-lacks None true free grows kind none is = absurd cc
+due-lacks None false free grows kind none is = refl
+
+-- the copy of a new split, where an interval is free
+copies : (here : Option StageKind) (fits : Bool) (free : Option ℕ) (grows : Bool) → here ≡ None
+    → fits ≡ false → IsSome free
+    → room_after here (room_by fits (room_by_split None free grows)) ≡ Stage CiCopy
+copies (Some stage) fits free grows none lacks some = absurd cc
+copies None true free grows none lacks some = absurd cc
+copies None false None grows none lacks some = absurd cc
+copies None false (Some n) grows none lacks some = refl
 
 -- the stage at an entry is that of the split
 stage-of-split : (split : SplitNow) (found : Option (Range × Entry)) (kind : StageKind)
@@ -134,62 +187,136 @@ stage-none : (found : Option (Range × Entry)) → stage_in None found ≡ None
 stage-none None = refl
 stage-none (Some at) = refl
 
+-- so is the one that the places of an area wait for
+wait-there : (move : MoveNow) (area : ℕ) (kind : StageKind)
+    → move_stage (Some move) area ≡ Some kind → kind ≡ move.stage
+wait-there move area kind = by_test (nat_eq move.area area)
+  where
+    by_test : (test : Bool) → cond test (Some move.stage) None ≡ Some kind → kind ≡ move.stage
+    by_test true is = let it : move.stage ≡ kind = cc in sym it
+    by_test false is = absurd cc
+
+none-some : {X : Type 0} (x : X) → None ≡ Some x → ⊥
+none-some x is = cc
+
 -- Where a split is under way, wherever it is, no other stage is due than its next.
-stage-due : (part : KeyedChain) (now : AreaSplit) (image : Image) (kept : Lengths)
+stage-due : (part : KeyedChain) (now : AreaSplit) (image : Image) (free : ℕ) (kept : Lengths)
     (place : List ℕ) (n : ℕ) (kind : StageKind)
-    → keyed_room part (Some now) image kept place n ≡ Stage kind → kind ≡ now.split.stage
-stage-due part now image kept place n kind = by_found (area_for part image place)
+    → keyed_room part (Some now) None image free kept place n ≡ Stage kind
+    → kind ≡ now.split.stage
+stage-due part now image free kept place n kind = by_found (area_for part image place)
   where
     by_found : (found : Option ℕ)
-        → keyed_room_by part (Some now) image kept place n found ≡ Stage kind
+        → keyed_room_by part (Some now) None image free kept place n found ≡ Stage kind
         → kind ≡ now.split.stage
     by_found None is = absurd cc
-    by_found (Some area) is = due-split
+    by_found (Some area) is = due-split None
         (area_stage (area_of part area) (split_in (Some now) area) image place)
         (area_fits (area_of part area) image kept place n)
-        (free_interval (area_of part area) (head_in part image area)) now.split.stage kind
+        (free_interval (area_of part area) (head_in part image area))
+        (can_grow free (head_in part image area)) now.split.stage kind
+        (λ stage same. absurd (none-some stage same))
         (stage-there now area (entry_in (head_in part image area) place)) is
 
+move-due : (part : KeyedChain) (move : MoveNow) (image : Image) (free : ℕ) (kept : Lengths)
+    (place : List ℕ) (n : ℕ) (kind : StageKind)
+    → keyed_room part None (Some move) image free kept place n ≡ Stage kind → kind ≡ move.stage
+move-due part move image free kept place n kind = by_found (area_for part image place)
+  where
+    by_found : (found : Option ℕ)
+        → keyed_room_by part None (Some move) image free kept place n found ≡ Stage kind
+        → kind ≡ move.stage
+    by_found None is = absurd cc
+    by_found (Some area) is = due-split (move_stage (Some move) area)
+        (area_stage (area_of part area) None image place)
+        (area_fits (area_of part area) image kept place n)
+        (free_interval (area_of part area) (head_in part image area))
+        (can_grow free (head_in part image area)) move.stage kind (wait-there move area)
+        (λ stage same. absurd (none-some stage
+        (sym (stage-none (entry_in (head_in part image area) place)) ∙ same))) is
+
 pub split-stage : (part : KeyedChain) (area : ℕ) (split : Option SplitNow) (image : Image)
-    (kept : Lengths) (place : List ℕ) (n : ℕ) (kind : StageKind) → stage_now split ≡ Some kind
-    → (due : StageKind) → keyed_room part (split_at area split) image kept place n ≡ Stage due
-    → Stage kind ≡ keyed_room part (split_at area split) image kept place n
-split-stage part area None image kept place n kind is due answers = absurd cc
-split-stage part area (Some split) image kept place n kind is due answers =
+    (free : ℕ) (kept : Lengths) (place : List ℕ) (n : ℕ) (kind : StageKind)
+    → stage_now split ≡ Some kind → (due : StageKind)
+    → keyed_room part (split_at area split) None image free kept place n ≡ Stage due
+    → Stage kind ≡ keyed_room part (split_at area split) None image free kept place n
+split-stage part area None image free kept place n kind is due answers = absurd cc
+split-stage part area (Some split) image free kept place n kind is due answers =
     let it : split.stage ≡ kind = cc in
-    ap Stage (sym it
-    ∙ sym (stage-due part (record { area = area; split = split }) image kept place n due answers))
+    ap Stage (sym it ∙ sym
+    (stage-due part (record { area = area; split = split }) image free kept place n due answers))
+    ∙ sym answers
+
+-- the same of a split of an area
+pub move-stage : (part : KeyedChain) (move : Option MoveNow) (image : Image) (free : ℕ)
+    (kept : Lengths) (place : List ℕ) (n : ℕ) (kind : StageKind)
+    → stage_of_move move ≡ Some kind → (due : StageKind)
+    → keyed_room part None move image free kept place n ≡ Stage due
+    → Stage kind ≡ keyed_room part None move image free kept place n
+move-stage part None image free kept place n kind is due answers = absurd cc
+move-stage part (Some move) image free kept place n kind is due answers =
+    let it : move.stage ≡ kind = cc in
+    ap Stage (sym it ∙ sym (move-due part move image free kept place n due answers))
     ∙ sym answers
 
 -- Where none is, a stage is due in the area of the place, and is the first of a new split.
-module _ (part : KeyedChain) (split : Option AreaSplit) (image : Image) (kept : Lengths)
-    (place : List ℕ) (n : ℕ) (none : split ≡ None) (due : StageKind)
-    (answers : keyed_room part split image kept place n ≡ Stage due) where
-  begins : keyed_room part None image kept place n ≡ Stage due
-  begins = subst (λ (now : Option AreaSplit). keyed_room part now image kept place n ≡ Stage due)
-      none answers
+module _ (part : KeyedChain) (split : Option AreaSplit) (move : Option MoveNow) (image : Image)
+    (free : ℕ) (kept : Lengths) (place : List ℕ) (n : ℕ) (none : split ≡ None)
+    (still : move ≡ None) (due : StageKind)
+    (answers : keyed_room part split move image free kept place n ≡ Stage due) (area : ℕ)
+    (found : area_for part image place ≡ Some area) where
+  begins : keyed_room part None None image free kept place n ≡ Stage due
+  begins = subst (λ (one : Option MoveNow).
+      keyed_room part None one image free kept place n ≡ Stage due) still
+      (subst (λ (now : Option AreaSplit).
+      keyed_room part now move image free kept place n ≡ Stage due) none answers)
 
-  copy-due : due ≡ CiCopy
-  copy-due = by_found (area_for part image place) begins
+  pub new-due : IsNew (free_interval (area_of part area) (head_in part image area))
+      (can_grow free (head_in part image area)) due
+  new-due = due-new (area_stage (area_of part area) None image place)
+      (area_fits (area_of part area) image kept place n)
+      (free_interval (area_of part area) (head_in part image area))
+      (can_grow free (head_in part image area)) due
+      (stage-none (entry_in (head_in part image area) place))
+      (subst (λ (at : Option ℕ).
+      keyed_room_by part None None image free kept place n at ≡ Stage due) found begins)
+
+  -- of the interval, where one is free in the area
+  pub copy-stage : IsSome (free_interval (area_of part area) (head_in part image area))
+      → (kind : StageKind) → kind ≡ CiCopy
+      → Stage kind ≡ keyed_room part split move image free kept place n
+  copy-stage some kind is = ap Stage (is ∙ sym (by_free
+      (free_interval (area_of part area) (head_in part image area)) some new-due)) ∙ sym answers
     where
-      by_found : (found : Option ℕ)
-          → keyed_room_by part None image kept place n found ≡ Stage due → due ≡ CiCopy
-      by_found None is = absurd cc
-      by_found (Some at) is = due-new (area_stage (area_of part at) None image place)
-          (area_fits (area_of part at) image kept place n)
-          (free_interval (area_of part at) (head_in part image at)) due
-          (stage-none (entry_in (head_in part image at) place)) is
+      by_free : (one : Option ℕ) → IsSome one
+          → IsNew one (can_grow free (head_in part image area)) due → due ≡ CiCopy
+      by_free None there is = absurd cc
+      by_free (Some m) there is = is
 
-  pub copy-stage : (kind : StageKind) → kind ≡ CiCopy
-      → Stage kind ≡ keyed_room part split image kept place n
-  copy-stage kind is = ap Stage (is ∙ sym copy-due) ∙ sym answers
+  -- which is due in the area even where no area is free,
+  pub copy-due : IsSome (free_interval (area_of part area) (head_in part image area))
+      → IsDue (area_of part area) None image kept place n
+  copy-due some = (
+    CiCopy,
+    copies (area_stage (area_of part area) None image place)
+        (area_fits (area_of part area) image kept place n)
+        (free_interval (area_of part area) (head_in part image area))
+        (can_grow 0 (head_in part image area))
+        (stage-none (entry_in (head_in part image area) place))
+        (due-lacks (area_stage (area_of part area) None image place)
+        (area_fits (area_of part area) image kept place n)
+        (free_interval (area_of part area) (head_in part image area))
+        (can_grow free (head_in part image area)) due
+        (stage-none (entry_in (head_in part image area) place))
+        (subst (λ (at : Option ℕ).
+        keyed_room_by part None None image free kept place n at ≡ Stage due) found begins))
+        some,
+  )
 
-pub due-here : (part : KeyedChain) (area : ℕ) (split : Option AreaSplit) (image : Image)
-    (kept : Lengths) (place : List ℕ) (n : ℕ) → split ≡ None → (due : StageKind)
-    → keyed_room part split image kept place n ≡ Stage due
-    → area_for part image place ≡ Some area → IsDue (area_of part area) None image kept place n
-due-here part area split image kept place n none due answers found = (
-  due,
-  sym (room-of-area part None image kept place n area found)
-      ∙ begins part split image kept place n none due answers,
-)
+  -- and else of the area
+  pub claim-stage : free_interval (area_of part area) (head_in part image area) ≡ None
+      → (kind : StageKind) → kind ≡ CaClaim
+      → Stage kind ≡ keyed_room part split move image free kept place n
+  claim-stage full kind is = ap Stage (is ∙ sym
+      (subst (λ (one : Option ℕ). IsNew one (can_grow free (head_in part image area)) due) full
+      new-due).0) ∙ sym answers

@@ -1,26 +1,31 @@
 -- What a keyed part keeps in memory of its blocks: which area a place comes to, the split that is
--- under way, and what was met.
+-- under way and what the part answers by it, and what was met.
 use Rattle.std.proofs.Common.{◌≡◌, ◌<◌, ℕ, Bool, true, false, IsTrue, List, [], ◌∷◌, Option}
-use Rattle.std.proofs.Common.{Some, None, All, refl, sym, ap, subst, ◌∙◌, arith, take}
-use Rattle.std.specs.Prelude.{Contains, IsSome, bytes_eq, cond, filter, not}
+use Rattle.std.proofs.Common.{Some, None, All, refl, sym, ap, subst, ◌∙◌, arith, take, ⊎_elim}
+use Rattle.std.specs.Prelude.{◌⊎◌, Contains, IsSome, bytes_eq, cond, filter, not}
 use Rattle.std.specs.Ordering.{is_le}
-use Rattle.std.proofs.lemmas.List.Elements.{All-cons, All-filter, All-take, All-weaker}
-use Rattle.std.proofs.lemmas.List.Elements.{Contains-append_right}
+use Rattle.std.proofs.lemmas.List.Elements.{All-cons, All-filter, All-nil, All-take, All-weaker}
+use Rattle.std.proofs.lemmas.List.Elements.{Contains-append_left, Contains-append_right}
 use Rattle.vr_types.specs.Blocks.{Keeps}
 use Rattle.vr_types.specs.Content.{place_cmp}
 use Rattle.vr_types.specs.Geometry.{area_count}
 use Rattle.vr_types.specs.Image.{Image}
 use Rattle.vr_types.specs.Seen.{Seen}
+use Rattle.vr_types.specs.declared.unit.StageKind.{StageKind}
+use Rattle.vr_space.specs.declared.room.Room.{Room}
+use Rattle.vr_space.specs.declared.room.Room.TheVariants.{Stage}
 use Rattle.vr_space.specs.Areas.{ChainKeepsRoom, IsChainOn, KeyedChain, KnowsAreas, area_by}
 use Rattle.vr_space.specs.Areas.{area_for, area_of, areas_in}
 use Rattle.vr_space.specs.Keyed.{InArea, KeepsRoom, Keyed}
 use Rattle.vr_space.specs.Met.{IsChainMet, IsMet, Met, met_next}
-use Rattle.vr_space.specs.Part.{KeyedShape, Knows, Stands}
+use Rattle.vr_space.specs.Part.{InHeld, KeyedShape, Knows, Stands}
 use Rattle.vr_space.specs.Room.{Lengths}
-use Rattle.vr_space.specs.Split.{AreaSplit, SplitNow}
+use Rattle.vr_space.specs.Moves.{IsPastClaim, MoveUnderWay}
+use Rattle.vr_space.specs.Split.{AreaSplit, MoveNow, SplitNow, area_room, keyed_room, move_stage}
+use Rattle.vr_space.specs.Split.{room_after, split_in, stage_under}
 use Rattle.vr_space.specs.UnderWay.{AreaUnderWay, KeyedUnderWay}
 use Rattle.vr_space.proofs.CallerLemmas.{ComesTo, IsLinkedArea, area-on, comes-to, each-here}
-use Rattle.vr_space.proofs.CallerLemmas.{knows-area, links-in-area}
+use Rattle.vr_space.proofs.CallerLemmas.{knows-area, links-in-area, move-keeps, room-of-area}
 use Rattle.vr_attach.specs.Areas.{AreasNow}
 use Rattle.vr_keyed.specs.Lent.{ArePlaces}
 use Rattle.vr_keyed.specs.Owned.{InAreas, IsMine, known_by, split_at}
@@ -56,6 +61,20 @@ pub area-at : (chain : AreasNow) (at place : List ℕ) (area : ℕ) → at ≡ p
     → area_by chain.areas chain.ends place ≡ Some area
 area-at chain at place area same is = ap (area_by chain.areas chain.ends) (sym same) ∙ is
 
+-- This is the area that has the place, by what is in memory, and this its layout.
+pub record IsPlaced (chain : AreasNow) (place : List ℕ) (area : ℕ) (layout : Keyed) : Type 0 where
+  pub layout_is : layout ≡ area_of chain.part area
+  pub area_is : area_by chain.areas chain.ends place ≡ Some area
+
+-- It is the one that was found, where its layout was read.
+pub placed-at : (chain : AreasNow) (at place : List ℕ) (area : ℕ) (layout : Keyed)
+    (here : KeyedChain) → at ≡ place → area_by chain.areas chain.ends at ≡ Some area
+    → layout ≡ area_of here area → here ≡ chain.part → IsPlaced chain place area layout
+placed-at chain at place area layout here same found is part = record {
+  layout_is = layout-at layout here chain.part area is part;
+  area_is = area-at chain at place area same found;
+}
+
 -- blocks of the area are blocks of the part
 pub blocks-kept : (chain : AreasNow) (place : List ℕ) (area : ℕ)
     → area_by chain.areas chain.ends place ≡ Some area → (blocks : List ℕ)
@@ -64,7 +83,21 @@ blocks-kept chain place area is blocks inside =
     All-weaker (InArea (area_of chain.part area)) (InAreas chain)
     (λ n here. (area, area-kept chain.areas chain.ends place area is, here)) blocks inside
 
--- that are on the volume
+-- which it holds, whatever a split claimed beside them,
+pub blocks-held : (chain : AreasNow) (split : Option AreaSplit) (move : Option MoveNow)
+    (met : List Met) (blocks : List ℕ) → All (InAreas chain) blocks
+    → All (InHeld (KeyedShape chain.part) (known_by chain split move met)) blocks
+blocks-held chain split None met blocks inside = inside
+blocks-held chain split (Some move) met blocks inside =
+    All-weaker (InAreas chain)
+    (InHeld (KeyedShape chain.part) (known_by chain split (Some move) met))
+    (λ n here. (
+      here.0,
+      Contains-append_left chain.areas (move.into ∷ []) here.0 here.1,
+      here.2,
+    )) blocks inside
+
+-- and that are on the volume
 pub blocks-on : (part : KeyedChain) (now : Seen) (count : ℕ) → IsChainOn part now → (area : ℕ)
     → area < area_count part.geometry → count ≡ now.count → (blocks : List ℕ)
     → All (InArea (area_of part area)) blocks → All (λ n. n < count) blocks
@@ -132,13 +165,26 @@ module _ (chain : AreasNow) (tells : Bool) (told : IsTrue tells) (a b : Seen)
             (Some split.split) way.1,
       )
 
+  -- each of its splits does,
+  pub ways-still : (split : Option AreaSplit) (move : Option MoveNow)
+      → KeyedUnderWay chain.part split a × MoveUnderWay chain.part move a
+      × ((split ≡ None) ⊎ (move ≡ None)) × IsPastClaim move
+      → KeyedUnderWay chain.part split b × MoveUnderWay chain.part move b
+      × ((split ≡ None) ⊎ (move ≡ None)) × IsPastClaim move
+  ways-still split move way = (
+    under-still split way.0,
+    move-keeps chain.part move tells told a b call on stands way.1,
+    way.2,
+    way.3,
+  )
+
   -- and what the part keeps is right, whatever it met of the blocks.
-  pub knows-still : (split : Option AreaSplit) (old new : List Met)
-      → Knows (KeyedShape chain.part) (known_by chain split old) a
+  pub knows-still : (split : Option AreaSplit) (move : Option MoveNow) (old new : List Met)
+      → Knows (KeyedShape chain.part) (known_by chain split move old) a
       → All (IsChainMet chain.part a.cur) new
-      → Knows (KeyedShape chain.part) (known_by chain split new) b
-  knows-still split old new knows met = record {
-    way = under-still split knows.way;
+      → Knows (KeyedShape chain.part) (known_by chain split move new) b
+  knows-still split move old new knows met = record {
+    way = ways-still split move knows.way;
     blocks = (
       subst (KnowsAreas chain.part chain.areas chain.ends) (sym (call.content told))
           knows.blocks.0,
@@ -146,6 +192,32 @@ module _ (chain : AreasNow) (tells : Bool) (told : IsTrue tells) (a b : Seen)
           met,
     );
   }
+
+-- ---- what the part answers to a record that wants room
+
+module _ (part : KeyedChain) (split : Option AreaSplit) (move : Option MoveNow) (image : Image)
+    (free : ℕ) (kept : Lengths) (place : List ℕ) (n area : ℕ)
+    (found : area_for part image place ≡ Some area) where
+  abbrev answers : Option StageKind → Room
+  answers waits = room_after waits (area_room (area_of part area) (split_in split area)
+      (stage_under split move) image free kept place n)
+
+  -- that of the area, where it waits for no split of it,
+  pub room-there : (stage : Option StageKind) → stage ≡ stage_under split move
+      → move_stage move area ≡ None
+      → area_room (area_of part area) (split_in split area) stage image free kept place n
+      ≡ keyed_room part split move image free kept place n
+  room-there stage next none =
+      ap (λ (one : Option StageKind).
+      area_room (area_of part area) (split_in split area) one image free kept place n) next
+      ∙ ap answers (sym none)
+      ∙ sym (room-of-area part split move image free kept place n area found)
+
+  -- and else the next stage of that.
+  pub room-waits : (stage : StageKind) → move_stage move area ≡ Some stage
+      → Stage stage ≡ keyed_room part split move image free kept place n
+  room-waits stage waits = ap answers (sym waits)
+      ∙ sym (room-of-area part split move image free kept place n area found)
 
 -- ---- what was met
 
@@ -201,6 +273,15 @@ leaves-met part tells image place area told found =
       there = ap (area_for part image) newly.place_is ∙ found;
       is_met = newly.is_met told;
     })
+
+-- So it is, too, where all may be forgotten, by the layout that was read.
+pub none-or-left : (layout here : Keyed) → layout ≡ here → (tells : Bool) (image : Image)
+    (place : List ℕ) (P : Met → Type 0) (old new : List Met)
+    → (LeavesMet here tells image place old new → All P new)
+    → (new ≡ []) ⊎ LeavesMet layout tells image place old new → All P new
+none-or-left layout here is tells image place P old new left = ⊎_elim
+    (λ none. subst (All P) (sym none) (All-nil P))
+    (λ leaves. left (subst (λ (one : Keyed). LeavesMet one tells image place old new) is leaves))
 
 -- the places of the others
 others-places : (place : List ℕ) (met : List Met)

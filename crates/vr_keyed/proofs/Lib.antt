@@ -15,8 +15,8 @@ pub mod Freeing
 pub mod MetRoom
 pub mod Planning
 pub mod PlanLemmas
+pub mod NoGrowth
 pub mod Advancing
-pub mod StageKinds
 pub mod Keeping
 pub mod Known
 pub mod Lifted
@@ -24,3 +24,8 @@ pub mod Changing
 pub mod Walking
 pub mod Places
 pub mod Over
+pub mod Growing
+pub mod Moved
+pub mod Aside
+pub mod ReadThen
+pub mod NewSplits

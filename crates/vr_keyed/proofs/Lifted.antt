@@ -18,14 +18,15 @@ use Rattle.vr_space.specs.Met.{IsChainMet, IsMet, Met}
 use Rattle.vr_space.specs.Part.{HasRoomFor, IsQuiet}
 use Rattle.vr_space.specs.Part.{IsRecordOf, Just, KeyedShape, Knows, Nothing, Stands}
 use Rattle.vr_space.specs.Room.{Lengths}
-use Rattle.vr_space.specs.Split.{AreaSplit, SplitNow, split_in}
+use Rattle.vr_space.specs.Moves.{IsPastClaim, MoveUnderWay}
+use Rattle.vr_space.specs.Split.{AreaSplit, MoveNow, SplitNow, move_stage, split_in}
 use Rattle.vr_space.specs.UnderWay.{AreaUnderWay}
 use Rattle.vr_space.proofs.CallerLemmas.{ChangesArea, PutsInto, adds-puts, areas-apart, found-in}
 use Rattle.vr_space.proofs.CallerLemmas.{fits-of-area, lift-adds, lift-due, lift-due-at, lift-met}
 use Rattle.vr_space.proofs.CallerLemmas.{lift-rest, lift-room, lift-rooms, lift-same, lift-sets}
-use Rattle.vr_space.proofs.CallerLemmas.{lift-under, record-of-area, rest-here, resting-for}
-use Rattle.vr_space.proofs.CallerLemmas.{resting-stands, room-here, same-area, same-areas}
-use Rattle.vr_space.proofs.CallerLemmas.{same-known, stage-of-area, under-here}
+use Rattle.vr_space.proofs.CallerLemmas.{lift-move, lift-under, record-of-area, rest-here}
+use Rattle.vr_space.proofs.CallerLemmas.{no-stage-of-area, resting-for, resting-stands, room-here}
+use Rattle.vr_space.proofs.CallerLemmas.{same-area, same-areas, same-known, under-here}
 use Rattle.vr_split.specs.Switching.{IsStageDone, KeepsPart}
 use Rattle.vr_attach.specs.Areas.{AreasNow}
 use Rattle.vr_keyed.specs.Changed.{IsDoneIn, IsReadyIn, IsSetIn, KeepsIn, MaySetIn}
@@ -95,34 +96,41 @@ module _ (part : KeyedChain) (area : ℕ) (old new : Seen) (quiet : IsQuiet (Key
     changes = record { others = puts.content; ends = keeps.current }
 
     -- What it keeps in the area it keeps in the part.
-    pub stage-keeps : ChainKeepsRoom part kept old → KeepsIn part kept old new
-    stage-keeps room = record {
-      adds = λ owners still.
+    pub stage-keeps : (move : Option MoveNow) → ChainKeepsRoom part kept old
+        → KeepsIn part move kept old new
+    stage-keeps move room = record {
+      adds = λ owners still own.
           lift-adds part owners area old new still left inside Nothing keeps.adds;
       same = lift-same part area old.cur new.cur changes quiet-stands keeps.same;
       room = lift-room part quiet.0 area old new quiet.1 left inside puts kept keeps.room room;
-      rooms = λ owners still. lift-rooms part owners area old new still left inside Nothing kept
+      rooms = λ owners still own. lift-rooms part owners area old new still left inside Nothing kept
           keeps.adds room keeps.rooms;
     }
 
-    -- Once it is done, the split of the area is under way, and nothing is met.
+    -- Once it is done, the split of the interval is under way, none of an area is, and nothing is
+    -- met.
     pub stage-done : (areas : List ℕ) (ends : List (List ℕ)) (before : Option AreaSplit)
-        (split : Option SplitNow) (met after : List Met)
+        (split : Option SplitNow) (move : Option MoveNow) (met after : List Met)
         → Knows (KeyedShape part) (known_by (record { part = part; areas = areas; ends = ends })
-        before met) old
+        before move met) old
         → IsStageDone (area_of part area) old new → AreaUnderWay (area_of part area) split new
-        → after ≡ []
-        → IsDoneIn part (known_by (record { part = part; areas = areas; ends = ends })
-        (split_at area split) after) old new
-    stage-done areas ends before split met after knows done way none = record {
+        → move ≡ None → after ≡ []
+        → IsDoneIn part move (known_by (record { part = part; areas = areas; ends = ends })
+        (split_at area split) move after) old new
+    stage-done areas ends before split move met after knows done way no_move none = record {
       due = lift-due part quiet.0 area old new quiet.1 left inside puts changes [] done.due;
-      rests = λ owners still.
+      rests = λ owners still own.
           lift-rest part owners area old new still left inside puts done.rests;
       knows = record {
-        way = way-there part area split new
-            (subst (λ (those : List ℕ). Contains those area)
-            (sym (same-areas part area old.cur new.cur changes)) inside)
-            way;
+        way = (
+          way-there part area split new
+              (subst (λ (those : List ℕ). Contains those area)
+              (sym (same-areas part area old.cur new.cur changes)) inside)
+              way,
+          subst (λ (one : Option MoveNow). MoveUnderWay part one new) (sym no_move) tt,
+          inr no_move,
+          subst IsPastClaim (sym no_move) tt,
+        );
         blocks = (
           same-known part area old.cur new.cur changes areas ends knows.blocks.0,
           subst (All (IsChainMet part new.cur)) (sym none) (All-nil (IsChainMet part new.cur)),
@@ -156,10 +164,10 @@ module _ (part : KeyedChain) (area : ℕ) (old new : Seen) (quiet : IsQuiet (Key
   ready-here known kept place bytes found ready = record {
     rests = rest-here part quiet.0 old quiet.1 left area inside;
     room = room-here part quiet.0 old quiet.1 left kept ready.room area inside;
-    way = under-here part known.split area old ready.knows.way;
+    way = under-here part known.split area old ready.knows.way.0;
     can = record {
-      no_stage = sym (stage-of-area part known.split old.cur place area found)
-          ∙ ready.can.no_stage;
+      no_stage = (no-stage-of-area part known.split known.move old.cur place area found
+          ready.can.no_stage).1;
       room = room-to-set known old.cur kept place found bytes ready.can.room;
     };
     valid = valid-here place bytes ready.valid;
@@ -220,21 +228,22 @@ module _ (part : KeyedChain) (area : ℕ) (old new : Seen) (quiet : IsQuiet (Key
         absurd (differ it))))
         (cases_eq is.area area)
 
-    -- and the record is set in the part as it is in the area.
+    -- and the record is set in the part as it is in the area, which waits for no split of it.
     pub is-set : (areas : List ℕ) (ends : List (List ℕ)) (split : Option AreaSplit)
-        (met mid after : List Met) (put : Option ℕ) (block : Block)
+        (move : Option MoveNow) (met mid after : List Met) (put : Option ℕ) (block : Block)
         → area_for part old.cur place ≡ Some area
         → Knows (KeyedShape part) (known_by (record { part = part; areas = areas; ends = ends })
-        split met) old
+        split move met) old
+        → move_stage move area ≡ None
         → All (IsChainMet part old.cur) mid → after ≡ map (again put block) mid
         → All (InArea (area_of part area)) (put_of put)
         → ((one : Met) → IsMet (area_of part area) old.cur one
         → IsMet (area_of part area) new.cur (again put block one))
         → IsSetNow (area_of part area) (split_in split area) (put_of put) place bytes old new
-        → IsSetIn part (known_by (record { part = part; areas = areas; ends = ends }) split after)
-        (put_of put) place bytes old new
-    is-set areas ends split met mid after put block found knows were same within stays done =
-        record {
+        → IsSetIn part (known_by (record { part = part; areas = areas; ends = ends }) split move
+        after) (put_of put) place bytes old new
+    is-set areas ends split move met mid after put block found knows waits were same within stays
+        done = record {
           set = lift-sets part area old.cur new.cur set-changes quiet-stands place bytes found
               done.set;
           due = lift-due-at part quiet.0 area old new quiet.1 left inside set-puts set-changes place
@@ -242,8 +251,14 @@ module _ (part : KeyedChain) (area : ℕ) (old new : Seen) (quiet : IsQuiet (Key
           rests = λ owners still.
               lift-rest part owners area old new still left inside set-puts done.rests;
           knows = record {
-            way = lift-under part quiet.0 area old new quiet.1 left set-puts set-changes split
-                knows.way done.way;
+            way = (
+              lift-under part quiet.0 area old new quiet.1 left set-puts set-changes split
+                  knows.way.0 done.way,
+              lift-move part quiet.0 area old new quiet.1 left set-puts set-changes move inside
+                  waits knows.way.1,
+              knows.way.2,
+              knows.way.3,
+            );
             blocks = (
               same-known part area old.cur new.cur set-changes areas ends knows.blocks.0,
               subst (All (IsChainMet part new.cur)) (sym same)

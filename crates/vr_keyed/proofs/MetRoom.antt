@@ -8,7 +8,7 @@ use Rattle.vr_space.specs.declared.room.Room as answer
 use Rattle.vr_space.specs.Room.{Lengths, Range, with_length, have_room}
 use Rattle.vr_space.specs.Keyed.{Keyed, HoldsRange, entry_block, lengths_of}
 use Rattle.vr_space.specs.Split.{SplitNow, area_room, stage_at, stage_in, fits_in, room_after}
-use Rattle.vr_space.specs.Split.{room_by, room_by_split, free_interval}
+use Rattle.vr_space.specs.Split.{can_grow, room_by, room_by_split, free_interval}
 use Rattle.vr_space.specs.Met.{Met, IsMet}
 use Rattle.vr_split.specs.Weights.{LengthsRoom}
 use Rattle.vr_keyed.specs.Lent.{ArePlaces, HasRoomFor}
@@ -26,36 +26,40 @@ module _ (part : Keyed) (image : Image) (met : Met) (is : IsMet part image met) 
       (holds-in part image met.place (met.range, is.entry) stands is.leads)
 
   -- the answer, by what was met: the split is that of the area, the stage that of the part
-  pub met-room : (split : Option SplitNow) (under : Option StageKind) (kept : Lengths) (n : ℕ)
-      → area_room part split under image kept met.place n
+  pub met-room : (split : Option SplitNow) (under : Option StageKind) (free : ℕ) (kept : Lengths)
+      (n : ℕ) → area_room part split under image free kept met.place n
       ≡ room_after (stage_at split is.entry)
       (room_by
       (have_room part.size
       (with_length (lengths_of part kept met.range met.block) met.place n))
-      (room_by_split under (free_interval part (block_at image part.head))))
-  met-room split under kept n =
+      (room_by_split under (free_interval part (block_at image part.head))
+      (can_grow free (block_at image part.head))))
+  met-room split under free kept n =
       let other : answer.Room = room_by_split under
-      (free_interval part (block_at image part.head)) in
+      (free_interval part (block_at image part.head))
+      (can_grow free (block_at image part.head)) in
       ap (λ (o : Option (Range × Entry)). room_after (stage_in split o)
       (room_by (fits_in part image kept met.place n o) other)) is.leads
       ∙ ap (λ (block : Block). room_after (stage_at split is.entry)
       (room_by (have_room part.size
       (with_length (lengths_of part kept met.range block) met.place n)) other)) has
 
-  pub answer-met : (split : Option SplitNow) (under : Option StageKind) (kept : Lengths) (n : ℕ)
-      (place : List ℕ) (stage : Option StageKind) (fits : Bool) → met.place ≡ place
+  pub answer-met : (split : Option SplitNow) (under : Option StageKind) (free : ℕ) (kept : Lengths)
+      (n : ℕ) (place : List ℕ) (stage : Option StageKind) (fits : Bool) → met.place ≡ place
       → stage ≡ stage_at split is.entry
       → fits ≡ have_room part.size
       (with_length (lengths_of part kept met.range met.block) place n)
-      → area_room part split under image kept place n
+      → area_room part split under image free kept place n
       ≡ room_after stage
       (room_by fits
-      (room_by_split under (free_interval part (block_at image part.head))))
-  answer-met split under kept n place stage fits same stages fit =
+      (room_by_split under (free_interval part (block_at image part.head))
+      (can_grow free (block_at image part.head))))
+  answer-met split under free kept n place stage fits same stages fit =
       let other : answer.Room = room_by_split under
-      (free_interval part (block_at image part.head)) in
-      ap (λ (p : List ℕ). area_room part split under image kept p n) (sym same)
-      ∙ met-room split under kept n
+      (free_interval part (block_at image part.head))
+      (can_grow free (block_at image part.head)) in
+      ap (λ (p : List ℕ). area_room part split under image free kept p n) (sym same)
+      ∙ met-room split under free kept n
       ∙ ap (λ (p : List ℕ). room_after (stage_at split is.entry)
       (room_by (have_room part.size
       (with_length (lengths_of part kept met.range met.block) p n)) other)) same

@@ -2,7 +2,7 @@
 use Rattle.std.proofs.Common.{◌≡◌, ◌≤◌, ◌+◌, ◌↔◌, ℕ, zero, suc, Bool, true, false, IsTrue}
 use Rattle.std.proofs.Common.{List, [], ◌∷◌, ◌++◌, length, take, drop, Option, Some, None, All, map}
 use Rattle.std.proofs.Common.{refl, sym, ap, subst, ◌∙◌, true≢false, get_or}
-use Rattle.std.specs.Prelude.{Contains, IfSome, option_and_then}
+use Rattle.std.specs.Prelude.{IfSome, option_and_then}
 use Rattle.std.specs.List.{slice_get}
 use Rattle.std.specs.Ordering.{is_le, is_lt, ordering_reverse}
 use Rattle.std.specs.declared.cmp.Ordering.{Ordering}
@@ -23,7 +23,6 @@ use Rattle.vr_space.specs.Keyed.{IsHead}
 use Rattle.vr_space.specs.Part.{HasNoNext, IsNextPlace, KeyedShape, Stands}
 use Rattle.vr_space.specs.Room.{Lengths}
 use Rattle.vr_space.specs.Rosters.{IsOf, after_next}
-use Rattle.vr_space.specs.Whence.{allows}
 use Rattle.vr_space.specs.declared.whence.Whence.{Whence}
 use Rattle.vr_space.specs.declared.whence.Whence.TheVariants.{Start}
 use Rattle.vr_space.proofs.CallerLemmas.{HasNoneHere, area-each, chain-next, chain-none}

@@ -11,6 +11,7 @@ use Rattle.vr_keyed.specs.Owned.{Owned}
 pub record IsAttachedTo (part : KeyedChain) (keyed : Owned) : Type 0 where
   pub part_is : keyed.part ≡ part
   pub split : keyed.split ≡ None
+  pub move : keyed.move ≡ None
   pub met : keyed.met ≡ []
   pub put : keyed.put ≡ []
 

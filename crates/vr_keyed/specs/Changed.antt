@@ -7,10 +7,12 @@ use Rattle.vr_types.specs.Regions.{Touches}
 use Rattle.vr_types.specs.Seen.{Seen}
 use Rattle.vr_space.specs.Areas.{ChainKeepsRoom, IsChainAtRest, KeyedChain}
 use Rattle.vr_space.specs.Known.{Known}
+use Rattle.vr_space.specs.Moves.{OwnsInto}
 use Rattle.vr_space.specs.Owners.{Owners}
 use Rattle.vr_space.specs.Part.{AddsTo, CanSet, DueMore, DueMoreAt, HasRoom, InPart, IsQuiet}
 use Rattle.vr_space.specs.Part.{IsRecordOf, Just, KeyedShape, Knows, Nothing, SameRecords, SetsOne}
 use Rattle.vr_space.specs.Room.{Lengths}
+use Rattle.vr_space.specs.Split.{MoveNow}
 
 -- At rest, with room for what is kept, and this may be set at the place.
 pub record IsReadyIn (part : KeyedChain) (known : Known) (kept : Lengths) (place : List ℕ)
@@ -41,18 +43,24 @@ pub record IsSetIn (part : KeyedChain) (known : Known) (put place : List ℕ)
   pub knows : Knows (KeyedShape part) known new
 
 -- A stage, whether it failed or not: nothing is added, each place has the record that it had, and
--- there is room for what is kept, in the image of each moment and from then on.
-pub record KeepsIn (part : KeyedChain) (kept : Lengths) (old new : Seen) : Type 0 where
-  pub adds : (owners : Owners) → IsChainAtRest part owners old
-      → AddsTo (KeyedShape part) owners Nothing old new
-  pub same : SameRecords (KeyedShape part) old.cur new.cur
-  pub room : ChainKeepsRoom part kept new
-  pub rooms : (owners : Owners) → IsChainAtRest part owners old
-      → Touches (InPart (KeyedShape part) owners) (HasRoom (KeyedShape part) kept) old new
+-- there is room for what is kept, in the image of each moment and from then on. What a split of an
+-- area claimed before it is the part's own.
+pub record KeepsIn (part : KeyedChain) (move : Option MoveNow) (kept : Lengths) (old new : Seen)
+    : Type 0
+  where
+    pub adds : (owners : Owners) → IsChainAtRest part owners old → OwnsInto part owners move
+        → AddsTo (KeyedShape part) owners Nothing old new
+    pub same : SameRecords (KeyedShape part) old.cur new.cur
+    pub room : ChainKeepsRoom part kept new
+    pub rooms : (owners : Owners) → IsChainAtRest part owners old → OwnsInto part owners move
+        → Touches (InPart (KeyedShape part) owners) (HasRoom (KeyedShape part) kept) old new
 
 -- It is done: the part is at rest, with the split that is under way then, and nothing more has to
 -- be forced than before.
-pub record IsDoneIn (part : KeyedChain) (known : Known) (old new : Seen) : Type 0 where
-  pub due : DueMore (KeyedShape part) [] old new
-  pub rests : (owners : Owners) → IsChainAtRest part owners old → IsChainAtRest part owners new
-  pub knows : Knows (KeyedShape part) known new
+pub record IsDoneIn (part : KeyedChain) (move : Option MoveNow) (known : Known) (old new : Seen)
+    : Type 0
+  where
+    pub due : DueMore (KeyedShape part) [] old new
+    pub rests : (owners : Owners) → IsChainAtRest part owners old → OwnsInto part owners move
+        → IsChainAtRest part owners new
+    pub knows : Knows (KeyedShape part) known new

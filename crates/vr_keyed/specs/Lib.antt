@@ -6,6 +6,7 @@ pub mod Look
 pub mod Next
 pub mod Splits
 pub mod Planned
+pub mod Begin
 pub mod Advance
 pub mod Owned
 pub mod Attached

@@ -1,20 +1,30 @@
 -- What is seen of a keyed part on blocks.
-use Rattle.std.specs.Prelude.{◌≡◌, ℕ, List, Option, None, Some, Contains}
+use Rattle.std.specs.Prelude.{◌≡◌, ◌++◌, ◌∷◌, [], ℕ, List, Option, None, Some, Contains}
 use Rattle.std.specs.Option.{option_map}
+use Rattle.vr_types.specs.declared.unit.StageKind.{StageKind}
+use Rattle.vr_types.specs.declared.unit.StageKind.TheVariants.{CaClaim}
 use Rattle.vr_space.specs.Areas.{KeyedChain, area_by, area_of}
 use Rattle.vr_space.specs.Keyed.{InArea}
-use Rattle.vr_space.specs.Split.{AreaSplit, SplitNow}
+use Rattle.vr_space.specs.Split.{AreaSplit, MoveNow, SplitNow}
 use Rattle.vr_space.specs.Met.{Met}
 use Rattle.vr_space.specs.Known.{Known}
 use Rattle.vr_attach.specs.Areas.{AreasNow}
 
+-- the splits of a part, of which at most one is under way: of an interval, or of an area
+pub record Splitting : Type 0 where
+  pub part : KeyedChain
+  pub split : Option AreaSplit
+  pub move : Option MoveNow
+
 -- Where it is, its areas in the order of their chain and where the ranges of each end, the split
--- that is under way, what it met last, and which blocks its last `set` put.
+-- of an interval or of an area that is under way, what it met last, and which blocks its last
+-- `set` put.
 pub record Owned : Type 0 where
   pub part : KeyedChain
   pub areas : List ℕ
   pub ends : List (List ℕ)
   pub split : Option AreaSplit
+  pub move : Option MoveNow
   pub met : List Met
   pub put : List ℕ
 
@@ -23,9 +33,10 @@ abbrev pub split_at : ℕ → Option SplitNow → Option AreaSplit
 split_at area split = option_map (λ (now : SplitNow). record { area = area; split = now }) split
 
 -- what it keeps in memory of its blocks
-abbrev pub known_by : AreasNow → Option AreaSplit → List Met → Known
-known_by chain split met = record {
+abbrev pub known_by : AreasNow → Option AreaSplit → Option MoveNow → List Met → Known
+known_by chain split move met = record {
   split = split;
+  move = move;
   met = met;
   areas = chain.areas;
   ends = chain.ends;
@@ -35,7 +46,11 @@ known_by chain split met = record {
 
 abbrev pub known_of : Owned → Known
 known_of keyed = known_by (record { part = keyed.part; areas = keyed.areas; ends = keyed.ends })
-    keyed.split keyed.met
+    keyed.split keyed.move keyed.met
+
+-- the same, with these splits
+abbrev pub known_in : AreasNow → Splitting → List Met → Known
+known_in chain splits met = known_by chain splits.split splits.move met
 
 -- what was met is a block of the area of its place, by the areas in memory
 pub record IsMine (chain : AreasNow) (met : Met) : Type 0 where
@@ -46,3 +61,16 @@ pub record IsMine (chain : AreasNow) (met : Met) : Type 0 where
 -- a block of one of the areas in memory
 abbrev pub InAreas : AreasNow → ℕ → Type 0
 InAreas chain n = (area : ℕ) × Contains chain.areas area × InArea (area_of chain.part area) n
+
+-- the stage of a split of an area that is next
+abbrev pub stage_of_move : Option MoveNow → Option StageKind
+stage_of_move move = option_map (λ (one : MoveNow). one.stage) move
+
+-- the areas that the part holds: those of its chain, and the one that a split claimed
+abbrev pub held_at : StageKind → List ℕ → ℕ → List ℕ
+held_at CaClaim areas into = areas
+held_at stage areas into = areas ++ into ∷ []
+
+abbrev pub held_now : List ℕ → Option MoveNow → List ℕ
+held_now areas None = areas
+held_now areas (Some move) = held_at move.stage areas move.into

@@ -20,7 +20,8 @@ IsSplit None None = Unit {0}
 IsSplit (Some now) (Some split) = IsOfSplit now split
 IsSplit now split = ⊥
 
--- what stands in the way of such a record in an area, in which the split of its part is
+-- what stands in the way of such a record in an area, in which the split of its part is, with no
+-- area free
 abbrev pub room_here : Keyed → Option SplitNow → Image → Lengths → List ℕ → ℕ → answer.Room
 room_here part split image kept place n =
-    area_room part split (stage_now split) image kept place n
+    area_room part split (stage_now split) image 0 kept place n

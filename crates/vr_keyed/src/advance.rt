@@ -198,6 +198,7 @@ pub(crate) fn begin_at<B: Blocks, K: Kept>(
         (AreaUnderWay layout.now split.new.split (B.seen blocks.new)) }
     ensures split { OnErr result (split.new.split ≡ None) }
     ensures later { IsLater split.new.split }
+    ensures begun { IsTrue B.tells → OnOk result (IsSome split.new.split) }
     ensures part { split.new.part ≡ layout.now }
     ensures slots { AreSlotsOf layout.now slots.new }
     ensures leaves { (mets slots.new ≡ [])

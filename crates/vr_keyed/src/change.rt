@@ -1,65 +1,56 @@
 //! Changes in a part: room, the stages of splits, and setting, each by what it is in the area of
 //! the place.
-ghost use Rattle.std.specs.Prelude.{◌≡◌, ◌<◌, ◌≤◌, All, IfErr, IfOk, IsTrue, None, OnErr, OnOk};
-ghost use Rattle.std.specs.Prelude.{Option, length};
+ghost use Rattle.std.specs.Prelude.{◌≡◌, ◌≢◌, ◌⊎◌, ◌<◌, ◌≤◌, ℕ, [], All, Contains, false, IfErr};
+ghost use Rattle.std.specs.Prelude.{IfOk, IfSome, IsSome, IsTrue, None, OnErr, OnOk, Some};
+ghost use Rattle.std.specs.Prelude.{length};
 ghost use Rattle.vr_types.specs.Blocks.{Keeps};
 ghost use Rattle.vr_types.specs.Faults.{HasCause};
 ghost use Rattle.vr_types.specs.Geometry.{area_count};
+ghost use Rattle.vr_types.specs.Space.{free_count, least_free};
 ghost use Rattle.vr_types.specs.declared.fault.DeviceFault.TheVariants.{Read, Write};
+ghost use Rattle.vr_types.specs.declared.unit.StageKind.TheVariants as stages;
 ghost use Rattle.vr_space.specs.declared.room.Room.TheVariants as answers;
-ghost use Rattle.vr_space.specs.Areas.{ChainKeepsRoom, IsChainOn, area_of};
+ghost use Rattle.vr_space.specs.Areas.{ChainKeepsRoom, IsChainOn, KnowsAreas, area_of};
+ghost use Rattle.vr_space.specs.Known.{held_with};
 ghost use Rattle.vr_space.specs.Met.{met_next};
-ghost use Rattle.vr_space.specs.Part.{AreMet, IsQuiet, IsStageDue, KeyedShape, Knows, Stands};
+ghost use Rattle.vr_space.specs.Moves.{IsAreaStage, IsPastClaim, MoveUnderWay};
+ghost use Rattle.vr_space.specs.Part.{AreMet, IsQuiet, IsStageDue, KeepsChain, KeyedShape, Knows};
+ghost use Rattle.vr_space.specs.Part.{OwnersAfter, Stands};
 ghost use Rattle.vr_space.specs.Part.{given, part_no};
 ghost use Rattle.vr_space.specs.Room.{Lengths};
-ghost use Rattle.vr_space.specs.Split.{AreaSplit, IsIntervalStage, keyed_room, split_in};
+ghost use Rattle.vr_space.specs.Split.{keyed_room};
+ghost use Rattle.vr_casplit.specs.Splits.{after_move};
 ghost use Rattle.vr_attach.specs.Areas.{AreWhole};
-ghost use Rattle.vr_keyed.specs.Advance.{IsLater};
+ghost use Rattle.vr_keyed.specs.Advance.{IsLeastAside};
 ghost use Rattle.vr_keyed.specs.Changed.{IsDoneIn, IsReadyIn, IsSetIn, KeepsIn, MaySetIn};
 ghost use Rattle.vr_keyed.specs.Lent.{ArePlaces, HasRoomFor};
-ghost use Rattle.vr_keyed.specs.Owned.{InAreas, IsMine, known_by, split_at};
+ghost use Rattle.vr_keyed.specs.Owned.{InAreas, IsMine, Splitting, held_now, known_by, known_in};
+ghost use Rattle.vr_keyed.specs.Owned.{stage_of_move};
 ghost use Rattle.vr_keyed.specs.Ready.{put_of};
 ghost use Rattle.vr_keyed.specs.Slots.{AreSlotsOf, HasMetPlace, met_places, mets};
-ghost use Rattle.vr_keyed.specs.Splits.{IsSplit};
 
 use crate::advance::{begin_at, go_on};
+use crate::begin::{Beginning, find_beginning};
 use crate::chain::area_for;
-use crate::room::{UnderWay, room_at};
+use crate::meet::meet;
+use crate::room::room_at;
 use crate::set::set;
 use crate::slots::Slots;
+use crate::splits::Splits;
 use vr_attach::Areas;
+use vr_casplit::CaSplit;
 use vr_space::{Kept, Room};
-use vr_split::{CiSplit, Weights};
-use vr_types::{Blocks, DeviceFault, Place, StageKind};
+use vr_split::Weights;
+use vr_types::{Blocks, DeviceFault, Place, Space, StageKind};
 
-/// The split that is under way.
-fn under_way(split: &CiSplit) -> Option<UnderWay>
-    ensures { IsSplit split.now.split result }
-{
-    let stage = split.next_stage()?;
-    let (old, into) = split.intervals();
-    Some(UnderWay { old, into, stage })
-}
-
-/// The same where it is in this area.
-fn under_way_in(split: &CiSplit, splitting: u32, area: u32) -> Option<UnderWay>
-    ensures { IsSplit (split_in (split_at splitting split.now.split) area) result }
-{
-    if splitting == area {
-        under_way(split)
-    } else {
-        None
-    }
-}
-
-/// What stands in the way of a record of this length at a place. The split of the part, if one is
-/// under way, is in the area `splitting`.
+/// What stands in the way of a record of this length at a place, with this many areas free on the
+/// volume. All places of an area wait for its split.
 pub(crate) fn room_over<B: Blocks, K: Kept>(
     areas: &Areas,
-    split: &CiSplit,
-    splitting: u32,
+    splits: &Splits,
     slots: &mut Slots,
     blocks: &mut B,
+    free: u32,
     kept: &K,
     place: &Place,
     longest: u32,
@@ -67,24 +58,23 @@ pub(crate) fn room_over<B: Blocks, K: Kept>(
 ) -> Result<Room, DeviceFault>
     requires on { IsChainOn areas.now.part (B.seen blocks.old) }
     requires whole { AreWhole areas.now }
+    requires part { splits.now.part ≡ areas.now.part }
     requires place { length place.now ≡ areas.now.part.key }
     requires stands { IsTrue B.tells → Stands (KeyedShape areas.now.part) (B.seen blocks.old).cur }
     requires knows { IsTrue B.tells → Knows (KeyedShape areas.now.part)
-        (known_by areas.now (split_at splitting split.now.split) (mets slots.old))
-        (B.seen blocks.old) }
+        (known_in areas.now splits.now (mets slots.old)) (B.seen blocks.old) }
     requires slots { AreSlotsOf (area_of areas.now.part areas.now.part.first) slots.old }
     requires mine { All (IsMine areas.now) (mets slots.old) }
     requires weights { HasRoomFor (area_of areas.now.part areas.now.part.first) weights.old }
     requires kept { IsTrue B.tells → ArePlaces areas.now.part.key
         (K.kept kept.now (part_no (KeyedShape areas.now.part))) }
     ensures answer { IsTrue B.tells → IfOk result (λ room. room
-        ≡ keyed_room areas.now.part (split_at splitting split.now.split) (B.seen blocks.old).cur
+        ≡ keyed_room areas.now.part splits.now.split splits.now.move (B.seen blocks.old).cur free
         (K.kept kept.now (part_no (KeyedShape areas.now.part))) place.now longest) }
     ensures slots { AreSlotsOf (area_of areas.now.part areas.now.part.first) slots.new }
     ensures mine { All (IsMine areas.now) (mets slots.new) }
     ensures knows { IsTrue B.tells → Knows (KeyedShape areas.now.part)
-        (known_by areas.now (split_at splitting split.now.split) (mets slots.new))
-        (B.seen blocks.new) }
+        (known_in areas.now splits.now (mets slots.new)) (B.seen blocks.new) }
     ensures places { OnOk result
         (met_places (mets slots.new) ≡ met_next (met_places (mets slots.old)) place.now) }
     ensures weights { HasRoomFor (area_of areas.now.part areas.now.part.first) weights.new }
@@ -92,10 +82,16 @@ pub(crate) fn room_over<B: Blocks, K: Kept>(
     ensures cause { HasCause (B.faults blocks.old) (B.faults blocks.new) result }
 {
     let area = areas.area_of(place.as_slice());
+    let layout = areas.layout().area(area);
+    if let Some(stage) = splits.stage_of(area) {
+        meet(slots, &layout, blocks, place.as_slice())?;
+        return Ok(Room::Stage(stage));
+    }
     room_at(
-        &areas.layout().area(area),
-        under_way_in(split, splitting, area),
-        split.next_stage(),
+        &layout,
+        splits.under_way_in(area),
+        splits.stage(),
+        free,
         slots,
         blocks,
         kept,
@@ -123,18 +119,18 @@ pub(crate) fn set_over<B: Blocks>(
     requires slots { AreSlotsOf (area_of areas.now.part areas.now.part.first) slots.old }
     requires mine { All (IsMine areas.now) (mets slots.old) }
     requires met { IsTrue B.tells → AreMet (KeyedShape areas.now.part)
-        (known_by areas.now None (mets slots.old)) (B.seen blocks.old).cur }
+        (known_by areas.now None None (mets slots.old)) (B.seen blocks.old).cur }
     ensures slots { AreSlotsOf (area_of areas.now.part areas.now.part.first) slots.new }
     ensures mine { All (IsMine areas.now) (mets slots.new) }
-    ensures may { IsTrue B.tells → (kept : Lengths) (split : Option AreaSplit)
-        → IsReadyIn areas.now.part (known_by areas.now split (mets slots.old)) kept place.now
+    ensures may { IsTrue B.tells → (kept : Lengths) (splits : Splitting)
+        → IsReadyIn areas.now.part (known_in areas.now splits (mets slots.old)) kept place.now
         (given bytes.entry) (B.seen blocks.old)
         → MaySetIn areas.now.part kept place.now (given bytes.entry)
         (B.seen blocks.old) (B.seen blocks.new) }
-    ensures done { IsTrue B.tells → IfOk result (λ put. (kept : Lengths) (split : Option AreaSplit)
-        → IsReadyIn areas.now.part (known_by areas.now split (mets slots.old)) kept place.now
+    ensures done { IsTrue B.tells → IfOk result (λ put. (kept : Lengths) (splits : Splitting)
+        → IsReadyIn areas.now.part (known_in areas.now splits (mets slots.old)) kept place.now
         (given bytes.entry) (B.seen blocks.old)
-        → IsSetIn areas.now.part (known_by areas.now split (mets slots.new)) (put_of put) place.now
+        → IsSetIn areas.now.part (known_in areas.now splits (mets slots.new)) (put_of put) place.now
         (given bytes.entry) (B.seen blocks.old) (B.seen blocks.new)) }
     ensures put { IfOk result (λ put. All (InAreas areas.now) (put_of put)) }
     ensures below { IfOk result (λ put. All (λ n. n < (B.seen blocks.new).count) (put_of put)) }
@@ -146,7 +142,7 @@ pub(crate) fn set_over<B: Blocks>(
     ensures unread { IfErr result (λ fault. fault ≡ Read
         → Keeps B.tells (B.seen blocks.old) (B.seen blocks.new)
         × (IsTrue B.tells → AreMet (KeyedShape areas.now.part)
-        (known_by areas.now None (mets slots.new)) (B.seen blocks.new).cur)) }
+        (known_by areas.now None None (mets slots.new)) (B.seen blocks.new).cur)) }
     ensures count { (B.seen blocks.new).count ≡ (B.seen blocks.old).count }
     ensures size { (B.seen blocks.new).size ≡ (B.seen blocks.old).size }
     ensures cause { HasCause (B.faults blocks.old) (B.faults blocks.new) result }
@@ -155,74 +151,252 @@ pub(crate) fn set_over<B: Blocks>(
     set(slots, &layout, blocks, out, place, bytes)
 }
 
-/// Does the stage that comes before a record which lacks room at a place, and answers it: the next
-/// of the split under way, wherever it is, or the first of a new one in the area of the place. What
-/// was met is forgotten once it is done.
-pub(crate) fn advance_over<B: Blocks, K: Kept>(
-    areas: &Areas,
-    split: &mut CiSplit,
-    splitting: &mut u32,
+/// Whether the part can have the least free area of the volume: always, where the owners of areas
+/// go with the blocks.
+fn takes_least(areas: &Areas, space: &Space) -> bool
+    ensures there { IsTrue result → (area : ℕ) → least_free space.now ≡ Some area
+        → area < area_count areas.now.part.geometry }
+    ensures free { IsTrue result → IsSome (least_free space.now) }
+    ensures apart { IsTrue result → (area : ℕ) → least_free space.now ≡ Some area
+        → Contains areas.now.areas area → ⊥ }
+    ensures has { result ≡ false → (area : ℕ) → least_free space.now ≡ Some area
+        → area < area_count areas.now.part.geometry
+        → length areas.now.areas < area_count areas.now.part.geometry
+        → Contains areas.now.areas area }
+{
+    match space.least_free() {
+        Some(area) => areas.takes(area.0),
+        None => false,
+    }
+}
+
+/// Does the next stage of the split of an area that is under way, and forgets what was met. After
+/// the last one the chain has the area that was claimed, and no split is under way.
+fn move_on<B: Blocks>(
+    areas: &mut Areas,
+    whole: &mut CaSplit,
     slots: &mut Slots,
     blocks: &mut B,
+    space: &mut Space,
+) -> Result<StageKind, DeviceFault>
+    requires on { IsChainOn areas.old.part (B.seen blocks.old) }
+    requires whole { AreWhole areas.old }
+    requires part { whole.old.part ≡ areas.old.part }
+    requires under_way { IsSome whole.old.move }
+    requires stage { IfSome whole.old.move (λ move. IsAreaStage move.stage) }
+    requires free { IfSome whole.old.move (λ move. move.stage ≡ stages.CaClaim
+        → IsSome (least_free space.old)) }
+    requires there { IfSome whole.old.move (λ move. (area : ℕ) → move.stage ≡ stages.CaClaim
+        → least_free space.old ≡ Some area → area < area_count areas.old.part.geometry) }
+    requires aside { IfSome whole.old.move (λ move. (area : ℕ) → move.stage ≡ stages.CaClaim
+        → least_free space.old ≡ Some area → Contains areas.old.areas area → ⊥) }
+    requires rests { IsTrue B.tells → IsQuiet (KeyedShape areas.old.part) (B.seen blocks.old) }
+    requires way { IsTrue B.tells
+        → MoveUnderWay areas.old.part whole.old.move (B.seen blocks.old) }
+    requires knows { IsTrue B.tells → KnowsAreas areas.old.part areas.old.areas areas.old.ends
+        (B.seen blocks.old).cur }
+    ensures stage { IfOk result (λ kind. stage_of_move whole.old.move ≡ Some kind) }
+    ensures owners { IfOk result (λ kind.
+        OwnersAfter (part_no (KeyedShape areas.old.part)) kind space.old space.new) }
+    ensures owners_stay { OnErr result (space.new ≡ space.old) }
+    ensures chain { OnOk result (KeepsChain (KeyedShape areas.old.part)
+        (held_now areas.old.areas whole.old.move) (held_now areas.new.areas whole.new.move)
+        space.old space.new) }
+    ensures claims { IfErr result (λ _. stage_of_move whole.old.move ≢ Some stages.CaClaim) }
+    ensures failed { OnErr result (whole.new.move ≡ whole.old.move) }
+    ensures areas { OnErr result (areas.new ≡ areas.old) }
+    ensures past { OnOk result (IsPastClaim whole.new.move) }
+    ensures next { IsTrue B.tells → (kept : Lengths)
+        → ChainKeepsRoom areas.old.part kept (B.seen blocks.old)
+        → OnOk result (IfSome whole.old.move (λ move. (claimed : ℕ)
+        × (whole.new.move ≡ after_move move claimed))) }
+    ensures whole { AreWhole areas.new }
+    ensures part { areas.new.part ≡ areas.old.part }
+    ensures whole_part { whole.new.part ≡ areas.old.part }
+    // At every moment, whether it fails or not.
+    ensures keeps { IsTrue B.tells → (kept : Lengths)
+        → ChainKeepsRoom areas.old.part kept (B.seen blocks.old)
+        → KeepsIn areas.old.part whole.old.move kept (B.seen blocks.old) (B.seen blocks.new) }
+    ensures done { IsTrue B.tells → (kept : Lengths)
+        → ChainKeepsRoom areas.old.part kept (B.seen blocks.old)
+        → OnOk result (IsDoneIn areas.old.part whole.old.move
+        (known_by areas.new None whole.new.move []) (B.seen blocks.old) (B.seen blocks.new)) }
+    ensures slots { AreSlotsOf (area_of areas.old.part areas.old.part.first) slots.old
+        → AreSlotsOf (area_of areas.old.part areas.old.part.first) slots.new }
+    ensures none { mets slots.new ≡ [] }
+    ensures unread { IfErr result (λ fault. fault ≡ Read
+        → Keeps B.tells (B.seen blocks.old) (B.seen blocks.new)) }
+    ensures count { (B.seen blocks.new).count ≡ (B.seen blocks.old).count }
+    ensures size { (B.seen blocks.new).size ≡ (B.seen blocks.old).size }
+    ensures cause { HasCause (B.faults blocks.old) (B.faults blocks.new) result }
+{
+    slots.filled = 0;
+    let (area, into) = whole.areas();
+    let stage = whole.step(blocks, space)?;
+    if stage == StageKind::CaSwitch && areas.insert(area, into, whole.cut()) {
+        whole.finish();
+    }
+    Ok(stage)
+}
+
+/// Begins a split for a record that lacks room at a place, of the interval of the place or of its
+/// area, does its first stage, and answers it. What was met is forgotten then.
+fn begin_over<B: Blocks, K: Kept>(
+    areas: &mut Areas,
+    splits: &mut Splits,
+    slots: &mut Slots,
+    blocks: &mut B,
+    space: &mut Space,
     kept: &K,
     place: &Place,
     longest: u32,
     weights: &mut Weights,
 ) -> Result<StageKind, DeviceFault>
-    requires on { IsChainOn areas.now.part (B.seen blocks.old) }
-    requires whole { AreWhole areas.now }
-    requires place { length place.now ≡ areas.now.part.key }
-    requires longest { longest ≤ areas.now.part.most }
-    requires part { split.old.part ≡ area_of areas.now.part splitting.old }
-    requires there { splitting.old < area_count areas.now.part.geometry }
-    requires later { IsLater split.old.split }
-    requires rests { IsTrue B.tells → IsQuiet (KeyedShape areas.now.part) (B.seen blocks.old) }
-    requires room { IsTrue B.tells → ChainKeepsRoom areas.now.part
-        (K.kept kept.now (part_no (KeyedShape areas.now.part))) (B.seen blocks.old) }
-    requires knows { IsTrue B.tells → Knows (KeyedShape areas.now.part)
-        (known_by areas.now (split_at splitting.old split.old.split) (mets slots.old))
-        (B.seen blocks.old) }
-    requires due { IsTrue B.tells → IsStageDue (KeyedShape areas.now.part)
-        (known_by areas.now (split_at splitting.old split.old.split) (mets slots.old))
-        (B.seen blocks.old).cur 0 (K.kept kept.now (part_no (KeyedShape areas.now.part))) place.now
+    requires on { IsChainOn areas.old.part (B.seen blocks.old) }
+    requires whole { AreWhole areas.old }
+    requires part { splits.old.part ≡ areas.old.part }
+    requires none { splits.old.split ≡ None }
+    requires still { splits.old.move ≡ None }
+    requires place { length place.now ≡ areas.old.part.key }
+    requires longest { longest ≤ areas.old.part.most }
+    requires rests { IsTrue B.tells → IsQuiet (KeyedShape areas.old.part) (B.seen blocks.old) }
+    requires room { IsTrue B.tells → ChainKeepsRoom areas.old.part
+        (K.kept kept.now (part_no (KeyedShape areas.old.part))) (B.seen blocks.old) }
+    requires knows { IsTrue B.tells → Knows (KeyedShape areas.old.part)
+        (known_in areas.old splits.old (mets slots.old)) (B.seen blocks.old) }
+    requires due { IsTrue B.tells → IsStageDue (KeyedShape areas.old.part)
+        (known_in areas.old splits.old (mets slots.old)) (B.seen blocks.old).cur
+        (free_count space.old) (K.kept kept.now (part_no (KeyedShape areas.old.part))) place.now
         longest }
-    requires slots { AreSlotsOf (area_of areas.now.part areas.now.part.first) slots.old }
-    requires mine { All (IsMine areas.now) (mets slots.old) }
-    requires weights { HasRoomFor (area_of areas.now.part areas.now.part.first) weights.old }
+    requires slots { AreSlotsOf (area_of areas.old.part areas.old.part.first) slots.old }
+    requires mine { All (IsMine areas.old) (mets slots.old) }
+    requires weights { HasRoomFor (area_of areas.old.part areas.old.part.first) weights.old }
     ensures stage { IsTrue B.tells → IfOk result (λ kind. answers.Stage kind
-        ≡ keyed_room areas.now.part (split_at splitting.old split.old.split) (B.seen blocks.old).cur
-        (K.kept kept.now (part_no (KeyedShape areas.now.part))) place.now longest) }
-    ensures kind { IfOk result IsIntervalStage }
-    ensures keeps { IsTrue B.tells → KeepsIn areas.now.part
-        (K.kept kept.now (part_no (KeyedShape areas.now.part)))
+        ≡ keyed_room areas.old.part splits.old.split splits.old.move (B.seen blocks.old).cur
+        (free_count space.old) (K.kept kept.now (part_no (KeyedShape areas.old.part))) place.now
+        longest) }
+    ensures owners { IfOk result (λ kind.
+        OwnersAfter (part_no (KeyedShape areas.old.part)) kind space.old space.new) }
+    ensures owners_stay { OnErr result (space.new ≡ space.old) }
+    ensures chain { OnOk result (KeepsChain (KeyedShape areas.old.part)
+        (held_with areas.old.areas splits.old.move) (held_with areas.new.areas splits.new.move)
+        space.old space.new) }
+    ensures keeps { IsTrue B.tells → KeepsIn areas.old.part splits.old.move
+        (K.kept kept.now (part_no (KeyedShape areas.old.part)))
         (B.seen blocks.old) (B.seen blocks.new) }
-    ensures done { IsTrue B.tells → OnOk result (IsDoneIn areas.now.part
-        (known_by areas.now (split_at splitting.new split.new.split) (mets slots.new))
-        (B.seen blocks.old) (B.seen blocks.new)) }
-    ensures split { OnErr result (split_at splitting.new split.new.split
-        ≡ split_at splitting.old split.old.split) }
-    ensures later { IsLater split.new.split }
-    ensures part { split.new.part ≡ area_of areas.now.part splitting.new }
-    ensures there { splitting.new < area_count areas.now.part.geometry }
-    ensures slots { AreSlotsOf (area_of areas.now.part areas.now.part.first) slots.new }
-    ensures mine { All (IsMine areas.now) (mets slots.new) }
-    ensures weights { HasRoomFor (area_of areas.now.part areas.now.part.first) weights.new }
+    ensures done { IsTrue B.tells → OnOk result (IsDoneIn areas.old.part splits.old.move
+        (known_in areas.new splits.new (mets slots.new)) (B.seen blocks.old) (B.seen blocks.new)) }
+    // A split goes on, where the least free area is none of the chain.
+    ensures further { IsTrue B.tells → IsLeastAside areas.old space.old → OnOk result
+        ((splits.new.split ≢ splits.old.split) ⊎ (splits.new.move ≢ splits.old.move)) }
+    ensures splits { OnErr result (splits.new ≡ splits.old) }
+    ensures areas { OnErr result (areas.new ≡ areas.old) }
+    ensures whole { AreWhole areas.new }
+    ensures part { areas.new.part ≡ areas.old.part }
+    ensures splits_part { splits.new.part ≡ areas.old.part }
+    ensures slots { AreSlotsOf (area_of areas.old.part areas.old.part.first) slots.new }
+    ensures mine { All (IsMine areas.new) (mets slots.new) }
+    ensures weights { HasRoomFor (area_of areas.old.part areas.old.part.first) weights.new }
     // It reads before it puts.
     ensures unread { IfErr result (λ fault. fault ≡ Read
         → Keeps B.tells (B.seen blocks.old) (B.seen blocks.new)
-        × (IsTrue B.tells → Knows (KeyedShape areas.now.part)
-        (known_by areas.now (split_at splitting.new split.new.split) (mets slots.new))
-        (B.seen blocks.new))) }
+        × (IsTrue B.tells → Knows (KeyedShape areas.old.part)
+        (known_in areas.new splits.new (mets slots.new)) (B.seen blocks.new))) }
     ensures count { (B.seen blocks.new).count ≡ (B.seen blocks.old).count }
     ensures size { (B.seen blocks.new).size ≡ (B.seen blocks.old).size }
     ensures cause { HasCause (B.faults blocks.old) (B.faults blocks.new) result }
 {
-    if split.next_stage().is_some() {
-        return go_on(split, slots, blocks);
-    }
     let area = areas.area_of(place.as_slice());
     let layout = areas.layout().area(area);
-    split.move_to(&layout);
-    *splitting = area;
-    begin_at(&layout, split, slots, blocks, kept, place, longest, weights)
+    let begins = find_beginning(&layout, blocks, place.as_slice(), space.free())?;
+    if let Some(Beginning::Area { entries, stay }) = begins {
+        if !takes_least(areas, space) {
+            return Ok(StageKind::CaClaim);
+        }
+        splits.whole.begin(area, entries, stay);
+        return move_on(areas, &mut splits.whole, slots, blocks, space);
+    }
+    splits.interval.move_to(&layout);
+    splits.area = area;
+    let interval = &mut splits.interval;
+    begin_at(
+        &layout, interval, slots, blocks, kept, place, longest, weights,
+    )
+}
+
+/// Does the stage that comes before a record which lacks room at a place, and answers it: the next
+/// of the split under way, wherever it is, or the first of a new one, of the interval of the place
+/// or of its area. What was met is forgotten once blocks are put.
+pub(crate) fn advance_over<B: Blocks, K: Kept>(
+    areas: &mut Areas,
+    splits: &mut Splits,
+    slots: &mut Slots,
+    blocks: &mut B,
+    space: &mut Space,
+    kept: &K,
+    place: &Place,
+    longest: u32,
+    weights: &mut Weights,
+) -> Result<StageKind, DeviceFault>
+    requires on { IsChainOn areas.old.part (B.seen blocks.old) }
+    requires whole { AreWhole areas.old }
+    requires part { splits.old.part ≡ areas.old.part }
+    requires place { length place.now ≡ areas.old.part.key }
+    requires longest { longest ≤ areas.old.part.most }
+    requires rests { IsTrue B.tells → IsQuiet (KeyedShape areas.old.part) (B.seen blocks.old) }
+    requires room { IsTrue B.tells → ChainKeepsRoom areas.old.part
+        (K.kept kept.now (part_no (KeyedShape areas.old.part))) (B.seen blocks.old) }
+    requires knows { IsTrue B.tells → Knows (KeyedShape areas.old.part)
+        (known_in areas.old splits.old (mets slots.old)) (B.seen blocks.old) }
+    requires due { IsTrue B.tells → IsStageDue (KeyedShape areas.old.part)
+        (known_in areas.old splits.old (mets slots.old)) (B.seen blocks.old).cur
+        (free_count space.old) (K.kept kept.now (part_no (KeyedShape areas.old.part))) place.now
+        longest }
+    requires slots { AreSlotsOf (area_of areas.old.part areas.old.part.first) slots.old }
+    requires mine { All (IsMine areas.old) (mets slots.old) }
+    requires weights { HasRoomFor (area_of areas.old.part areas.old.part.first) weights.old }
+    ensures stage { IsTrue B.tells → IfOk result (λ kind. answers.Stage kind
+        ≡ keyed_room areas.old.part splits.old.split splits.old.move (B.seen blocks.old).cur
+        (free_count space.old) (K.kept kept.now (part_no (KeyedShape areas.old.part))) place.now
+        longest) }
+    ensures owners { IfOk result (λ kind.
+        OwnersAfter (part_no (KeyedShape areas.old.part)) kind space.old space.new) }
+    ensures owners_stay { OnErr result (space.new ≡ space.old) }
+    ensures chain { OnOk result (KeepsChain (KeyedShape areas.old.part)
+        (held_with areas.old.areas splits.old.move) (held_with areas.new.areas splits.new.move)
+        space.old space.new) }
+    ensures keeps { IsTrue B.tells → KeepsIn areas.old.part splits.old.move
+        (K.kept kept.now (part_no (KeyedShape areas.old.part)))
+        (B.seen blocks.old) (B.seen blocks.new) }
+    ensures done { IsTrue B.tells → OnOk result (IsDoneIn areas.old.part splits.old.move
+        (known_in areas.new splits.new (mets slots.new)) (B.seen blocks.old) (B.seen blocks.new)) }
+    // A split goes on, where the least free area is none of the chain.
+    ensures further { IsTrue B.tells → IsLeastAside areas.old space.old → OnOk result
+        ((splits.new.split ≢ splits.old.split) ⊎ (splits.new.move ≢ splits.old.move)) }
+    ensures splits { OnErr result (splits.new ≡ splits.old) }
+    ensures areas { OnErr result (areas.new ≡ areas.old) }
+    ensures whole { AreWhole areas.new }
+    ensures part { areas.new.part ≡ areas.old.part }
+    ensures splits_part { splits.new.part ≡ areas.old.part }
+    ensures slots { AreSlotsOf (area_of areas.old.part areas.old.part.first) slots.new }
+    ensures mine { All (IsMine areas.new) (mets slots.new) }
+    ensures weights { HasRoomFor (area_of areas.old.part areas.old.part.first) weights.new }
+    // It reads before it puts.
+    ensures unread { IfErr result (λ fault. fault ≡ Read
+        → Keeps B.tells (B.seen blocks.old) (B.seen blocks.new)
+        × (IsTrue B.tells → Knows (KeyedShape areas.old.part)
+        (known_in areas.new splits.new (mets slots.new)) (B.seen blocks.new))) }
+    ensures count { (B.seen blocks.new).count ≡ (B.seen blocks.old).count }
+    ensures size { (B.seen blocks.new).size ≡ (B.seen blocks.old).size }
+    ensures cause { HasCause (B.faults blocks.old) (B.faults blocks.new) result }
+{
+    if splits.interval.next_stage().is_some() {
+        return go_on(&mut splits.interval, slots, blocks);
+    }
+    if splits.whole.next_stage().is_some() {
+        return move_on(areas, &mut splits.whole, slots, blocks, space);
+    }
+    begin_over(
+        areas, splits, slots, blocks, space, kept, place, longest, weights,
+    )
 }

@@ -14,11 +14,12 @@ use crate::chain::{look_at, next_over, rooms_over};
 use crate::change::{advance_over, room_over, set_over};
 use crate::slot::{Slot, empty_slot};
 use crate::slots::Slots;
+use crate::splits::{Splits, no_splits};
 use std::alloc::Global;
 use std::marker::Model;
 use vr_attach::{Areas, no_areas};
 use vr_space::{Kept, KeyedLayout, Part, Room, Whence};
-use vr_split::{CiSplit, Weights, ci_split, empty_weights};
+use vr_split::{Weights, empty_weights};
 use vr_types::{Blocks, DeviceFault, OutOfMemory, PartNo, Place, PlaceBuffer, Space, StageKind};
 
 /// A key-sequenced part on blocks (DFSMS Using Data Sets, key-sequenced data sets): a chain of
@@ -27,9 +28,7 @@ use vr_types::{Blocks, DeviceFault, OutOfMemory, PartNo, Place, PlaceBuffer, Spa
 #[derive(Drop)]
 pub struct Keyed {
     areas: Areas,
-    split: CiSplit,
-    /// The area that the split under way is in, or the last one was.
-    splitting: u32,
+    splits: Splits,
     slots: Slots,
     spare: Slot,
     weights: Weights,
@@ -39,13 +38,11 @@ pub struct Keyed {
 
 impl Model for Keyed {
     ghost use Rattle.std.specs.Prelude.{◌≡◌, ◌<◌, ◌≤◌, ◌^◌, All, length, vec_len, vec_capacity};
-    ghost use Rattle.vr_types.specs.Geometry.{area_count};
     ghost use Rattle.vr_space.specs.Areas.{area_of};
     ghost use Rattle.vr_attach.specs.Areas.{AreWhole};
-    ghost use Rattle.vr_keyed.specs.Owned.{IsMine, Owned, split_at};
+    ghost use Rattle.vr_keyed.specs.Owned.{IsMine, Owned};
     ghost use Rattle.vr_keyed.specs.Slots.{AreSlotsOf, IsSlotOf, mets};
     ghost use Rattle.vr_keyed.specs.Lent.{HasRoomFor};
-    ghost use Rattle.vr_keyed.specs.Advance.{IsLater};
 
     ghost Value = { Owned };
 
@@ -53,15 +50,14 @@ impl Model for Keyed {
       part = keyed.areas.part;
       areas = keyed.areas.areas;
       ends = keyed.areas.ends;
-      split = split_at keyed.splitting keyed.split.split;
+      split = keyed.splits.split;
+      move = keyed.splits.move;
       met = mets keyed.slots;
       put = keyed.put.items;
     } };
 
     ghost invariant = { λ keyed. AreWhole keyed.areas
-        × (keyed.splitting < area_count keyed.areas.part.geometry)
-        × (keyed.split.part ≡ area_of keyed.areas.part keyed.splitting)
-        × IsLater keyed.split.split
+        × (keyed.splits.part ≡ keyed.areas.part)
         × AreSlotsOf (area_of keyed.areas.part keyed.areas.part.first) keyed.slots
         × All (IsMine keyed.areas) (mets keyed.slots)
         × IsSlotOf (area_of keyed.areas.part keyed.areas.part.first) keyed.spare
@@ -102,21 +98,20 @@ pub(crate) fn keyed_part(alloc: Global, areas: Areas, out: Vec<u8>) -> Result<Ke
       areas = areas.areas;
       ends = areas.ends;
       split = None;
+      move = None;
       met = [];
       put = [];
     }) }
 {
-    let splitting = areas.layout().first;
-    let area = areas.layout().area(splitting);
-    let split = ci_split(alloc, area.copy())?;
+    let splits = no_splits(alloc, areas.layout())?;
+    let area = areas.layout().area(areas.layout().first);
     let slots = Slots::empty(alloc, &area)?;
     let spare = empty_slot(alloc, &area)?;
     let weights = empty_weights(alloc, area.size / 3 + 1, area.key)?;
     let put = Vec::with_capacity(alloc, 1)?;
     Ok(Keyed {
         areas,
-        split,
-        splitting,
+        splits,
         slots,
         spare,
         weights,
@@ -133,6 +128,7 @@ pub fn new_part(alloc: Global, layout: KeyedLayout) -> Result<Keyed, OutOfMemory
       areas = layout.first ∷ [];
       ends = replicate layout.key 255 ∷ [];
       split = None;
+      move = None;
       met = [];
       put = [];
     }) }
@@ -233,17 +229,17 @@ impl Part for Keyed {
     fn room<B: Blocks, K: Kept>(
         &mut self,
         blocks: &mut B,
-        _space: &Space,
+        space: &Space,
         kept: &K,
         place: &Place,
         length: u32,
     ) -> Result<Room, DeviceFault> {
         room_over(
             &self.areas,
-            &self.split,
-            self.splitting,
+            &self.splits,
             &mut self.slots,
             blocks,
+            space.free(),
             kept,
             place,
             length,
@@ -254,17 +250,17 @@ impl Part for Keyed {
     fn advance<B: Blocks, K: Kept>(
         &mut self,
         blocks: &mut B,
-        _space: &mut Space,
+        space: &mut Space,
         kept: &K,
         place: &Place,
         length: u32,
     ) -> Result<StageKind, DeviceFault> {
         advance_over(
-            &self.areas,
-            &mut self.split,
-            &mut self.splitting,
+            &mut self.areas,
+            &mut self.splits,
             &mut self.slots,
             blocks,
+            space,
             kept,
             place,
             length,

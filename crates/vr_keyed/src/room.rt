@@ -8,7 +8,7 @@ ghost use Rattle.vr_types.specs.Faults.{HasCause};
 ghost use Rattle.vr_seqset.specs.Entry.{Entry};
 ghost use Rattle.vr_space.specs.AreaCalls.{area_part, IsAreaOn};
 ghost use Rattle.vr_space.specs.Keyed.{IsHead, entry_block};
-ghost use Rattle.vr_space.specs.Split.{SplitNow, area_room, free_from, free_interval};
+ghost use Rattle.vr_space.specs.Split.{SplitNow, area_room, can_grow, free_from, free_interval};
 ghost use Rattle.vr_space.specs.Split.{room_by_split};
 ghost use Rattle.vr_space.specs.Split.{stage_at};
 ghost use Rattle.vr_space.specs.Met.{IsMet};
@@ -19,6 +19,7 @@ ghost use Rattle.vr_space.specs.Lent.{range_lent};
 ghost use Rattle.vr_keyed.specs.Lent.{ArePlaces, HasRoomFor};
 ghost use Rattle.vr_keyed.specs.Splits.{IsSplit};
 
+use crate::begin::{Beginning, find_beginning};
 use crate::gather::fits;
 use crate::meet::meet;
 use crate::slot::Slot;
@@ -64,7 +65,7 @@ fn is_used(view: &SeqView<'_>, n: u16) -> bool
 }
 
 /// The least interval below the limit that no entry of a head has.
-fn free_in(view: &SeqView<'_>, limit: u16) -> Option<u16>
+pub(crate) fn free_in(view: &SeqView<'_>, limit: u16) -> Option<u16>
     ensures below { IfSome result (λ n. n < limit) }
     ensures free { let used = flat_map (λ (entry : Entry). entry.intervals) view.now.entries in
         All (λ (entry : Entry). length entry.intervals ≡ 1) view.now.entries
@@ -94,25 +95,6 @@ pub fn least_free(layout: &Layout, top: &[u8]) -> Option<u16>
     free_in(&view, limit as u16)
 }
 
-/// The least free interval, by the head that is read.
-pub(crate) fn find_free<B: Blocks>(
-    layout: &Layout,
-    blocks: &mut B,
-) -> Result<Option<u16>, DeviceFault>
-    requires on { IsAreaOn layout.now (B.seen blocks.old) }
-    requires head { IsTrue B.tells
-        → IsHead layout.now (block_at (B.seen blocks.old).cur layout.now.head) }
-    ensures free { IsTrue B.tells → IfOk result (λ free. MatchOption free
-        (free_interval layout.now (block_at (B.seen blocks.old).cur layout.now.head) ≡ None)
-        (λ n. free_interval layout.now (block_at (B.seen blocks.old).cur layout.now.head)
-        ≡ Some n)) }
-    ensures keeps { Keeps B.tells (B.seen blocks.old) (B.seen blocks.new) }
-    ensures cause { HasCause (B.faults blocks.old) (B.faults blocks.new) result }
-{
-    let top = blocks.get(layout.head)?;
-    Ok(least_free(layout, top))
-}
-
 /// The stage that is next for the interval of a block, where the split is one of it.
 fn stage_of(layout: &Layout, split: Option<UnderWay>, number: u32) -> Option<StageKind>
     ensures { (now : Option SplitNow) (entry : Entry) → IsSplit now split
@@ -126,26 +108,30 @@ fn stage_of(layout: &Layout, split: Option<UnderWay>, number: u32) -> Option<Sta
     None
 }
 
-/// What is answered where a record lacks room: the next stage of the part's split under way, else a
-/// new split, if an interval is free.
+/// What is answered where a record at a place lacks room: the next stage of the part's split under
+/// way, else a new split, of the interval or of the area, with this many areas free on the volume.
 fn room_beyond<B: Blocks>(
     layout: &Layout,
     stage: Option<StageKind>,
     blocks: &mut B,
+    place: &Place,
+    free: u32,
 ) -> Result<Room, DeviceFault>
     requires on { IsAreaOn layout.now (B.seen blocks.old) }
     requires head { IsTrue B.tells
         → IsHead layout.now (block_at (B.seen blocks.old).cur layout.now.head) }
     ensures answer { IsTrue B.tells → IfOk result (λ room. room ≡ room_by_split stage
-        (free_interval layout.now (block_at (B.seen blocks.old).cur layout.now.head))) }
+        (free_interval layout.now (block_at (B.seen blocks.old).cur layout.now.head))
+        (can_grow free (block_at (B.seen blocks.old).cur layout.now.head))) }
     ensures keeps { Keeps B.tells (B.seen blocks.old) (B.seen blocks.new) }
     ensures cause { HasCause (B.faults blocks.old) (B.faults blocks.new) result }
 {
     if let Some(stage) = stage {
         return Ok(Room::Stage(stage));
     }
-    match find_free(layout, blocks)? {
-        Some(_) => Ok(Room::Stage(StageKind::CiCopy)),
+    match find_beginning(layout, blocks, place.as_slice(), free)? {
+        Some(Beginning::Interval) => Ok(Room::Stage(StageKind::CiCopy)),
+        Some(Beginning::Area { .. }) => Ok(Room::Stage(StageKind::CaClaim)),
         None => Ok(Room::NoSpace { need: 1, free: 0 }),
     }
 }
@@ -166,11 +152,12 @@ pub(crate) fn range_of(slot: &Slot) -> LentRange<'_>
 }
 
 /// What stands in the way of a record of this length at a place whose interval was met: a split of
-/// the area, or the stage of the part's split, wherever it is.
+/// the area, or the stage of the part's split, wherever it is. So many areas are free on the volume.
 pub(crate) fn room_met<B: Blocks, K: Kept>(
     layout: &Layout,
     split: Option<UnderWay>,
     under_way: Option<StageKind>,
+    free: u32,
     slot: &Slot,
     blocks: &mut B,
     kept: &K,
@@ -188,7 +175,7 @@ pub(crate) fn room_met<B: Blocks, K: Kept>(
     requires kept { IsTrue B.tells
         → ArePlaces layout.now.key (K.kept kept.now (area_part layout.now)) }
     ensures answer { IsTrue B.tells → IfOk result (λ room. (now : Option SplitNow)
-        → IsSplit now split → room ≡ area_room layout.now now under_way (B.seen blocks.old).cur
+        → IsSplit now split → room ≡ area_room layout.now now under_way (B.seen blocks.old).cur free
         (K.kept kept.now (area_part layout.now)) place.now longest) }
     ensures room { HasRoomFor layout.now weights.new }
     ensures keeps { Keeps B.tells (B.seen blocks.old) (B.seen blocks.new) }
@@ -209,7 +196,7 @@ pub(crate) fn room_met<B: Blocks, K: Kept>(
     ) {
         return Ok(Room::Ready);
     }
-    room_beyond(layout, under_way, blocks)
+    room_beyond(layout, under_way, blocks, place, free)
 }
 
 /// What stands in the way of a record of this length at a place. It meets the interval of the
@@ -218,6 +205,7 @@ pub(crate) fn room_at<B: Blocks, K: Kept>(
     layout: &Layout,
     split: Option<UnderWay>,
     under_way: Option<StageKind>,
+    free: u32,
     slots: &mut Slots,
     blocks: &mut B,
     kept: &K,
@@ -237,7 +225,7 @@ pub(crate) fn room_at<B: Blocks, K: Kept>(
     requires kept { IsTrue B.tells
         → ArePlaces layout.now.key (K.kept kept.now (area_part layout.now)) }
     ensures answer { IsTrue B.tells → IfOk result (λ room. (now : Option SplitNow)
-        → IsSplit now split → room ≡ area_room layout.now now under_way (B.seen blocks.old).cur
+        → IsSplit now split → room ≡ area_room layout.now now under_way (B.seen blocks.old).cur free
         (K.kept kept.now (area_part layout.now)) place.now longest) }
     ensures slots { AreSlotsOf layout.now slots.new }
     ensures meets { OnOk result (MeetsAt layout.now B.tells (B.seen blocks.old).cur place.now
@@ -253,6 +241,7 @@ pub(crate) fn room_at<B: Blocks, K: Kept>(
         layout,
         split,
         under_way,
+        free,
         &slots.first,
         blocks,
         kept,

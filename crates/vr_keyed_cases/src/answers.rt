@@ -92,6 +92,10 @@ fn say_kind(out: &mut String, stage: StageKind) -> Answer {
             StageKind::CiCopy => "CiCopy",
             StageKind::CiSwitch => "CiSwitch",
             StageKind::CiClean => "CiClean",
+            StageKind::CaClaim => "CaClaim",
+            StageKind::CaCopy => "CaCopy",
+            StageKind::CaLink => "CaLink",
+            StageKind::CaSwitch => "CaSwitch",
             _ => "another stage",
         },
     )

@@ -1,14 +1,12 @@
 //! Calls of the part that lines speak of. Each answer ends with the calls of the device.
-ghost use Rattle.std.specs.Prelude.{◌≡◌, ◌≤◌, length, IfOk};
-ghost use Rattle.vr_space.specs.Part.{IsRecordOf};
-ghost use Rattle.vr_keyed_cases.specs.TheLayout.{the_shape};
+ghost use Rattle.std.specs.Prelude.{◌≡◌, ◌<◌, ◌≤◌, length, IfOk};
 
 use crate::answers::{Answer, Stop, say, say_fault, say_number, say_room, say_stage};
 use crate::held::{Held, Stand};
 use crate::record::{key, record};
 use crate::words::{number, parted};
 use std::alloc::Global;
-use vr_space::{Room, Whence};
+use vr_space::{Part, Room, Whence};
 use vr_types::{DeviceFault, Place, PlaceBuffer, empty_place};
 
 /// The place of a number.
@@ -57,17 +55,25 @@ fn numbered_call(
     }
 }
 
-/// Sets a record of each key from one to another: `fill KEY KEY LENGTH`.
+/// Sets a record of each key from one to another, or of one of so many: `fill KEY KEY LENGTH` or
+/// `fill KEY KEY LENGTH STEP`.
 pub fn fill(alloc: Global, held: &mut Held, rest: &str, out: &mut String) -> Answer {
     let (first, rest) = parted(rest);
-    let (last, size) = parted(rest);
-    fill_each(alloc, held, number(first)?, number(last)?, number(size)?)?;
+    let (last, rest) = parted(rest);
+    let (size, step) = parted(rest);
+    let step = if step.is_empty() { 1 } else { number(step)? };
+    let (first, last) = (number(first)?, number(last)?);
+    fill_each(alloc, held, first, last, step.max(1), number(size)?)?;
     say(out, "ok")
 }
 
-fn fill_each(alloc: Global, held: &mut Held, first: u32, last: u32, size: u32) -> Answer {
+fn fill_each(alloc: Global, held: &mut Held, first: u32, last: u32, step: u32, size: u32) -> Answer
+    requires { 0 < step }
+{
     for key in first..=last {
-        fill_one(alloc, held, key, size)?;
+        if key.saturating_sub(first) % step == 0 {
+            fill_one(alloc, held, key, size)?;
+        }
     }
     Ok(())
 }
@@ -98,32 +104,20 @@ fn set(
     out: &mut String,
 ) -> Answer
     requires place { length place.now ≡ 8 }
+    requires least { 8 ≤ size }
+    requires most { size ≤ 505 }
 {
     let bytes = record(alloc, place.as_slice(), size)?;
-    set_bytes(held, place, bytes.as_slice(), to_the_end, out)
-}
-
-fn set_bytes(
-    held: &mut Held,
-    place: &Place,
-    bytes: &[u8],
-    to_the_end: bool,
-    out: &mut String,
-) -> Answer
-    requires place { length place.now ≡ 8 }
-{
-    if !held.part.may_stand(place, Some(bytes)) {
-        return Err(Stop::Line);
-    }
-    steps(held, place, bytes, to_the_end, out)
+    steps(held, place, bytes.as_slice(), to_the_end, out)
 }
 
 /// Asks for room, and does what the answer says, until the record is set.
 fn steps(held: &mut Held, place: &Place, bytes: &[u8], to_the_end: bool, out: &mut String) -> Answer
     requires place { length place.now ≡ 8 }
-    requires record { IsRecordOf the_shape place.now bytes.now }
+    requires least { 8 ≤ length bytes.now }
+    requires most { length bytes.now ≤ 505 }
 {
-    for _turn in 0..8u32 {
+    for _turn in 0..16u32 {
         if !step(held, place, bytes, out)? || !to_the_end {
             return Ok(());
         }
@@ -135,7 +129,8 @@ fn steps(held: &mut Held, place: &Place, bytes: &[u8], to_the_end: bool, out: &m
 /// Asks for room, and does what the answer says. Answers whether more is to be done.
 fn step(held: &mut Held, place: &Place, bytes: &[u8], out: &mut String) -> Result<bool, Stop>
     requires place { length place.now ≡ 8 }
-    requires record { IsRecordOf the_shape place.now bytes.now }
+    requires least { 8 ≤ length bytes.now }
+    requires most { length bytes.now ≤ 505 }
 {
     let room = held.room(place, bytes.len() as u32);
     say_room(out, room)?;
@@ -148,11 +143,8 @@ fn step(held: &mut Held, place: &Place, bytes: &[u8], out: &mut String) -> Resul
 }
 
 /// Sets the record, and nothing more is to be done.
-fn put(held: &mut Held, place: &Place, bytes: &[u8], out: &mut String) -> Result<bool, Stop>
-    requires place { length place.now ≡ 8 }
-    requires record { IsRecordOf the_shape place.now bytes.now }
-{
-    let done = held.set(place, bytes);
+fn put(held: &mut Held, place: &Place, bytes: &[u8], out: &mut String) -> Result<bool, Stop> {
+    let done = held.set(place, bytes)?;
     say(out, "; set ")?;
     say_fault(out, done)?;
     say_notes(held, out)?;
@@ -170,6 +162,22 @@ fn advance(held: &mut Held, place: &Place, size: u32, out: &mut String) -> Resul
     say_stage(out, done)?;
     say_notes(held, out)?;
     Ok(done.is_ok())
+}
+
+/// How many areas the part's chain has, and how many of the volume are free: `areas`.
+pub fn areas(held: &Held, out: &mut String) -> Answer {
+    say_number(out, held.part.areas() as u64)?;
+    say(out, " held, ")?;
+    say_number(out, held.space.free() as u64)?;
+    say(out, " free")
+}
+
+/// Gives the least free area of the volume to another part, and answers which: `claim`.
+pub fn claim(held: &mut Held, out: &mut String) -> Answer {
+    match held.claim() {
+        Some(area) => say_number(out, area.0 as u64),
+        None => say(out, "none"),
+    }
 }
 
 /// Takes the record of a key away: `KEY`.

@@ -1,10 +1,11 @@
 //! The part that lines speak of.
-ghost use Rattle.std.specs.Prelude.{◌≡◌, ◌≤◌, length, IfOk};
-ghost use Rattle.vr_space.specs.Part.{IsRecordOf};
-ghost use Rattle.vr_keyed_cases.specs.TheLayout.{the_owners, the_shape};
+ghost use Rattle.std.specs.Prelude.{◌≡◌, ◌<◌, ◌≤◌, length, IfOk, None, Some, slice_index_or};
+ghost use Rattle.vr_types.specs.Geometry.{area_count};
+ghost use Rattle.vr_space.specs.Part.{owned_count};
+ghost use Rattle.vr_keyed_cases.specs.TheLayout.{IsVolume, the_number, the_shape};
 
 use crate::answers::{Answer, Stop};
-use crate::format::{BLOCKS, HEAD, empty_interval, head, layout, owners};
+use crate::format::{device_blocks, empty_interval, head, head_block, layout, owners};
 use crate::one_kept::OneKept;
 use crate::record::is_whole;
 use crate::traced::Traced;
@@ -13,7 +14,9 @@ use vr_attach::PartNo2;
 use vr_device::{MemoryDevice, memory_device};
 use vr_keyed::{Keyed, new_part};
 use vr_space::{Part, Room, Whence};
-use vr_types::{Blocks, DeviceFault, Place, PlaceBuffer, Space, StageKind};
+use vr_types::{
+    AreaNo, Blocks, DeviceFault, Geometry, PartNo, Place, PlaceBuffer, Space, StageKind,
+};
 
 /// The part on its blocks, what is kept, and the records that were noted. What is large is in
 /// boxes, so that a function that ends drops it by one call.
@@ -24,25 +27,35 @@ pub struct Held {
     pub space: Space,
     pub kept: OneKept,
     pub mark: String,
-    ghost shape: { ⟦<Keyed as Part>⟧.shape part.value ≡ the_shape },
+    pub geometry: Geometry,
+    ghost volume: { IsVolume geometry },
+    ghost shape: { ⟦<Keyed as Part>⟧.shape part.value ≡ the_shape geometry },
 }
 
 impl Held {
-    /// The part that blocks have, attached to them as after a restart.
-    pub fn attached(alloc: Global, mut blocks: Box<Traced>) -> Result<Box<Held>, Stop> {
-        let mut space = owners(alloc)?;
-        let part = attached_part(alloc, &mut blocks, &mut space)?;
+    /// The part that blocks of a volume have, attached to them as after a restart.
+    pub fn attached(
+        alloc: Global,
+        geometry: Geometry,
+        mut blocks: Box<Traced>,
+    ) -> Result<Box<Held>, Stop>
+        requires { IsVolume geometry }
+    {
+        let mut space = owners(alloc, geometry)?;
+        let part = attached_part(alloc, geometry, &mut blocks, &mut space)?;
         blocks.clear_notes();
-        Held::on(alloc, blocks, part, space)
+        Held::on(alloc, geometry, blocks, part, space)
     }
 
     fn on(
         alloc: Global,
+        geometry: Geometry,
         blocks: Box<Traced>,
         part: Box<Keyed>,
         space: Space,
     ) -> Result<Box<Held>, Stop>
-        requires { ⟦<Keyed as Part>⟧.shape part.value ≡ the_shape }
+        requires volume { IsVolume geometry }
+        requires shape { ⟦<Keyed as Part>⟧.shape part.value ≡ the_shape geometry }
     {
         let held = Held {
             blocks,
@@ -50,18 +63,32 @@ impl Held {
             space,
             kept: OneKept::Nothing,
             mark: String::new(alloc),
+            geometry,
         };
         Ok(Box::new(alloc, held)?)
     }
 
-    /// A new part, on a device whose calls of these numbers fail. The first three calls make it.
-    pub fn format(alloc: Global, fails: &[u64]) -> Result<Box<Held>, Stop> {
-        let device = memory_device(alloc, 512, BLOCKS, fails)?;
-        let mut blocks = boxed_blocks(alloc, device, HEAD)?;
-        write_first(alloc, &mut blocks)?;
-        let part = boxed_part(alloc)?;
-        let space = owners(alloc)?;
-        Held::on(alloc, blocks, part, space)
+    /// A new part of a volume, on a device whose calls of these numbers fail. The first three calls
+    /// make it.
+    pub fn format(alloc: Global, geometry: Geometry, fails: &[u64]) -> Result<Box<Held>, Stop>
+        requires { IsVolume geometry }
+    {
+        let device = memory_device(alloc, 512, device_blocks(geometry), fails)?;
+        let mut blocks = boxed_blocks(alloc, device, head_block(geometry))?;
+        write_first(alloc, head_block(geometry), &mut blocks)?;
+        let part = boxed_part(alloc, geometry)?;
+        let space = owners(alloc, geometry)?;
+        Held::on(alloc, geometry, blocks, part, space)
+    }
+
+    /// How many intervals an area of the volume has.
+    pub fn intervals(&self) -> usize {
+        self.geometry.area as usize
+    }
+
+    /// Gives another part the least free area, where one is free.
+    pub fn claim(&mut self) -> Option<AreaNo> {
+        self.space.claim(PartNo(2))
     }
 
     /// Whether a record of this length has room.
@@ -83,13 +110,13 @@ impl Held {
         self.part.advance(&mut *self.blocks, &mut self.space, &self.kept, place, size)
     }
 
-    /// Sets a record.
-    pub fn set(&mut self, place: &Place, bytes: &[u8]) -> Result<(), DeviceFault>
-        requires place { length place.now ≡ 8 }
-        requires record { IsRecordOf the_shape place.now bytes.now }
-    {
-        self.part
-            .set(&mut *self.blocks, &self.kept, place, Some(bytes))
+    /// Sets a record. It has to be one that may stand at the place.
+    pub fn set(&mut self, place: &Place, bytes: &[u8]) -> Result<Result<(), DeviceFault>, Stop> {
+        if !self.part.may_stand(place, Some(bytes)) {
+            return Err(Stop::Line);
+        }
+        let blocks = &mut *self.blocks;
+        Ok(self.part.set(blocks, &self.kept, place, Some(bytes)))
     }
 
     /// Takes a record away.
@@ -103,7 +130,7 @@ impl Held {
     pub fn stand(&mut self, place: &Place) -> Stand
         requires { length place.now ≡ 8 }
     {
-        stand_at(&mut *self.blocks, &mut *self.part, place)
+        stand_at(self.geometry, &mut *self.blocks, &mut *self.part, place)
     }
 
     /// Gives the next place with a record.
@@ -121,31 +148,42 @@ pub fn boxed_blocks(alloc: Global, device: MemoryDevice, base: u32) -> Result<Bo
 }
 
 /// A new part, in a box.
-fn boxed_part(alloc: Global) -> Result<Box<Keyed>, Stop>
-    ensures { IfOk result (λ part. ⟦<Keyed as Part>⟧.shape part.value ≡ the_shape) }
+fn boxed_part(alloc: Global, geometry: Geometry) -> Result<Box<Keyed>, Stop>
+    requires { IsVolume geometry }
+    ensures { IfOk result (λ part. ⟦<Keyed as Part>⟧.shape part.value ≡ the_shape geometry) }
 {
-    let part = new_part(alloc, layout())?;
+    let part = new_part(alloc, layout(geometry))?;
     Ok(Box::new(alloc, part)?)
 }
 
 /// The part as its blocks stand, in a box. The areas of its chain are marked as its own.
-fn attached_part(alloc: Global, blocks: &mut Traced, owners: &mut Space) -> Result<Box<Keyed>, Stop>
-    requires { owners.old ≡ the_owners }
-    ensures { IfOk result (λ part. ⟦<Keyed as Part>⟧.shape part.value ≡ the_shape) }
+fn attached_part(
+    alloc: Global,
+    geometry: Geometry,
+    blocks: &mut Traced,
+    owners: &mut Space,
+) -> Result<Box<Keyed>, Stop>
+    requires volume { IsVolume geometry }
+    requires areas { length owners.old ≡ area_count geometry }
+    requires first { slice_index_or owners.old 1 None ≡ Some the_number }
+    requires alone { owned_count the_number owners.old ≡ 1 }
+    ensures { IfOk result (λ part. ⟦<Keyed as Part>⟧.shape part.value ≡ the_shape geometry) }
 {
-    match Keyed::attach(alloc, blocks, layout(), owners) {
+    match Keyed::attach(alloc, blocks, layout(geometry), owners) {
         Ok(part) => Ok(Box::new(alloc, part)?),
         Err(PartNo2::Memory) => Err(Stop::Memory),
         Err(_) => Err(Stop::Line),
     }
 }
 
-/// Writes the blocks of a new part.
-fn write_first(alloc: Global, blocks: &mut Traced) -> Answer {
+/// Writes the blocks of a new part, from the one of this number on.
+fn write_first(alloc: Global, first: u32, blocks: &mut Traced) -> Answer
+    requires { first < 25 }
+{
     let head = head(alloc)?;
-    let _ = blocks.put(HEAD, head.as_slice());
+    let _ = blocks.put(first, head.as_slice());
     let interval = empty_interval(alloc)?;
-    let _ = blocks.put(HEAD + 1, interval.as_slice());
+    let _ = blocks.put(first + 1, interval.as_slice());
     let _ = blocks.force(&[]);
     blocks.clear_notes();
     Ok(())
@@ -163,10 +201,11 @@ pub enum Stand {
 }
 
 /// Looks at a place, and compares what stands there with the record of its length and key.
-fn stand_at(blocks: &mut Traced, part: &mut Keyed, place: &Place) -> Stand
-    requires shape { ⟦<Keyed as Part>⟧.shape part.old ≡ the_shape }
+fn stand_at(geometry: Geometry, blocks: &mut Traced, part: &mut Keyed, place: &Place) -> Stand
+    requires volume { IsVolume geometry }
+    requires shape { ⟦<Keyed as Part>⟧.shape part.old ≡ the_shape geometry }
     requires place { length place.now ≡ 8 }
-    ensures { ⟦<Keyed as Part>⟧.shape part.new ≡ the_shape }
+    ensures { ⟦<Keyed as Part>⟧.shape part.new ≡ the_shape geometry }
 {
     match Keyed::look(blocks, part, place) {
         Ok(Some(bytes)) => judged(bytes, place.as_slice()),

@@ -1,24 +1,33 @@
 //! The images that a crash leaves, each read by the plain program.
+ghost use Rattle.vr_keyed_cases.specs.TheLayout.{IsVolume};
 
 use crate::answers::{Answer, Stop, say, say_number};
-use crate::format::{BLOCKS, HEAD};
+use crate::format::head_block;
 use crate::held::{Held, boxed_blocks};
 use crate::plain::{say_entries, say_records};
+use crate::plain_damage::damage_in;
 use crate::words::numbers;
 use std::alloc::Global;
 use std::mem;
 use vr_device::{BlockDevice, ImageNo, MemoryDevice};
+use vr_types::Geometry;
 
-/// Which content of its past each block takes, by its number.
+/// Which content of its past each block takes, by its number. No device has more than these.
 #[derive(Clone, Copy)]
 struct Choice {
-    numbers: [u32; 8],
+    numbers: [u32; 18],
 }
 
 impl Choice {
     /// The first content of each block, which no crash can undo.
     fn first() -> Choice {
-        Choice { numbers: [0; 8] }
+        Choice { numbers: [0; 18] }
+    }
+
+    /// The numbers of the blocks of a device.
+    fn of(&self, device: &MemoryDevice) -> &[u32] {
+        let blocks = device.blocks() as usize;
+        self.numbers.get(..blocks).unwrap_or(&[])
     }
 
     /// With the next content of a block.
@@ -61,7 +70,7 @@ enum Image {
 
 /// The blocks of the image of a choice, one after the other.
 fn image_of(alloc: Global, device: &MemoryDevice, choice: Choice) -> Result<Image, Stop> {
-    match device.image(alloc, &choice.numbers) {
+    match device.image(alloc, choice.of(device)) {
         Ok(mut image) => all_blocks(alloc, &mut image),
         Err(ImageNo::Choice { block }) => Ok(Image::Misfit(block)),
         Err(ImageNo::Memory) => Err(Stop::Memory),
@@ -76,7 +85,7 @@ fn all_blocks(alloc: Global, image: &mut MemoryDevice) -> Result<Image, Stop> {
 }
 
 fn add_blocks(image: &mut MemoryDevice, block: &mut [u8], blocks: &mut Vec<u8>) -> Answer {
-    for n in 0..BLOCKS {
+    for n in 0..image.blocks() {
         if n < image.blocks() && image.size() as usize == block.len() {
             let _ = image.read(n, block);
         }
@@ -87,7 +96,7 @@ fn add_blocks(image: &mut MemoryDevice, block: &mut [u8], blocks: &mut Vec<u8>) 
 
 /// The block that the choice misfits.
 fn misfit(alloc: Global, device: &MemoryDevice, choice: Choice) -> Result<Option<u32>, Stop> {
-    match device.image(alloc, &choice.numbers).err() {
+    match device.image(alloc, choice.of(device)).err() {
         None => Ok(None),
         Some(ImageNo::Choice { block }) => Ok(Some(block)),
         Some(ImageNo::Memory) => Err(Stop::Memory),
@@ -99,7 +108,7 @@ fn last_choice(alloc: Global, device: &MemoryDevice) -> Result<Choice, Stop> {
     let mut choice = Choice::first();
     let mut block = 0;
     for _try in 0..1000u32 {
-        if block >= BLOCKS {
+        if block >= device.blocks() {
             break;
         }
         choice = choice.raised(block);
@@ -111,36 +120,16 @@ fn last_choice(alloc: Global, device: &MemoryDevice) -> Result<Choice, Stop> {
     Ok(choice)
 }
 
-/// Writes the records of the image of a choice. Answers the block that it misfits.
-fn say_image(
-    alloc: Global,
-    device: &MemoryDevice,
-    choice: Choice,
-    out: &mut String,
-) -> Result<Option<u32>, Stop> {
-    match image_of(alloc, device, choice)? {
-        Image::Blocks(blocks) => {
-            say_records(blocks.as_slice(), out)?;
-            Ok(None)
-        }
-        Image::Misfit(block) => Ok(Some(block)),
-    }
-}
-
 /// The records that were written last: `list`.
 pub fn list(alloc: Global, held: &Held, out: &mut String) -> Answer {
-    let choice = last_choice(alloc, held.blocks.device())?;
-    say_image(alloc, held.blocks.device(), choice, out)?;
-    Ok(())
+    let blocks = last_blocks(alloc, held.blocks.device())?;
+    say_records(blocks.as_slice(), held.intervals(), out)
 }
 
 /// The entries of the heads that were written last: `entries`.
 pub fn entries(alloc: Global, held: &Held, out: &mut String) -> Answer {
-    let choice = last_choice(alloc, held.blocks.device())?;
-    match image_of(alloc, held.blocks.device(), choice)? {
-        Image::Blocks(blocks) => say_entries(blocks.as_slice(), out),
-        Image::Misfit(_) => say(out, "none"),
-    }
+    let blocks = last_blocks(alloc, held.blocks.device())?;
+    say_entries(blocks.as_slice(), held.intervals(), out)
 }
 
 /// The blocks that were written last, one after the other.
@@ -161,7 +150,7 @@ pub fn mark(alloc: Global, held: &mut Held, out: &mut String) -> Answer {
 }
 
 /// How many images have the records that were noted, how many those that were written last, and how
-/// many others.
+/// many others, or blocks that break a rule.
 #[derive(Clone, Copy)]
 struct Tally {
     noted: u64,
@@ -170,8 +159,10 @@ struct Tally {
 }
 
 impl Tally {
-    fn count(&mut self, records: &str, noted: &str, last: &str) {
-        if records == noted {
+    fn count(&mut self, sound: bool, records: &str, noted: &str, last: &str) {
+        if !sound {
+            self.others = self.others.saturating_add(1);
+        } else if records == noted {
             self.noted = self.noted.saturating_add(1);
         } else if records == last {
             self.last = self.last.saturating_add(1);
@@ -195,67 +186,89 @@ pub fn images(alloc: Global, held: &Held, out: &mut String) -> Answer {
 fn tally_of(alloc: Global, held: &Held) -> Result<Tally, Stop> {
     let mut last = String::new(alloc);
     list(alloc, held, &mut last)?;
-    let device = held.blocks.device();
-    tally_all(alloc, device, held.mark.as_str(), last.as_str())
+    tally_all(alloc, held, last.as_str())
 }
 
 /// Counts the images of all choices, the content of block 0 first.
-fn tally_all(alloc: Global, device: &MemoryDevice, noted: &str, last: &str) -> Result<Tally, Stop> {
+fn tally_all(alloc: Global, held: &Held, last: &str) -> Result<Tally, Stop> {
     let mut tally = Tally {
         noted: 0,
         last: 0,
         others: 0,
     };
     let mut choice = Choice::first();
+    let blocks = held.blocks.device().blocks();
     for _image in 0..4000u32 {
-        match count_image(alloc, device, choice, noted, last, &mut tally)? {
+        match count_image(alloc, held, choice, last, &mut tally)? {
             None => choice = choice.raised(0),
-            Some(block) if block < BLOCKS - 1 => choice = choice.carried(block),
+            Some(block) if block.saturating_add(1) < blocks => choice = choice.carried(block),
             Some(_) => break,
         }
     }
     Ok(tally)
 }
 
+/// Counts the image of a choice. Answers the block that the choice misfits.
 fn count_image(
     alloc: Global,
-    device: &MemoryDevice,
+    held: &Held,
     choice: Choice,
-    noted: &str,
     last: &str,
     tally: &mut Tally,
 ) -> Result<Option<u32>, Stop> {
-    let mut records = String::new(alloc);
-    let misfit = say_image(alloc, device, choice, &mut records)?;
-    if misfit.is_none() {
-        tally.count(records.as_str(), noted, last);
+    match image_of(alloc, held.blocks.device(), choice)? {
+        Image::Misfit(block) => Ok(Some(block)),
+        Image::Blocks(blocks) => {
+            let mut records = String::new(alloc);
+            let intervals = held.intervals();
+            say_records(blocks.as_slice(), intervals, &mut records)?;
+            let sound = damage_in(blocks.as_slice(), intervals, 505).is_none();
+            tally.count(sound, records.as_str(), held.mark.as_str(), last);
+            Ok(None)
+        }
     }
-    Ok(misfit)
 }
 
 /// The part on the image of a choice, as after a restart: `crash NUMBER..`, or the last contents.
 /// Blocks without a number take their first content.
 pub fn crash(alloc: Global, held: &mut Held, rest: &str, out: &mut String) -> Answer {
-    let mut new = crashed(alloc, held.blocks.device(), rest)?;
+    let mut new = crashed(alloc, held.geometry, held.blocks.device(), rest)?;
     mem::swap(held, &mut *new);
     say(out, "ok")
 }
 
-fn crashed(alloc: Global, device: &MemoryDevice, rest: &str) -> Result<Box<Held>, Stop> {
+fn crashed(
+    alloc: Global,
+    geometry: Geometry,
+    device: &MemoryDevice,
+    rest: &str,
+) -> Result<Box<Held>, Stop>
+    requires { IsVolume geometry }
+{
     if rest.is_empty() {
         let choice = last_choice(alloc, device)?;
-        return restarted(alloc, device, &choice.numbers);
+        return restarted(alloc, geometry, device, choice.of(device));
     }
     let mut choice = numbers(alloc, rest)?;
-    if choice.len() < BLOCKS as usize {
-        choice.resize(BLOCKS as usize, 0)?;
+    if choice.len() < device.blocks() as usize {
+        choice.resize(device.blocks() as usize, 0)?;
     }
-    restarted(alloc, device, choice.as_slice())
+    restarted(alloc, geometry, device, choice.as_slice())
 }
 
-fn restarted(alloc: Global, device: &MemoryDevice, choice: &[u32]) -> Result<Box<Held>, Stop> {
+fn restarted(
+    alloc: Global,
+    geometry: Geometry,
+    device: &MemoryDevice,
+    choice: &[u32],
+) -> Result<Box<Held>, Stop>
+    requires { IsVolume geometry }
+{
     match device.image(alloc, choice) {
-        Ok(image) => Held::attached(alloc, boxed_blocks(alloc, image, HEAD)?),
+        Ok(image) => {
+            let blocks = boxed_blocks(alloc, image, head_block(geometry))?;
+            Held::attached(alloc, geometry, blocks)
+        }
         Err(ImageNo::Choice { .. }) => Err(Stop::Line),
         Err(ImageNo::Memory) => Err(Stop::Memory),
     }

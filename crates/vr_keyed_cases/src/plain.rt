@@ -1,5 +1,5 @@
-//! What eight blocks hold, read byte by byte, plainly and slowly. It shares no code with the part,
-//! whose chain begins with the first four blocks, and may lead on to the others.
+//! What blocks hold, read byte by byte, plainly and slowly. It shares no code with the part, whose
+//! chain begins with the first area of the blocks, and may lead on to the others.
 ghost use Rattle.std.specs.Prelude.{◌<◌, ◌≤◌};
 
 use crate::answers::{Answer, say, say_digits, say_number};
@@ -39,24 +39,38 @@ pub fn four(blocks: &[u8], at: usize) -> usize {
     two(blocks, at.saturating_add(2))
 }
 
-/// The four blocks of the first area, and those of the second.
-pub fn areas_of(blocks: &[u8]) -> (&[u8], &[u8]) {
-    (part(blocks, 0, 2048), part(blocks, 2048, 2048))
+/// The blocks of the area of this number on the volume, whose areas have so many intervals each.
+/// Those of area 1 are the first, and area 0 has none.
+pub fn area_at(blocks: &[u8], intervals: usize, number: usize) -> &[u8] {
+    let bytes = intervals.saturating_add(1).saturating_mul(512);
+    match number.checked_sub(1) {
+        Some(before) => part(blocks, before.saturating_mul(bytes), bytes),
+        None => &[],
+    }
 }
 
-/// Whether an area leads on to the second: its head has that area's number on the volume, and 1.
-pub fn leads_on(area: &[u8]) -> bool {
-    four(area, 12) == 3
+/// The numbers of the areas of a chain that begins with area 1, and then zeros: each head has the
+/// number of the next, and 1.
+pub fn chain_in(blocks: &[u8], intervals: usize) -> [usize; 3] {
+    let mut chain = [0; 3];
+    let mut number = 1;
+    for place in chain.iter_mut() {
+        *place = number;
+        number = four(area_at(blocks, intervals, number), 12).saturating_sub(1);
+    }
+    chain
 }
 
-/// Writes the entries of each head: the interval and the high place of each, and ` | ` between
-/// areas.
-pub fn say_entries(blocks: &[u8], out: &mut String) -> Answer {
-    let (first, second) = areas_of(blocks);
-    say_head(first, out)?;
-    if leads_on(first) {
-        say(out, " | ")?;
-        say_head(second, out)?;
+/// Writes the entries of each head: the interval and the high place of each, and ` | ` and the
+/// number of the area before those of another than the first.
+pub fn say_entries(blocks: &[u8], intervals: usize, out: &mut String) -> Answer {
+    for number in chain_in(blocks, intervals) {
+        if number > 1 {
+            say(out, " | ")?;
+            say_number(out, number as u64)?;
+            say(out, ": ")?;
+        }
+        say_head(area_at(blocks, intervals, number), out)?;
     }
     Ok(())
 }
@@ -83,11 +97,11 @@ fn say_entry(blocks: &[u8], at: usize, out: &mut String) -> Answer {
 }
 
 /// Writes each record that the blocks stand for: its key and its length.
-pub fn say_records(blocks: &[u8], out: &mut String) -> Answer {
-    let (first, second) = areas_of(blocks);
-    say_area(first, true, out)?;
-    if leads_on(first) {
-        say_area(second, false, out)?;
+pub fn say_records(blocks: &[u8], intervals: usize, out: &mut String) -> Answer {
+    for number in chain_in(blocks, intervals) {
+        if number > 0 {
+            say_area(area_at(blocks, intervals, number), number == 1, out)?;
+        }
     }
     Ok(())
 }

@@ -1,6 +1,6 @@
 //! The damage of the part's blocks, found byte by byte, plainly and slowly. It shares no code with
 //! the part.
-use crate::plain::{Run, areas_of, byte, four, leads_on, part, run_at, two};
+use crate::plain::{Run, area_at, byte, chain_in, four, part, run_at, two};
 
 /// The block that is shown, by its number on the volume, and the rule.
 #[derive(Clone, Copy, PartialEq, Eq)]
@@ -14,39 +14,56 @@ fn are_all(blocks: &[u8], at: usize, count: usize, wanted: u8) -> bool {
     part(blocks, at, count).iter().all(|byte| *byte == wanted)
 }
 
-/// An area of the chain: its number on the volume, its four blocks, and the place after which its
-/// ranges are to begin, which has no bytes in the first.
+/// An area of the chain: its number on the volume, how many areas the volume has and how many
+/// intervals each of them, the area's blocks, and the place after which its ranges are to begin,
+/// which has no bytes in the first.
 #[derive(Clone, Copy)]
 struct Area<'a> {
     number: usize,
+    areas: usize,
+    intervals: usize,
     blocks: &'a [u8],
     low: &'a [u8],
 }
 
-/// The block of the volume that an area begins with.
-fn head_block(number: usize) -> usize {
-    number.saturating_mul(4).saturating_add(2)
+impl Area<'_> {
+    /// The block of the volume that an area of a number begins with.
+    fn head_of(&self, number: usize) -> usize {
+        let before = self.intervals.saturating_add(1).saturating_mul(number);
+        before.saturating_add(2)
+    }
 }
 
-/// What is found of a part whose records have at most this many bytes, in eight blocks: those of
-/// area 1, which is the first of its chain, and of area 2, which may be the second.
-pub fn damage_in(blocks: &[u8], most: usize) -> Option<Found> {
-    let (first, second) = areas_of(blocks);
-    let first = Area {
-        number: 1,
-        blocks: first,
-        low: &[],
-    };
-    let found = damage_of(first, most);
-    if found.is_some() || !leads_on(first.blocks) {
-        return found;
+/// What is found of a part whose records have at most this many bytes, in the blocks of the areas
+/// of a volume but the catalog's, with so many intervals each. Its chain begins with area 1.
+pub fn damage_in(blocks: &[u8], intervals: usize, most: usize) -> Option<Found> {
+    let chain = chain_in(blocks, intervals);
+    let mut low: &[u8] = &[];
+    for (i, number) in chain.iter().enumerate() {
+        if *number == 0 {
+            break;
+        }
+        let area = Area {
+            number: *number,
+            areas: areas_in(blocks, intervals),
+            intervals,
+            blocks: area_at(blocks, intervals, *number),
+            low,
+        };
+        let before = chain.get(..i).unwrap_or(&[]);
+        let found = damage_of(area, before, most);
+        if found.is_some() {
+            return found;
+        }
+        low = last_high(area.blocks);
     }
-    let second = Area {
-        number: 2,
-        blocks: second,
-        low: last_high(first.blocks),
-    };
-    damage_of(second, most)
+    None
+}
+
+/// How many areas the volume has, with the catalog's.
+fn areas_in(blocks: &[u8], intervals: usize) -> usize {
+    let bytes = intervals.saturating_add(1).saturating_mul(512);
+    (blocks.len() / bytes.max(1)).saturating_add(1)
 }
 
 /// The place at which the ranges of a head end whose places have 8 bytes.
@@ -56,9 +73,9 @@ fn last_high(blocks: &[u8]) -> &[u8] {
 }
 
 /// What is found of an area: at its head, at the interval of an entry, or at the area that comes
-/// next, if that is area 0, which is the catalog's, or area 1, in which the chain was before.
-fn damage_of(area: Area<'_>, most: usize) -> Option<Found> {
-    let head = head_block(area.number);
+/// next, if that is area 0, which is the catalog's, or one in which the chain was before.
+fn damage_of(area: Area<'_>, before: &[usize], most: usize) -> Option<Found> {
+    let head = area.head_of(area.number);
     let rule = head_rule(area);
     if rule != 0 {
         return Some(Found { block: head, rule });
@@ -71,27 +88,24 @@ fn damage_of(area: Area<'_>, most: usize) -> Option<Found> {
             return Some(Found { block, rule });
         }
     }
-    match four(area.blocks, 12) {
-        1 => Some(Found {
-            block: head_block(0),
-            rule: 4,
-        }),
-        2 => Some(Found {
-            block: head_block(1),
-            rule: 4,
-        }),
-        _ => None,
+    let next = four(area.blocks, 12).checked_sub(1)?;
+    if next > 0 && !before.contains(&next) {
+        return None;
     }
+    Some(Found {
+        block: area.head_of(next),
+        rule: 4,
+    })
 }
 
-/// The least rule that the head of an area breaks, or 0. The volume has areas 0 to 2.
+/// The least rule that the head of an area breaks, or 0.
 fn head_rule(area: Area<'_>) -> u8 {
     let top = part(area.blocks, 0, 512);
     let first = area.low.is_empty();
-    let spelled = is_spelled(top);
+    let spelled = is_spelled(top, area.intervals);
     let next = four(top, 12);
     let index = four(top, 20);
-    if spelled && (next > 3 || index > 3) {
+    if spelled && (next > area.areas || index > area.areas) {
         return 3;
     }
     if spelled && next == area.number.saturating_add(1) {
@@ -126,7 +140,7 @@ fn is_plain_head(blocks: &[u8]) -> bool {
 }
 
 /// Whether the head is a sequence-set record.
-fn is_spelled(blocks: &[u8]) -> bool {
+fn is_spelled(blocks: &[u8], intervals: usize) -> bool {
     let place = two(blocks, 6);
     let first = byte(blocks, 1) == 1;
     byte(blocks, 0) == 83
@@ -137,7 +151,7 @@ fn is_spelled(blocks: &[u8]) -> bool {
         && place <= 480
         && two(blocks, 2) > 0
         && is_chained(blocks, first, place)
-        && are_entries(blocks, first, place)
+        && are_entries(blocks, intervals, first, place)
 }
 
 /// What only the first of a chain may have.
@@ -151,10 +165,10 @@ fn is_chained(blocks: &[u8], first: bool, place: usize) -> bool {
 
 /// Whether the entries are whole, their intervals below the limit and each once, their high places
 /// ascend, and zeros come after them.
-fn are_entries(blocks: &[u8], first: bool, place: usize) -> bool {
+fn are_entries(blocks: &[u8], intervals: usize, first: bool, place: usize) -> bool {
     let limit = 480usize.saturating_sub(place) / place.saturating_add(4);
-    let mut seen = [limit < 1, limit < 2, limit < 3];
-    let mut below = if first { 0 } else { 32 };
+    let mut seen = below(limit.min(intervals));
+    let mut last = if first { 0 } else { 32 };
     let mut at = place.saturating_add(32);
     for _entry in 0..two(blocks, 2) {
         let count = two(blocks, at);
@@ -165,17 +179,26 @@ fn are_entries(blocks: &[u8], first: bool, place: usize) -> bool {
         if !take_all(blocks, at.saturating_add(2), count, &mut seen) {
             return false;
         }
-        if below != 0 && part(blocks, below, place) >= part(blocks, high, place) {
+        if last != 0 && part(blocks, last, place) >= part(blocks, high, place) {
             return false;
         }
-        below = high;
+        last = high;
         at = high.saturating_add(place);
     }
     are_all(blocks, at, 512usize.saturating_sub(at), 0)
 }
 
+/// Which of five intervals can't be taken: those that aren't below a limit.
+fn below(limit: usize) -> [bool; 5] {
+    let mut seen = [true; 5];
+    for (number, taken) in seen.iter_mut().enumerate() {
+        *taken = number >= limit;
+    }
+    seen
+}
+
 /// Takes intervals that none took before.
-fn take_all(blocks: &[u8], at: usize, count: usize, seen: &mut [bool; 3]) -> bool {
+fn take_all(blocks: &[u8], at: usize, count: usize, seen: &mut [bool; 5]) -> bool {
     for i in 0..count {
         if !take(two(blocks, at.saturating_add(i.saturating_mul(2))), seen) {
             return false;
@@ -184,8 +207,8 @@ fn take_all(blocks: &[u8], at: usize, count: usize, seen: &mut [bool; 3]) -> boo
     true
 }
 
-fn take(number: usize, seen: &mut [bool; 3]) -> bool {
-    if number >= 3 || seen[number] {
+fn take(number: usize, seen: &mut [bool; 5]) -> bool {
+    if number >= 5 || seen[number] {
         return false;
     }
     seen[number] = true;

@@ -1,21 +1,24 @@
 //! Which call a question asks.
+ghost use Rattle.vr_keyed_cases.specs.TheLayout.{IsVolume};
 
 use crate::answers::{Answer, Stop, say, say_fault};
 use crate::attach::{attach, attach_fails};
-use crate::calls::{erase, fill, get, next, place_of, record_call};
+use crate::calls::{areas, claim, erase, fill, get, next, place_of, record_call};
 use crate::chain::chain;
+use crate::format::{small_volume, wide_volume};
 use crate::held::Held;
 use crate::images::{crash, entries, images, list, mark};
 use crate::one_kept::OneKept;
 use crate::words::{long_number, long_numbers, number, parted};
 use std::alloc::Global;
-use vr_types::Blocks;
+use vr_types::{Blocks, Geometry};
 
 /// Writes the answer to a line. `held` is the part that the lines before it left.
 pub fn answer(alloc: Global, held: &mut Option<Box<Held>>, line: &str, out: &mut String) -> Answer {
     let (verb, rest) = parted(line);
-    if verb == "new" {
-        return make(alloc, held, rest, out);
+    if let Some(made) = made(alloc, verb, rest)? {
+        *held = Some(made);
+        return say(out, "ok");
     }
     match held {
         Some(held) => ask(alloc, &mut **held, verb, rest, out),
@@ -23,15 +26,25 @@ pub fn answer(alloc: Global, held: &mut Option<Box<Held>>, line: &str, out: &mut
     }
 }
 
-/// Makes the part anew, on a device whose calls of these numbers fail: `new NUMBER..`.
-fn make(alloc: Global, held: &mut Option<Box<Held>>, rest: &str, out: &mut String) -> Answer {
-    *held = Some(made(alloc, rest)?);
-    say(out, "ok")
+/// Makes the part anew, on a device whose calls of these numbers fail: `new NUMBER..`, or on a wide
+/// volume, with this many intervals an area, `wide INTERVALS NUMBER..`.
+fn made(alloc: Global, verb: &str, rest: &str) -> Result<Option<Box<Held>>, Stop> {
+    match verb {
+        "new" => Ok(Some(made_on(alloc, small_volume()?, rest)?)),
+        "wide" => {
+            let (intervals, rest) = parted(rest);
+            let geometry = wide_volume(number(intervals)?)?;
+            Ok(Some(made_on(alloc, geometry, rest)?))
+        }
+        _ => Ok(None),
+    }
 }
 
-fn made(alloc: Global, rest: &str) -> Result<Box<Held>, Stop> {
+fn made_on(alloc: Global, geometry: Geometry, rest: &str) -> Result<Box<Held>, Stop>
+    requires { IsVolume geometry }
+{
     let fails = long_numbers(alloc, rest)?;
-    Held::format(alloc, fails.as_slice())
+    Held::format(alloc, geometry, fails.as_slice())
 }
 
 fn ask(alloc: Global, held: &mut Held, verb: &str, rest: &str, out: &mut String) -> Answer {
@@ -41,6 +54,8 @@ fn ask(alloc: Global, held: &mut Held, verb: &str, rest: &str, out: &mut String)
         "get" => get(alloc, held, rest, out),
         "erase" => erase(alloc, held, rest, out),
         "next" => next(alloc, held, rest, out),
+        "areas" => areas(held, out),
+        "claim" => claim(held, out),
         "keep" => keep(alloc, held, rest, out),
         _ => look(alloc, held, verb, rest, out),
     }

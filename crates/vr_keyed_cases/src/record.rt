@@ -22,9 +22,11 @@ fn put_digits(key: &mut [u8], number: u32) {
 }
 
 /// A record of this length and key.
-pub fn record(alloc: Global, key: &[u8], length: u32) -> Result<Vec<u8>, AllocError> {
+pub fn record(alloc: Global, key: &[u8], size: u32) -> Result<Vec<u8>, AllocError>
+    ensures { IfOk result (λ bytes. length bytes.items ≡ size) }
+{
     let mut bytes = Vec::from_slice(alloc, key)?;
-    bytes.resize(length as usize, filler(length as usize))?;
+    bytes.resize(size as usize, filler(size as usize))?;
     Ok(bytes)
 }
 

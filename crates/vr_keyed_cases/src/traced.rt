@@ -7,10 +7,13 @@ use std::marker::Model;
 use vr_device::{BlockDevice, MemoryDevice};
 use vr_types::{Blocks, DeviceFault, FaultCount, OutOfMemory};
 
+/// How many blocks a volume of the cases has at most.
+pub const MOST_BLOCKS: u32 = 26;
+
 /// Blocks of 512 bytes over a device in memory, each written through at once. A call of the device
 /// is noted: `r1` a read of its block 1, `w1` a write of it, `s` a sync. These blocks report no
-/// content, so that lines may ask for any calls in any order; and of the fourteen that they say
-/// there are, those that the device hasn't can't be read or written.
+/// content, so that lines may ask for any calls in any order. They say that there are as many as a
+/// volume has at most; those that the device hasn't can't be read or written.
 #[derive(Drop)]
 pub struct Traced {
     device: MemoryDevice,
@@ -114,7 +117,7 @@ impl Blocks for Traced {
 
     ghost tells = { false };
 
-    ghost seen = { λ t. unseen 14 512 };
+    ghost seen = { λ t. unseen 26 512 };
 
     ghost faults = { λ t. t };
 

@@ -1,6 +1,6 @@
 -- The records of a content, read one after the other.
 use Rattle.std.proofs.Common.{◌≡◌, ℕ, Bool, true, false, List, [], ◌∷◌, ◌++◌, Option, Some, None}
-use Rattle.std.proofs.Common.{refl, sym, ap, subst, ◌∙◌, arith}
+use Rattle.std.proofs.Common.{refl, sym, ap, subst, inl, ◌∙◌, arith}
 use Rattle.std.proofs.lemmas.List.{append_assoc, append-nil}
 use Rattle.std.proofs.lemmas.Cmp.{nat_list_cmp_total}
 use Rattle.std.specs.Ordering.{is_lt, is_le, ordering_reverse}
@@ -15,7 +15,8 @@ use Rattle.vr_space.specs.Room.{is_above}
 use Rattle.vr_space.specs.Known.{Known}
 use Rattle.vr_space.specs.Part.{IsOn, IsUnderWay, KeyedShape, Knows, NumberedShape, Shape, Stands}
 use Rattle.vr_space.specs.Part.{StandsFor, record_read}
-use Rattle.vr_space.specs.Split.{AreaSplit}
+use Rattle.vr_space.specs.Moves.{IsPastClaim, MoveUnderWay}
+use Rattle.vr_space.specs.Split.{AreaSplit, MoveNow}
 use Rattle.vr_space.specs.UnderWay.{KeyedUnderWay}
 use Rattle.vr_space.proofs.CallerLemmas.{AllAbove, Rising, rising-sorted, stands_content}
 use Rattle.vr_space.proofs.CallerLemmas.{content_item, on-still, none-record, none-above, above-weaken}
@@ -267,8 +268,12 @@ pub knows_now : (shape : Shape) (known : Known) (now : Seen) → KnowsImage shap
 knows_now shape known now knows = record { way = way_now shape; blocks = knows.met }
   where
     way_now : (shape : Shape) → IsUnderWay shape known now
-    way_now (KeyedShape part) =
-        subst (λ (split : Option AreaSplit). KeyedUnderWay part split now) (sym knows.no_split) tt
+    way_now (KeyedShape part) = (
+      subst (λ (split : Option AreaSplit). KeyedUnderWay part split now) (sym knows.no_split) tt,
+      subst (λ (move : Option MoveNow). MoveUnderWay part move now) (sym knows.no_move) tt,
+      inl knows.no_split,
+      subst IsPastClaim (sym knows.no_move) tt,
+    )
     way_now (NumberedShape part) = tt
 
 pub still_knows : (tells : Bool) (shape other : Shape) (known now : Known) (a b : Seen)

@@ -25,6 +25,7 @@ AreAllPlaces shape n = (place : List ℕ) → length place ≡ n → IsPlaceOf s
 -- No split is under way, and the blocks of the image are as the part met them.
 pub record KnowsImage (shape : Shape) (known : Known) (image : Image) : Type 0 where
   pub no_split : known.split ≡ None
+  pub no_move : known.move ≡ None
   pub met : AreMet shape known image
 
 -- ---- one after the other

@@ -1,8 +1,15 @@
 -- The areas of a part as it is attached.
 use Rattle.std.proofs.Common.{◌≡◌, ◌≢◌, ◌⊎◌, inl, inr, ⊎_elim, ℕ, List, Option, None}
-use Rattle.std.proofs.Common.{slice_index_or, sym, subst}
+use Rattle.std.proofs.Common.{ap, slice_index_or, sym, subst}
 use Rattle.std.proofs.lemmas.Bool.Decides.{eqb_tells}
 use Rattle.vr_types.specs.declared.unit.PartNo.{PartNo}
+use Rattle.vr_space.specs.Known.{held_with}
+use Rattle.vr_space.specs.Split.{MoveNow}
+
+-- With no split of an area under way a keyed part holds the areas of its chain alone.
+pub held-alone : (areas : List ℕ) (move : Option MoveNow) → move ≡ None
+    → held_with areas move ≡ areas
+held-alone areas move none = ap (held_with areas) none
 
 -- an area that was free but for the first one
 pub free-or-first : (owners : List (Option PartNo)) (owner : Option PartNo) (area : ℕ)

@@ -15,8 +15,9 @@ use Rattle.vr_attach.specs.declared.part_no.PartNo2.TheVariants.{Damaged, Fault,
 abbrev pub IsAttachedWith : Shape → Known → Image → Type 0
 IsAttachedWith (KeyedShape part) known image =
     (known.split ≡ None) × (known.met ≡ []) × KnowsAreas part known.areas known.ends image
+    × (known.move ≡ None)
 IsAttachedWith (NumberedShape part) known image =
-    (known.split ≡ None) × (known.met ≡ []) × KnowsChain part known image
+    (known.split ≡ None) × (known.met ≡ []) × KnowsChain part known image × (known.move ≡ None)
 
 -- The part is damaged: this block is the first of the walk that breaks a rule, and this is the
 -- number of the least rule that it breaks. Its chain may not lead to an area of which Taken is

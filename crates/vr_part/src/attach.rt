@@ -18,11 +18,12 @@ use vr_chained::Chained;
 use vr_keyed::Keyed;
 use vr_types::{Blocks, Geometry, Kind, PartNo, Space};
 
-/// The part of a definition, as its blocks stand, from this area on: with no split under way, and
-/// nothing met. `space` has who owns each area of the volume: the first area is the part's, which
-/// owns no other yet; then each area that it has is its. `Damaged`: the blocks stand for no
-/// content, or lead to an area that another part has; which block and which rule are shown
-/// `vr_attach` says. `Fault` is the device's; `Memory`: there is none for the part's buffers.
+/// The part of a definition, as its blocks stand, from this area on: with no split of an interval
+/// or of an area under way, and nothing met. `space` has who owns each area of the volume: the
+/// first area is the part's, which owns no other yet; then each area that it has is its.
+/// `Damaged`: the blocks stand for no content, or lead to an area that another part has; which
+/// block and which rule are shown `vr_attach` says. `Fault` is the device's; `Memory`: there is
+/// none for the part's buffers.
 pub fn attach_part<B: Blocks>(
     alloc: Global,
     blocks: &mut B,
@@ -44,6 +45,7 @@ pub fn attach_part<B: Blocks>(
     ensures shape { IfOk result (λ it. shape_by_kind geometry.now part.0 area definition.now
         definition.now.kind ≡ Some (shape_any it)) }
     ensures split { IfOk result (λ it. (known_any it).split ≡ None) }
+    ensures moves { IfOk result (λ it. (known_any it).move ≡ None) }
     ensures met { IfOk result (λ it. (known_any it).met ≡ []) }
     ensures known { IsTrue B.tells → IfOk result (λ it.
         IsAttachedWith (shape_any it) (known_any it) (B.seen blocks.old).cur) }

@@ -24,8 +24,9 @@ use Rattle.vr_mount.specs.Areas.{AreFirstOwners, BeginsWith, IsLaidIn, catalog_p
 use Rattle.vr_mount.proofs.Blocks.{one_area}
 use Rattle.vr_part.specs.Any.{known_any, shape_any}
 use Rattle.vr_part.specs.declared.any.AnyPart.{AnyPart}
-use Rattle.vr_space.specs.Known.{Known}
-use Rattle.vr_space.specs.Part.{OwnsChain, Shape, owned_count, part_no}
+use Rattle.vr_space.specs.Known.{Known, held_with}
+use Rattle.vr_space.specs.Part.{KeyedShape, NumberedShape, OwnsChain, Shape, held_by, owned_count}
+use Rattle.vr_space.specs.Part.{part_no}
 use Rattle.vr_recover.specs.Found.{AreAdded, AreAttached, HasFirst, MayAdd}
 use Rattle.vr_recover.specs.Opening.{AreOwnersBy, HasNoSplit, IsHeldBy, OwnsAreas, shapes_laid}
 use Rattle.vr_recover.specs.Undone.{HasPart}
@@ -54,7 +55,13 @@ in-or-not xs x = by (is_member nat_eq xs x) refl
 
 pub has-or-not : (geometry : Geometry) (shape : Shape) (known : Known) (area : ℕ)
     → HasArea geometry shape known area ⊎ (HasArea geometry shape known area → ⊥)
-has-or-not geometry shape known area = in-or-not known.areas area
+has-or-not geometry shape known area = in-or-not (held_by shape known) area
+
+-- A part with no split of an area under way holds the areas that it keeps of its chain.
+pub held-none : (shape : Shape) (known : Known) → known.move ≡ None
+    → held_by shape known ≡ known.areas
+held-none (KeyedShape part) known none = ap (held_with known.areas) none
+held-none (NumberedShape part) known none = refl
 
 -- an area begins with a block of its own
 pub head-is : (geometry : Geometry) (one other : ℕ)

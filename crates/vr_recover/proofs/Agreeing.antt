@@ -1,7 +1,7 @@
 -- What a volume that recovers has in common with what is found as it is opened, and why what is
 -- shown refuses it.
 use Rattle.std.proofs.Common.{◌≡◌, ⊎_elim, ℕ, ◌+◌, ◌<◌, ◌≤◌}
-use Rattle.std.proofs.Common.{List, ◌∷◌, Some, length, refl, sym, ap, subst, ◌∙◌}
+use Rattle.std.proofs.Common.{List, Some, length, refl, sym, ap, subst, ◌∙◌}
 use Rattle.std.proofs.Common.{get_or}
 use Rattle.std.specs.Prelude.{All, IfSome}
 use Rattle.std.specs.Option.{option_and_then}

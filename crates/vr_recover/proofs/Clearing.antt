@@ -31,7 +31,8 @@ use Rattle.vr_space.specs.Known.{Known}
 use Rattle.vr_space.specs.Owners.{Owners}
 use Rattle.vr_space.specs.Part.{IsOn, IsSound, KeyedShape, NumberedShape, Shape, Stands, StaysIn}
 use Rattle.vr_space.specs.Part.{item_of, part_no}
-use Rattle.vr_space.proofs.CallerLemmas.{StaysPart, content_item, knows-stays, rest-sound}
+use Rattle.vr_space.proofs.CallerLemmas.{StaysPart, content_item, knows-stays, owns-none}
+use Rattle.vr_space.proofs.CallerLemmas.{rest-sound}
 use Rattle.vr_volume.specs.Laid.{shape_by}
 use Rattle.vr_volume.specs.PutBack.{images_of, lengths_kept, oldest}
 use Rattle.vr_recover.specs.Recovered.{AreBackOf, IsWhole, KeepsAll, item_back, standing_all}
@@ -65,13 +66,16 @@ attached-stays (KeyedShape part) owners known a b stays sound left attached = (
   attached.0,
   attached.1,
   (knows-stays a b (KeyedShape part) owners known stays sound left
+      (owns-none (KeyedShape part) owners known attached.3)
       (attached-knows (KeyedShape part) known a attached)).blocks.0,
+  attached.3,
 )
 attached-stays (NumberedShape part) owners known a b stays sound left attached = (
   attached.0,
   attached.1,
-  (knows-stays a b (NumberedShape part) owners known stays sound left
+  (knows-stays a b (NumberedShape part) owners known stays sound left tt
       (attached-knows (NumberedShape part) known a attached)).blocks,
+  attached.3,
 )
 
 -- ---- what was found keeps what it has

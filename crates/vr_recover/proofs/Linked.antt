@@ -1,7 +1,7 @@
 -- What is shown of a keyed part by which areas are taken: as much by fewer of them, where the
 -- others begin its chain.
 use Rattle.std.proofs.Common.{◌≡◌, ◌⊎◌, ⊎_elim, inl, inr, ℕ, zero, suc, ◌<◌, List, [], ◌∷◌, arith}
-use Rattle.std.proofs.Common.{Some, refl, get_or, take}
+use Rattle.std.proofs.Common.{refl, get_or, take}
 use Rattle.std.specs.Prelude.{Contains}
 use Rattle.vr_types.specs.Image.{Image}
 use Rattle.vr_space.specs.Areas.{KeyedChain, areas_after, areas_in}

@@ -1,5 +1,5 @@
 -- Entries in the order of their part numbers: what those before one lay.
-use Rattle.std.proofs.Common.{◌≡◌, ◌≢◌, ⊎_elim, inl, inr, ℕ, zero, suc, ◌<◌, ◌≤◌, Bool, true, false}
+use Rattle.std.proofs.Common.{◌≡◌, ◌≢◌, ⊎_elim, ℕ, zero, suc, ◌<◌, ◌≤◌, Bool, true, false}
 use Rattle.std.proofs.Common.{cond, List, [], ◌∷◌, Option, Some, None, length, refl, sym, ap, subst}
 use Rattle.std.proofs.Common.{◌∙◌, arith, get_or, take, ◌==◌}
 use Rattle.std.specs.Borrow.{Bor}

@@ -9,7 +9,7 @@ use Rattle.std.proofs.lemmas.Option.{slice_get_within}
 use Rattle.std.proofs.lemmas.List.Elements.{All-nil}
 use Rattle.vr_types.specs.Blocks.{AllForced, Keeps}
 use Rattle.vr_types.specs.Content.{Content}
-use Rattle.vr_types.specs.Geometry.{IsAllowed, area_count}
+use Rattle.vr_types.specs.Geometry.{IsAllowed}
 use Rattle.vr_types.specs.Image.{Image, block_at}
 use Rattle.vr_types.specs.Moments.{Guards}
 use Rattle.vr_types.specs.Seen.{Left, Seen}
@@ -33,15 +33,15 @@ use Rattle.vr_mount.proofs.CallerLemmas.{image-same}
 use Rattle.vr_part.specs.Any.{known_any, shape_any}
 use Rattle.vr_part.specs.declared.any.AnyPart.{AnyPart}
 use Rattle.vr_space.specs.Known.{Known}
-use Rattle.vr_space.specs.Part.{IsOn, KeyedShape, Knows, OwnsChain, NumberedShape, Shape, StandsFor}
-use Rattle.vr_space.specs.Part.{part_no}
+use Rattle.vr_space.specs.Part.{IsOn, OwnsChain, Shape, StandsFor}
+use Rattle.vr_space.specs.Part.{held_by, owned_count, part_no}
 use Rattle.vr_space.proofs.CallerLemmas.{fewer-room, rest-sound}
 use Rattle.vr_undo.proofs.CallerLemmas.{stands-entries}
 use Rattle.vr_volume.specs.PutBack.{images_of, lengths_kept}
 use Rattle.vr_recover.specs.Recovered.{IsRecovered, IsWhole, KeepsAll, standing_all}
 use Rattle.vr_volume.specs.Volume.{Recovers}
 use Rattle.vr_volume.proofs.CallerLemmas.{catalog-whole, keep-less, recovers-same}
-use Rattle.vr_recover.specs.Found.{IsFound, IsPartReady, IsPlanned, areas_kept}
+use Rattle.vr_recover.specs.Found.{IsFound, IsPartReady, IsPlanned, areas_kept, held_any}
 use Rattle.vr_recover.specs.Opening.{AreOwnersBy, HasNoSplit, InArea, InCatalog, InImages, InLog}
 use Rattle.vr_recover.specs.Opening.{AreLaid, AreShapesOf, InPart, IsDamaged, IsHandedOut}
 use Rattle.vr_recover.specs.Opening.{OwnsAreas}
@@ -63,7 +63,7 @@ use Rattle.vr_recover.proofs.Attaching.{entry-then}
 use Rattle.vr_recover.proofs.Clearing.{parts-on, parts-past}
 use Rattle.vr_recover.proofs.Keeping.{all-more}
 use Rattle.vr_recover.proofs.NumberOrder.{shapes-lay}
-use Rattle.vr_recover.proofs.Owning.{owners-reached}
+use Rattle.vr_recover.proofs.Owning.{KnowsOwn, owners-reached}
 use Rattle.vr_recover.proofs.Recovery.{found-entries, found-recovers, recovered}
 use Rattle.vr_recover.proofs.Wholes.{recovers-whole, whole, whole-records}
 
@@ -358,7 +358,7 @@ owned-still geometry before parts owners shapes areas own = record {
       let was = part-was k (get_or parts k d) there in
       subst (λ (s : Shape). get_or owners area None ≡ Some (part_no s)) was.2
       (owned-at k was.0 was.1 area (has-was (shape_any was.0) (shape_any (get_or parts k d))
-      (known_any was.0) (known_any (get_or parts k d)) area was.2 was.3 has));
+      (known_any was.0) (known_any (get_or parts k d)) area was.3 has));
   only = λ part area is.
       let held = own.only part area is in
       let now = part-now held.at held.one held.there in
@@ -368,7 +368,7 @@ owned-still geometry before parts owners shapes areas own = record {
         there = now.1;
         number = ap part_no now.2 ∙ held.number;
         has = has-was (shape_any now.0) (shape_any held.one) (known_any now.0)
-            (known_any held.one) area now.2 now.3 held.has;
+            (known_any held.one) area now.3 held.has;
       };
   owns = λ k d below.
       let there = slice_get-get_or parts k d below in
@@ -381,7 +381,7 @@ owned-still geometry before parts owners shapes areas own = record {
     same-at : (xs ys : List AnyPart) → map shape_any xs ≡ map shape_any ys
         → areas_kept xs ≡ areas_kept ys → (k : ℕ) (one : AnyPart) → slice_get xs k ≡ Some one
         → (other : AnyPart) × (slice_get ys k ≡ Some other)
-        × (shape_any other ≡ shape_any one) × ((known_any other).areas ≡ (known_any one).areas)
+        × (shape_any other ≡ shape_any one) × (held_any other ≡ held_any one)
     same-at xs ys same kept k one there =
         let other = part-at ys k (shape_any one)
         (ap (λ (s : List Shape). slice_get s k) (sym same) ∙ slice_get-map shape_any xs k
@@ -389,11 +389,9 @@ owned-still geometry before parts owners shapes areas own = record {
           other.0,
           other.1,
           other.2,
-          some-list (sym (slice_get-map (λ (part : AnyPart). (known_any part).areas) ys k
-              ∙ ap (option_map (λ (part : AnyPart). (known_any part).areas)) other.1)
+          some-list (sym (slice_get-map held_any ys k ∙ ap (option_map held_any) other.1)
               ∙ ap (λ (s : List (List ℕ)). slice_get s k) (sym kept)
-              ∙ slice_get-map (λ (part : AnyPart). (known_any part).areas) xs k
-              ∙ ap (option_map (λ (part : AnyPart). (known_any part).areas)) there),
+              ∙ slice_get-map held_any xs k ∙ ap (option_map held_any) there),
         )
       where
         some-list : {x y : List ℕ} → Some x ≡ Some y → x ≡ y
@@ -401,24 +399,25 @@ owned-still geometry before parts owners shapes areas own = record {
 
     part-was : (k : ℕ) (one : AnyPart) → slice_get parts k ≡ Some one
         → (other : AnyPart) × (slice_get before k ≡ Some other)
-        × (shape_any other ≡ shape_any one) × ((known_any other).areas ≡ (known_any one).areas)
+        × (shape_any other ≡ shape_any one) × (held_any other ≡ held_any one)
     part-was k one there = same-at parts before shapes areas k one there
 
     part-now : (k : ℕ) (one : AnyPart) → slice_get before k ≡ Some one
         → (other : AnyPart) × (slice_get parts k ≡ Some other)
-        × (shape_any other ≡ shape_any one) × ((known_any other).areas ≡ (known_any one).areas)
+        × (shape_any other ≡ shape_any one) × (held_any other ≡ held_any one)
     part-now k one there = same-at before parts (sym shapes) (sym areas) k one there
 
-    has-was : (one other : Shape) (here there : Known) (area : ℕ) → one ≡ other
-        → here.areas ≡ there.areas → HasArea geometry other there area
+    has-was : (one other : Shape) (here there : Known) (area : ℕ)
+        → held_by one here ≡ held_by other there → HasArea geometry other there area
         → HasArea geometry one here area
-    has-was one other here there area same kept has =
+    has-was one other here there area kept has =
         subst (λ (list : List ℕ). Contains list area) (sym kept) has
 
     owns-was : (one other : Shape) (here there : Known) → one ≡ other
-        → here.areas ≡ there.areas → OwnsChain one here owners → OwnsChain other there owners
+        → held_by one here ≡ held_by other there → OwnsChain one here owners
+        → OwnsChain other there owners
     owns-was one other here there same kept owns =
-        subst (λ (s : Shape). OwnsChain s here owners) same owns
+        ap (λ (s : Shape). owned_count (part_no s) owners) (sym same) ∙ owns
         ∙ ap (λ (list : List ℕ). length list) kept
 
     owned-at : (k : ℕ) (one : AnyPart) → slice_get before k ≡ Some one
@@ -481,6 +480,7 @@ module _ (geometry : Geometry) (content : LogContent) (entries : List CatEntry)
         (rest-sound (shape_any part) (owner_of geometry owners) now ready.rests) ready.room;
     knows = ready.knows;
     no_split = ready.no_split;
+    no_move = ready.no_move;
   }
 
   pub opened-by : (number : ℕ) (log : LogNow) (kept : List BeforeImage) (a now : Seen)
@@ -514,8 +514,7 @@ module _ (geometry : Geometry) (content : LogContent) (entries : List CatEntry)
           owners_are = owners-reached geometry entries parts owners laid-of
               (owned-still geometry before parts owners same areas own) now
               (all-more (IsPartReady (owner_of geometry owners) kept now)
-              (λ (part : AnyPart). Knows (shape_any part) (known_any part) now)
-              (λ part one. one.knows) parts ready);
+              (KnowsOwn now) (λ part one. (one.knows, one.no_move)) parts ready);
           catalog = same-entries;
           rules = catalog-whole geometry (contents 0) (subst (IsCatalog geometry)
               (sym (had.recovers.back 0)) had.recovers.stands.catalog);

@@ -17,10 +17,11 @@ use Rattle.vr_types.specs.declared.geometry.Geometry.{Geometry}
 use Rattle.vr_types.specs.declared.unit.PartNo.{PartNo}
 use Rattle.vr_space.specs.Known.{Known}
 use Rattle.vr_space.specs.Owners.{Owners}
-use Rattle.vr_space.specs.Part.{IsSound, MayHold, Shape, item_of, part_no}
+use Rattle.vr_space.specs.Part.{IsSound, MayHold, Shape, held_by, item_of, part_no}
 use Rattle.vr_space.specs.Room.{Lengths}
-use Rattle.vr_space.proofs.CallerLemmas.{IsPartBlock, StaysPart, holds-less, knows-stays}
-use Rattle.vr_space.proofs.CallerLemmas.{rest-sound, rest-stays, room-stays, same-stays}
+use Rattle.vr_space.proofs.CallerLemmas.{IsPartBlock, StaysPart, held-same, holds-less}
+use Rattle.vr_space.proofs.CallerLemmas.{knows-stays, owns-none, rest-sound, rest-stays}
+use Rattle.vr_space.proofs.CallerLemmas.{room-stays, same-stays}
 use Rattle.vr_history.specs.State.{BeforeImage}
 use Rattle.vr_log.specs.LogNow.{HasLog, LogNow}
 use Rattle.vr_log.specs.declared.record.LogRecord.{LogRecord}
@@ -44,8 +45,9 @@ module _ (shape : Shape) (owners : Owners) (a b : Seen) (stays : StaysPart shape
     room = room-stays a b shape owners kept stays (rest-sound shape owners a ready.rests)
         ready.room;
     knows = knows-stays a b shape owners known stays (rest-sound shape owners a ready.rests) left
-        ready.knows;
+        (owns-none shape owners known ready.no_move) ready.knows;
     no_split = ready.no_split;
+    no_move = ready.no_move;
   }
 
   module _ (sound : IsSound shape owners a) where
@@ -74,6 +76,15 @@ module _ (shape : Shape) (owners : Owners) (a b : Seen) (stays : StaysPart shape
         → HasContent shape content b
     content-stays content has place found held =
         has place found (holds-less shape owners a b.may sound fewer place found held)
+
+-- ---- what a part holds
+
+-- A part that keeps its shape, its areas and the split of an area under way holds what it held.
+pub holds-still : (shape other : Shape) (known later : Known) → other ≡ shape
+    → later.areas ≡ known.areas → later.move ≡ known.move
+    → held_by other later ≡ held_by shape known
+holds-still shape other known later same areas moves =
+    ap (λ (s : Shape). held_by s later) same ∙ held-same shape known later areas moves
 
 -- ---- all parts
 

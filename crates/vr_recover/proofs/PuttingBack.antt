@@ -12,7 +12,7 @@ use Rattle.std.proofs.lemmas.List.Elements.{All-weaker, filter_map-append}
 use Rattle.std.proofs.lemmas.Slice.Eq.{bytes_eq-Decides}
 use Rattle.vr_types.specs.Blocks.{Forced, Keeps}
 use Rattle.vr_types.specs.Content.{Content, Item, Standing, item_at, record_of}
-use Rattle.vr_types.specs.Image.{Image, block_at}
+use Rattle.vr_types.specs.Image.{Image}
 use Rattle.vr_types.specs.Seen.{Seen}
 use Rattle.vr_types.specs.declared.unit.PartNo.{PartNo}
 use Rattle.vr_types.specs.declared.unit.Unit.{Unit as UnitOfRecovery}
@@ -23,7 +23,7 @@ use Rattle.vr_space.specs.Keyed.{entry_in}
 use Rattle.vr_space.specs.Known.{Known}
 use Rattle.vr_space.specs.Numbered.{left_in}
 use Rattle.vr_space.specs.Room.{Lengths, Range}
-use Rattle.vr_space.specs.Split.{AreaSplit, keyed_stage, stage_by, stage_in}
+use Rattle.vr_space.specs.Split.{AreaSplit, MoveNow, keyed_stage, stage_by, stage_in}
 use Rattle.vr_space.specs.Part.{CanSet, DueMore, IsFirm, IsSound, KeyedShape, NumberedShape}
 use Rattle.vr_space.specs.Part.{SetsOne, Shape, item_of, left_by, part_no, stage_of}
 use Rattle.vr_space.proofs.CallerLemmas.{can-set-kept, firm-due, forced-firm, left-none}
@@ -58,27 +58,28 @@ no-stage-in None = refl
 no-stage-in (Some at) = refl
 
 no-stage-by : (part : KeyedChain) (image : Image) (place : List ℕ) (area : Option ℕ)
-    → stage_by part None image place area ≡ None
+    → stage_by part None None image place area ≡ None
 no-stage-by part image place None = refl
 no-stage-by part image place (Some area) = no-stage-in (entry_in (head_in part image area) place)
 
--- with no split under way no stage comes before a change
+-- with no split of an interval or of an area under way no stage comes before a change
 no-stage : (shape : Shape) (known : Known) (image : Image) (place : List ℕ)
-    → known.split ≡ None → stage_of shape known image place ≡ None
-no-stage (KeyedShape part) known image place none =
-    ap (λ (split : Option AreaSplit). keyed_stage part split image place) none
+    → known.split ≡ None → known.move ≡ None → stage_of shape known image place ≡ None
+no-stage (KeyedShape part) known image place none still =
+    ap (λ (split : Option AreaSplit). keyed_stage part split known.move image place) none
+    ∙ ap (λ (move : Option MoveNow). keyed_stage part None move image place) still
     ∙ no-stage-by part image place (area_for part image place)
-no-stage (NumberedShape part) known image place none = refl
+no-stage (NumberedShape part) known image place none still = refl
 
 -- a record may be put back for which room of its length is kept, and any may be taken away
 pub can-go-back : (shape : Shape) (known : Known) (image : Image) (kept : Lengths)
-    (place : List ℕ) (old : Option (List ℕ)) → known.split ≡ None → IsKeptAt kept place old
-    → CanSet shape known image kept place old
-can-go-back shape known image kept place None none room =
-    record { no_stage = no-stage shape known image place none; room = tt }
-can-go-back shape known image kept place (Some bytes) none room =
+    (place : List ℕ) (old : Option (List ℕ)) → known.split ≡ None → known.move ≡ None
+    → IsKeptAt kept place old → CanSet shape known image kept place old
+can-go-back shape known image kept place None none still room =
+    record { no_stage = no-stage shape known image place none still; room = tt }
+can-go-back shape known image kept place (Some bytes) none still room =
     can-set-kept shape known image kept place bytes (length bytes) room
-    (goes-back shape (length bytes)) (no-stage shape known image place none)
+    (goes-back shape (length bytes)) (no-stage shape known image place none still)
 
 -- ---- one before-image
 

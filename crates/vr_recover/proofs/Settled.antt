@@ -1,7 +1,7 @@
 -- Where a crash leaves what is read alone, a volume that recovers is safe.
 use Rattle.std.proofs.Common.{◌≡◌, ◌<◌, ℕ, zero, suc, Bool, true, false, List, [], ◌∷◌}
 use Rattle.std.proofs.Common.{length, refl, sym, ap, subst, ◌∙◌, arith, Option, Some, None, All}
-use Rattle.std.proofs.Common.{⊎_elim}
+use Rattle.std.proofs.Common.{⊎_elim, inl}
 use Rattle.std.specs.Prelude.{IfSome, cond, nat_eq, max}
 use Rattle.std.specs.List.{cons_option, filter_map}
 use Rattle.std.specs.Option.{option_and_then}
@@ -32,7 +32,8 @@ use Rattle.vr_space.specs.Keyed.{IsKeyedSound, KeepsRoom, Keyed, entries_of, ent
 use Rattle.vr_space.specs.Keyed.{lengths_of}
 use Rattle.vr_space.specs.Keyed.{low_of, range_of}
 use Rattle.vr_space.specs.Met.{IsChainMet, Met}
-use Rattle.vr_space.specs.Split.{AreaSplit}
+use Rattle.vr_space.specs.Moves.{IsPastClaim, MoveUnderWay}
+use Rattle.vr_space.specs.Split.{AreaSplit, MoveNow}
 use Rattle.vr_space.specs.UnderWay.{KeyedUnderWay}
 use Rattle.vr_space.specs.Part.{HasKeptRoom, HasRoom, IsAtRest, IsOn, IsPlaceOf, IsRecordOf}
 use Rattle.vr_space.specs.Part.{IsSound, KeyedShape, Knows, MayHold, NumberedShape, Shape}
@@ -257,7 +258,12 @@ forced-room (NumberedShape part) owners now on forced content stands stays kept 
 pub attached-knows : (shape : Shape) (known : Known) (now : Seen)
     → IsAttachedWith shape known now.cur → Knows shape known now
 attached-knows (KeyedShape part) known now attached = record {
-  way = subst (λ (split : Option AreaSplit). KeyedUnderWay part split now) (sym attached.0) tt;
+  way = (
+    subst (λ (split : Option AreaSplit). KeyedUnderWay part split now) (sym attached.0) tt,
+    subst (λ (move : Option MoveNow). MoveUnderWay part move now) (sym attached.3) tt,
+    inl attached.0,
+    subst IsPastClaim (sym attached.3) tt,
+  );
   blocks = (
     attached.2,
     subst (λ (met : List Met). All (IsChainMet part now.cur) met) (sym attached.1)
@@ -271,6 +277,11 @@ attached-no-split : (shape : Shape) (known : Known) (image : Image)
     → IsAttachedWith shape known image → known.split ≡ None
 attached-no-split (KeyedShape part) known image attached = attached.0
 attached-no-split (NumberedShape part) known image attached = attached.0
+
+pub attached-no-move : (shape : Shape) (known : Known) (image : Image)
+    → IsAttachedWith shape known image → known.move ≡ None
+attached-no-move (KeyedShape part) known image attached = attached.3
+attached-no-move (NumberedShape part) known image attached = attached.3
 
 -- ---- what is kept
 
@@ -411,6 +422,7 @@ module _ (geometry : Geometry) (number : ℕ) (now : Seen) (recovered : ℕ → 
             room = room-by (part_no shape).0 shape on laid;
             knows = attached-knows shape known now attached;
             no_split = attached-no-split shape known now.cur attached;
+            no_move = attached-no-move shape known now.cur attached;
           };
           firm = λ place found held. item-here shape owners now forced sound place found held;
           fits = All-weaker (CanPutBack (shapes_by geometry is.log is.contents)) (FitsPart shape)

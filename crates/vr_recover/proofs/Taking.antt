@@ -1,7 +1,7 @@
 -- Which areas are another part's as the walk over the parts comes to one, and what is shown of it
 -- by them.
-use Rattle.std.proofs.Common.{◌≡◌, ◌≢◌, ◌⊎◌, ⊎_elim, inl, inr, ℕ, zero, suc, ◌<◌, List, []}
-use Rattle.std.proofs.Common.{◌∷◌, Option, Some, None, refl, sym, ap, subst, ◌∙◌, arith}
+use Rattle.std.proofs.Common.{◌≡◌, ◌⊎◌, ⊎_elim, inl, inr, ℕ, zero, suc, ◌<◌, List, []}
+use Rattle.std.proofs.Common.{Option, Some, None, refl, sym, ap, subst, ◌∙◌, arith}
 use Rattle.std.proofs.Common.{get_or, map, take}
 use Rattle.std.specs.Prelude.{Contains, slice_get}
 use Rattle.std.specs.List.Sorted.{IsNonDecreasingBy}
@@ -29,7 +29,7 @@ use Rattle.vr_space.specs.Part.{KeyedShape, NumberedShape, Shape, Stands, part_n
 use Rattle.vr_space.specs.Rosters.{Numbered, areas_from, chain_of}
 use Rattle.vr_recover.specs.Found.{AllStand, AreAdded, AreAttached, AreKnown, MayAdd}
 use Rattle.vr_recover.specs.Opening.{AsFirst, AsReached, IsEntryShown, IsHeldBy, IsTaken, number_of}
-use Rattle.vr_recover.proofs.Adding.{attached-none, head-is, part-at}
+use Rattle.vr_recover.proofs.Adding.{attached-none, head-is, held-none, part-at}
 use Rattle.vr_recover.proofs.Linked.{begins-areas, linked-to, take-more}
 use Rattle.vr_recover.proofs.NumberOrder.{before-laid, laid-before, some-laid, told-before}
 use Rattle.vr_recover.proofs.Shapes.{entry-laid, laid-there, shape-laid}
@@ -98,7 +98,8 @@ has-reaches : (geometry : Geometry) (shape : Shape) (known : Known) (image : Ima
     → IsAttachedWith shape known image → HasArea geometry shape known area
     → ReachesArea geometry shape image area
 has-reaches geometry (KeyedShape part) known image area attached has =
-    subst (λ (areas : List ℕ). Contains areas area) attached.2.areas_are has
+    subst (λ (areas : List ℕ). Contains areas area)
+    (held-none (KeyedShape part) known attached.3 ∙ attached.2.areas_are) has
 has-reaches geometry (NumberedShape part) known image area attached has =
     subst (λ (areas : List ℕ). Contains areas area) attached.2.chain.areas has
 
@@ -106,7 +107,8 @@ reaches-has : (geometry : Geometry) (shape : Shape) (known : Known) (image : Ima
     → IsAttachedWith shape known image → ReachesArea geometry shape image area
     → HasArea geometry shape known area
 reaches-has geometry (KeyedShape part) known image area attached reaches =
-    subst (λ (areas : List ℕ). Contains areas area) (sym attached.2.areas_are) reaches
+    subst (λ (areas : List ℕ). Contains areas area)
+    (sym (held-none (KeyedShape part) known attached.3 ∙ attached.2.areas_are)) reaches
 reaches-has geometry (NumberedShape part) known image area attached reaches =
     subst (λ (areas : List ℕ). Contains areas area) (sym attached.2.chain.areas) reaches
 

@@ -13,7 +13,7 @@ use Rattle.vr_types.specs.declared.geometry.Geometry.{Geometry}
 use Rattle.vr_types.specs.declared.unit.PartNo.{PartNo}
 use Rattle.vr_space.specs.Owners.{Owners}
 use Rattle.vr_space.specs.Part.{IsOn, IsPlaceOf, OwnsChain, Shape, Stands, StandsFor, owned_count}
-use Rattle.vr_space.specs.Part.{part_no}
+use Rattle.vr_space.specs.Part.{held_by, part_no}
 use Rattle.vr_catalog.specs.Catalog.{cluster_definition, entries_in, parts_in}
 use Rattle.vr_catalog.specs.Definition.{catalog_definition}
 use Rattle.vr_catalog.specs.declared.definition.Definition.{Definition}
@@ -311,9 +311,13 @@ abbrev pub IsPartReady : Owners → List BeforeImage → Seen → AnyPart → Ty
 IsPartReady owners images now part = IsReady (shape_any part) owners (known_any part)
     (lengths_kept images (part_no (shape_any part)).0) now
 
--- the areas that parts keep in memory
+-- the areas that a part holds, as it keeps them in memory
+abbrev pub held_any : AnyPart → List ℕ
+held_any part = held_by (shape_any part) (known_any part)
+
+-- those of each of these parts
 abbrev pub areas_kept : List AnyPart → List (List ℕ)
-areas_kept parts = map (λ (part : AnyPart). (known_any part).areas) parts
+areas_kept parts = map held_any parts
 
 -- a record of the log, where it is a before-image by f, is the only one of its place among it and
 -- these

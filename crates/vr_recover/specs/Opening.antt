@@ -244,9 +244,9 @@ pub record AreOwnersBy (geometry : Geometry) (parts : List AnyPart)
       → IsHeldBy geometry parts part area
   pub owns : All (λ (part : AnyPart). OwnsChain (shape_any part) (known_any part) owners) parts
 
--- a part has no split under way
+-- a part has no split of an interval or of an area under way
 abbrev pub HasNoSplit : AnyPart → Type 0
-HasNoSplit part = (known_any part).split ≡ None
+HasNoSplit part = ((known_any part).split ≡ None) × ((known_any part).move ≡ None)
 
 -- Each of these shapes is laid by the entries as its part, and each part that they lay is one of
 -- them.

@@ -27,13 +27,15 @@ use Rattle.vr_recover.specs.Recovered.{HasNoMore, IsBackOf}
 use Rattle.vr_volume.specs.Safe.{IsSafe}
 
 -- Between two calls that put before-images back into it: the part is at rest, in the blocks that
--- these owners give it, with no split under way, and has room for what is kept.
+-- these owners give it, with no split of an interval or of an area under way, and has room for what
+-- is kept.
 pub record IsReady (shape : Shape) (owners : Owners) (known : Known) (kept : Lengths) (now : Seen)
     : Type 0 where
   pub rests : IsAtRest shape owners now
   pub room : HasKeptRoom shape kept now
   pub knows : Knows shape known now
   pub no_split : known.split ≡ None
+  pub no_move : known.move ≡ None
 
 -- room is kept for the record at the place, of its length, or there is none
 abbrev pub IsKeptAt : Lengths → List ℕ → Option (List ℕ) → Type 0
@@ -176,9 +178,9 @@ pub record IsSettled (number : ℕ) (owners : Owners) (log : LogNow) (contents :
   pub covered : All (IsCovered shapes) (images_of log.records)
 
 -- A part as it is opened: its blocks are there, past the log; it is at rest, in the blocks that
--- these owners give it, with no split under way and whatever it knows as it is attached, and has
--- room for what is kept; a crash leaves each of its places alone; and each before-image of it may
--- be put back.
+-- these owners give it, with no split of an interval or of an area under way and whatever it knows
+-- as it is attached, and has room for what is kept; a crash leaves each of its places alone; and
+-- each before-image of it may be put back.
 pub record IsOpenedPart (geometry : Geometry) (owners : Owners) (images : List BeforeImage)
     (shape : Shape) (now : Seen) : Type 0 where
   pub on : IsOn shape now

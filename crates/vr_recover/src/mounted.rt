@@ -82,6 +82,7 @@ fn list<B: Blocks>(alloc: Global, blocks: &mut B, part: &mut Keyed) -> Result<Ve
     requires knows { IsTrue B.tells
         → KnowsAreas part.old.part part.old.areas part.old.ends (B.seen blocks.old).cur }
     requires split { part.old.split ≡ None }
+    requires moves { part.old.move ≡ None }
     requires met { part.old.met ≡ [] }
     ensures records { IsTrue B.tells → IfOk result (λ found.
         AreRecords (KeyedShape part.old.part) (B.seen blocks.old).cur found.items) }

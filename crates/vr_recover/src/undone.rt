@@ -95,6 +95,7 @@ fn set_forced<B: Blocks, P: Part, K: Kept>(
     ensures cause { HasCause (B.faults blocks.old) (B.faults blocks.new) result }
     ensures shape { P.shape part.new ≡ P.shape part.old }
     ensures split { (P.known part.new).split ≡ (P.known part.old).split }
+    ensures moves { (P.known part.new).move ≡ (P.known part.old).move }
     ensures areas { (P.known part.new).areas ≡ (P.known part.old).areas }
 {
     set_free(blocks, part, kept, place, bytes)?;
@@ -115,6 +116,7 @@ fn put_record<B: Blocks, P: Part, K: Kept>(
     requires on { IsOn (P.shape part.old) (B.seen blocks.old) }
     requires number { part_no (P.shape part.old) ≡ number }
     requires split { (P.known part.old).split ≡ None }
+    requires moves { (P.known part.old).move ≡ None }
     requires sound { log.now.broken ≡ false }
     requires fits { IfSome (image_in (live_in log.now.records) rec.now)
         (FitsPart (P.shape part.old)) }
@@ -153,6 +155,7 @@ fn put_record<B: Blocks, P: Part, K: Kept>(
     ensures cause { HasCause (B.faults blocks.old) (B.faults blocks.new) result }
     ensures shape { P.shape part.new ≡ P.shape part.old }
     ensures split { (P.known part.new).split ≡ (P.known part.old).split }
+    ensures moves { (P.known part.new).move ≡ (P.known part.old).move }
     ensures areas { (P.known part.new).areas ≡ (P.known part.old).areas }
 {
     if let LogRecord::Before {
@@ -184,6 +187,7 @@ pub(crate) fn put_back<B: Blocks, P: Part, K: Kept>(
     requires on { IsOn (P.shape part.old) (B.seen blocks.old) }
     requires number { part_no (P.shape part.old) ≡ number }
     requires split { (P.known part.old).split ≡ None }
+    requires moves { (P.known part.old).move ≡ None }
     requires sound { log.now.broken ≡ false }
     requires records { records.now ≡ log.now.records }
     requires fits { All (FitsPart (P.shape part.old)) (images_of log.now.records) }
@@ -219,6 +223,7 @@ pub(crate) fn put_back<B: Blocks, P: Part, K: Kept>(
     ensures cause { HasCause (B.faults blocks.old) (B.faults blocks.new) result }
     ensures shape { P.shape part.new ≡ P.shape part.old }
     ensures split { (P.known part.new).split ≡ (P.known part.old).split }
+    ensures moves { (P.known part.new).move ≡ (P.known part.old).move }
     ensures areas { (P.known part.new).areas ≡ (P.known part.old).areas }
 {
     for rec in records {

@@ -1,6 +1,7 @@
 //! Browses while another deck changes records around the place where they stand: for each kind of
 //! data set and each change a line with the replies to both decks, by integrity.
 
+use crate::areas::TWO;
 use crate::gates::StrictTurns;
 use crate::jobs::{add_data, run_text};
 use crate::replies::say_browse;
@@ -11,7 +12,7 @@ use std::thread::Threads;
 use vr_case_volumes::{Answer, MAXIMUM, SMALL, Stop, add_lines, entries_of, say, volume_of};
 use vr_device::MemoryDevice;
 use vr_history::Entry;
-use vr_types::Kind;
+use vr_types::{Geometry, Kind};
 
 /// What deck 1 does between two reads of deck 2.
 #[derive(Clone, Copy)]
@@ -20,6 +21,8 @@ pub enum Act {
     Add,
     /// Adds a record of 120 bytes.
     AddLong,
+    /// Adds a record of 120 bytes for which an area is split.
+    Grow,
     Erase,
     Update,
     /// Adds a record and backs it out, and between the next two reads adds another.
@@ -52,8 +55,9 @@ impl Change {
 }
 
 /// Those of a key-sequenced data set with records 1, 3, 5 and 7, which fill an interval but for 22
-/// bytes.
-pub const KEYED: [Row; 9] = [
+/// bytes; for the last three with records 1 to 23, of which 1 to 7 are in the first area, and 9 to
+/// 15 and 17 to 23 fill the second.
+pub const KEYED: [Row; 12] = [
     ("added before", 3, Act::Add, 2),
     ("added after", 3, Act::Add, 4),
     ("erased before", 3, Act::Erase, 1),
@@ -63,6 +67,9 @@ pub const KEYED: [Row; 9] = [
     ("updated after", 3, Act::Update, 5),
     ("split before", 3, Act::AddLong, 2),
     ("split after", 3, Act::AddLong, 6),
+    ("an area split before", 17, Act::Grow, 10),
+    ("an area split there", 15, Act::Grow, 10),
+    ("an area split after", 15, Act::Grow, 18),
 ];
 
 /// Those of a relative data set with records 1, 3, 5 and 7, whose first area has 28 slots.
@@ -133,13 +140,21 @@ fn add_get(text: &mut String, kind: Kind, number: u32) -> Answer {
     say(text, " UPD\n")
 }
 
-/// Deck 3 adds the records of a data set, up to the one from which deck 2 reads.
-fn add_records(text: &mut String, kind: Kind, from: u32) -> Answer {
+/// The last record that stands where a change is to be made.
+fn last_of(kind: Kind, change: Change) -> u32 {
+    match (kind, change.act) {
+        (_, Act::Grow) => 23,
+        (Kind::Entry, _) => change.from.max(4),
+        _ => 7,
+    }
+}
+
+/// Deck 3 adds the records of a data set.
+fn add_records(text: &mut String, kind: Kind, last: u32) -> Answer {
     add_lines(
         text,
         &["//A EXEC PGM=VRMDECK", "//DECK3 DD *", "FILE F VRM.BROWSED"],
     )?;
-    let last = from.max(if kind == Kind::Entry { 4 } else { 7 });
     for number in 1..last.saturating_add(1) {
         if kind == Kind::Entry || number % 2 == 1 {
             add_new(text, kind, number, 'a', LONG)?;
@@ -162,7 +177,7 @@ fn add_change(text: &mut String, kind: Kind, change: Change) -> Answer {
     let number = change.of;
     match change.act {
         Act::Add => add_new(text, kind, number, 'b', 1)?,
-        Act::AddLong => add_new(text, kind, number, 'b', LONG)?,
+        Act::AddLong | Act::Grow => add_new(text, kind, number, 'b', LONG)?,
         Act::Erase => {
             add_get(text, kind, number)?;
             add_lines(text, &["ERASE F"])?;
@@ -198,14 +213,22 @@ fn add_reading(text: &mut String, kind: Kind, from: u32, way: &str) -> Answer {
 
 /// Adds the lines of the job.
 fn add_job(text: &mut String, kind: Kind, change: Change, end: &str, way: &str) -> Answer {
-    add_records(text, kind, change.from)?;
+    add_records(text, kind, last_of(kind, change))?;
     add_changing(text, kind, change, end)?;
     add_reading(text, kind, change.from, way)
 }
 
+/// The shape of volume 0: a key-sequenced data set has two intervals an area.
+fn shape_of(kind: Kind) -> Geometry {
+    match kind {
+        Kind::Keyed => TWO,
+        Kind::Entry | Kind::Relative => SMALL,
+    }
+}
+
 /// Volume 0 with VRM.BROWSED of this kind, and those by which the decks are held.
 fn shelf_of(alloc: Global, kind: Kind) -> Result<Vec<MemoryDevice>, Stop> {
-    let browsed = volume_of(alloc, SMALL, 0, "VRM.BROWSED", kind, MAXIMUM)?;
+    let browsed = volume_of(alloc, shape_of(kind), 0, "VRM.BROWSED", kind, MAXIMUM)?;
     let one = volume_of(alloc, SMALL, 1, "VRM.ONE", Kind::Keyed, MAXIMUM)?;
     let two = volume_of(alloc, SMALL, 2, "VRM.TWO", Kind::Keyed, MAXIMUM)?;
     Ok(vec![in alloc; browsed, one, two]?)

@@ -86,11 +86,13 @@ impl Gate for StrictTurns {
 }
 
 /// Holds deck 1 after so many events of its request until deck 2 had the latch of volume 1 twice,
-/// and deck 2, with that latch, until deck 1 is there.
+/// and deck 2, with that latch, until deck 1 is there. It counts the events of both that didn't
+/// answer their request, without those of the COMMITs at their ends, whose line is 0.
 #[derive(Drop)]
 pub struct BetweenEvents {
     events: u32,
     done: Passes,
+    others: Passes,
     asked: Passes,
 }
 
@@ -100,20 +102,33 @@ impl BetweenEvents {
         BetweenEvents {
             events,
             done: Passes::new(),
+            others: Passes::new(),
             asked: Passes::new(),
         }
+    }
+
+    /// How many events of deck 1 didn't answer a request.
+    pub fn events_of_first(&self) -> u32 {
+        self.done.count()
+    }
+
+    /// How many of deck 2 didn't.
+    pub fn events_of_second(&self) -> u32 {
+        self.others.count()
     }
 }
 
 impl Gate for BetweenEvents {
     fn pass(&self, at: Spot) {
         match at {
+            Spot::Between { line: 0, .. } => {}
             Spot::Between { deck: 1, .. } => {
                 self.done.raise();
                 if self.done.is_at(self.events) {
                     self.asked.wait(2);
                 }
             }
+            Spot::Between { deck: 2, .. } => self.others.raise(),
             Spot::Holding { deck: 2, volume: 1 } => {
                 self.asked.raise();
                 self.done.wait(self.events);

@@ -5,6 +5,7 @@
 //! promises is that it is safe; what the lines show is tested.
 #![tactic(auto)]
 
+mod areas;
 mod browses;
 mod full_log;
 mod gates;
@@ -13,6 +14,7 @@ mod jobs;
 mod listings;
 mod replies;
 
+use areas::Meanwhile;
 use browses::{Change, ENTRY, KEYED, RELATIVE, Row};
 use std::alloc::{AllocError, Global};
 use std::io;
@@ -29,18 +31,27 @@ enum Case {
     FullLog,
     /// A deck is held after so many events of its request.
     After(u32),
+    /// A deck is held after so many stages of the split of an area, while another does this.
+    InArea(u32, Meanwhile),
     SameListing,
     BothHeld,
 }
 
 /// The cases, in the order of their lines.
-const CASES: [Case; 8] = [
+const CASES: [Case; 15] = [
     Case::HeldRecord,
     Case::Browsed,
     Case::FullLog,
     Case::After(1),
     Case::After(2),
     Case::After(3),
+    Case::InArea(1, Meanwhile::Asks),
+    Case::InArea(2, Meanwhile::Asks),
+    Case::InArea(3, Meanwhile::Asks),
+    Case::InArea(4, Meanwhile::Asks),
+    Case::InArea(2, Meanwhile::AddsShort),
+    Case::InArea(2, Meanwhile::AddsLong),
+    Case::InArea(2, Meanwhile::AddsElsewhere),
     Case::SameListing,
     Case::BothHeld,
 ];
@@ -108,8 +119,22 @@ fn name_of(case: Case) -> &'static str {
         Case::After(1) => "after one event",
         Case::After(2) => "after two events",
         Case::After(_) => "after three events",
+        Case::InArea(stages, does) => name_in_area(stages, does),
         Case::SameListing => "one listing",
         Case::BothHeld => "two volumes at once",
+    }
+}
+
+/// What precedes the colon where a deck is held in the midst of the split of an area.
+fn name_in_area(stages: u32, does: Meanwhile) -> &'static str {
+    match (does, stages) {
+        (Meanwhile::Asks, 1) => "area claimed",
+        (Meanwhile::Asks, 2) => "interval copied",
+        (Meanwhile::Asks, 3) => "area linked",
+        (Meanwhile::Asks, _) => "head switched",
+        (Meanwhile::AddsShort, _) => "meanwhile a short record",
+        (Meanwhile::AddsLong, _) => "meanwhile a long record",
+        (Meanwhile::AddsElsewhere, _) => "meanwhile elsewhere",
     }
 }
 
@@ -120,6 +145,7 @@ fn answer<R: Threads + Wait + Sync>(rt: &R, alloc: Global, case: Case, out: &mut
         Case::Browsed => holds::browsed(rt, alloc, out),
         Case::FullLog => full_log::full_log(rt, alloc, out),
         Case::After(events) => holds::between_events(rt, alloc, events, out),
+        Case::InArea(stages, does) => areas::between_stages(rt, alloc, stages, does, out),
         Case::SameListing => listings::same_listing(rt, alloc, out),
         Case::BothHeld => holds::both_held(rt, alloc, out),
     }

@@ -15,9 +15,9 @@ use Rattle.vr_space.specs.declared.room.Room.{Room}
 use Rattle.vr_space.specs.declared.room.Room.TheVariants.{Ready, NoSpace, Stage}
 use Rattle.vr_space.specs.Room.{Lengths, length_at}
 use Rattle.vr_space.specs.Known.{Known}
-use Rattle.vr_space.specs.Split.{AreaSplit, area_fits, area_stage, fits_by, free_interval}
-use Rattle.vr_space.specs.Split.{keyed_room_by, room_after, room_by, room_by_split, split_in}
-use Rattle.vr_space.specs.Split.{stage_by, stage_under}
+use Rattle.vr_space.specs.Split.{AreaSplit, MoveNow, area_fits, area_stage, can_grow, first_stage}
+use Rattle.vr_space.specs.Split.{fits_by, free_interval, keyed_room_by, move_stage, room_after}
+use Rattle.vr_space.specs.Split.{room_by, room_by_split, split_in, stage_by, stage_under}
 use Rattle.vr_space.specs.Keyed.{IsKeyedSound, Keyed, KeyedStandsFor, entries_of, low_of}
 use Rattle.vr_space.specs.AreaCalls.{item_here}
 use Rattle.vr_space.specs.Areas.{ChainStaysIn, IsChainSound, IsOwnedArea, KeyedChain, area_for}
@@ -189,7 +189,7 @@ numbered-stand part owners now sound image left =
     )
 
 -- each image stands for a content, in blocks of the part alone,
-sound-stands : (shape : Shape) (owners : Owners) (now : Seen) → IsSound shape owners now
+pub sound-stands : (shape : Shape) (owners : Owners) (now : Seen) → IsSound shape owners now
     → (image : Image) → IsImageOn (InPart shape owners) now.count now.may image
     → Stands shape image × StaysIn shape owners image
 sound-stands (KeyedShape part) owners now sound image left =
@@ -284,10 +284,17 @@ ready-by : (fits : Bool) (other : Room) → (other ≡ Ready → ⊥) → room_b
 ready-by true other never is = refl
 ready-by false other never is = absurd (never is)
 
-never-ready : (stage : Option StageKind) (free : Option ℕ) → room_by_split stage free ≡ Ready → ⊥
-never-ready (Some stage) free is = cc
-never-ready None (Some interval) is = cc
-never-ready None None is = cc
+never-ready : (stage : Option StageKind) (free : Option ℕ) (grows : Bool)
+    → room_by_split stage free grows ≡ Ready → ⊥
+never-ready (Some stage) free grows is = cc
+never-ready None (Some interval) grows is = cc
+never-ready None None true is = cc
+never-ready None None false is = cc
+
+-- no stage comes before a place of an area where neither split has one there
+none-first : (move split : Option StageKind) → move ≡ None → split ≡ None
+    → first_stage move split ≡ None
+none-first move split none is = ap (λ (stage : Option StageKind). first_stage stage split) none ∙ is
 
 chain-ready : (fits used : Bool) (need free : ℕ) → chain_room_by fits used need free ≡ Ready
     → IsTrue fits
@@ -299,18 +306,21 @@ chain-ready false false need free is = absurd (by_enough (nat_le need free) is)
     by_enough true is = cc
     by_enough false is = cc
 
-keyed-ready : (part : KeyedChain) (split : Option AreaSplit) (image : Image) (kept : Lengths)
-    (place : List ℕ) (n : ℕ) (found : Option ℕ)
-    → keyed_room_by part split image kept place n found ≡ Ready
-    → (stage_by part split image place found ≡ None)
+keyed-ready : (part : KeyedChain) (split : Option AreaSplit) (move : Option MoveNow)
+    (image : Image) (free : ℕ) (kept : Lengths) (place : List ℕ) (n : ℕ) (found : Option ℕ)
+    → keyed_room_by part split move image free kept place n found ≡ Ready
+    → (stage_by part split move image place found ≡ None)
     × IsTrue (fits_by part image kept place n found)
-keyed-ready part split image kept place n None is = absurd cc
-keyed-ready part split image kept place n (Some area) is =
+keyed-ready part split move image free kept place n None is = absurd cc
+keyed-ready part split move image free kept place n (Some area) is =
     let one = area_of part area in
-    let both = ready-after (area_stage one (split_in split area) image place) _ is in (
-      both.0,
+    let stage = area_stage one (split_in split area) image place in
+    let moved = ready-after (move_stage move area) _ is in
+    let both = ready-after stage _ moved.1 in (
+      none-first (move_stage move area) stage moved.0 both.0,
       ready-by (area_fits one image kept place n) _
-          (never-ready (stage_under split) (free_interval one (block_at image one.head))) both.1,
+          (never-ready (stage_under split move) (free_interval one (block_at image one.head))
+          (can_grow free (block_at image one.head))) both.1,
     )
 
 -- a record that room is ready for may be set
@@ -318,7 +328,7 @@ pub ready-can : (shape : Shape) (known : Known) (image : Image) (free : ℕ)
     (kept : Lengths) (place : List ℕ) (n : ℕ) → room_of shape known image free kept place n ≡ Ready
     → (stage_of shape known image place ≡ None) × IsTrue (fits_at shape known image kept place n)
 ready-can (KeyedShape part) known image free kept place n is =
-    keyed-ready part known.split image kept place n (area_for part image place) is
+    keyed-ready part known.split known.move image free kept place n (area_for part image place) is
 ready-can (NumberedShape part) known image free kept place n is = (
   refl,
   chain-ready (numbered_fits part known.tail image place n) (has_interval part image place)
@@ -334,17 +344,22 @@ can-set shape known image free kept place bytes is =
     record { no_stage = both.0; room = inl both.1 }
 
 no-stage-after : (stage : Option StageKind) (other : Room) (need left : ℕ)
-    → room_after stage other ≡ NoSpace need left → stage ≡ None
-no-stage-after None other need left is = refl
+    → room_after stage other ≡ NoSpace need left
+    → (stage ≡ None) × (other ≡ NoSpace need left)
+no-stage-after None other need left is = (refl, is)
 no-stage-after (Some stage) other need left is = absurd cc
 
-keyed-full : (part : KeyedChain) (split : Option AreaSplit) (image : Image) (kept : Lengths)
-    (place : List ℕ) (n : ℕ) (found : Option ℕ) (need left : ℕ)
-    → keyed_room_by part split image kept place n found ≡ NoSpace need left
-    → stage_by part split image place found ≡ None
-keyed-full part split image kept place n None need left is = refl
-keyed-full part split image kept place n (Some area) need left is =
-    no-stage-after (area_stage (area_of part area) (split_in split area) image place) _ need left is
+keyed-full : (part : KeyedChain) (split : Option AreaSplit) (move : Option MoveNow)
+    (image : Image) (free : ℕ) (kept : Lengths) (place : List ℕ) (n : ℕ) (found : Option ℕ)
+    (need left : ℕ)
+    → keyed_room_by part split move image free kept place n found ≡ NoSpace need left
+    → stage_by part split move image place found ≡ None
+keyed-full part split move image free kept place n None need left is = refl
+keyed-full part split move image free kept place n (Some area) need left is =
+    let stage = area_stage (area_of part area) (split_in split area) image place in
+    let moved = no-stage-after (move_stage move area) _ need left is in
+    none-first (move_stage move area) stage moved.0
+    (no-stage-after stage _ need left moved.1).0
 
 -- Where room is ready, or there is no space, no stage comes before the place.
 pub room-no-stage : (shape : Shape) (known : Known) (image : Image) (free : ℕ)
@@ -354,8 +369,8 @@ pub room-no-stage : (shape : Shape) (known : Known) (image : Image) (free : ℕ)
     → stage_of shape known image place ≡ None
 room-no-stage (KeyedShape part) known image free kept place n need left = ⊎_elim
     (λ ready. (ready-can (KeyedShape part) known image free kept place n ready).0)
-    (λ full. keyed-full part known.split image kept place n (area_for part image place) need left
-    full)
+    (λ full. keyed-full part known.split known.move image free kept place n
+    (area_for part image place) need left full)
 room-no-stage (NumberedShape part) known image free kept place n need left = λ either. refl
 
 -- a record may be taken away there

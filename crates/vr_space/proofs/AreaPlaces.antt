@@ -25,9 +25,10 @@ use Rattle.vr_space.specs.Keyed.{HasEnds, InArea, IsHead, Keyed, KeyedStandsFor,
 use Rattle.vr_space.specs.Keyed.{entry_in, records_of, way_in}
 use Rattle.vr_space.specs.Part.{KeyedShape, SameRecords, SetsOne, Stands, item_of}
 use Rattle.vr_space.specs.Room.{Lengths, Range}
-use Rattle.vr_space.specs.Split.{AreaSplit, area_fits, area_room, area_stage, fits_by, keyed_fits}
-use Rattle.vr_space.specs.Split.{keyed_room, keyed_room_by, keyed_stage, split_in, stage_by}
-use Rattle.vr_space.specs.Split.{stage_under}
+use Rattle.vr_types.specs.declared.unit.StageKind.{StageKind}
+use Rattle.vr_space.specs.Split.{AreaSplit, MoveNow, area_fits, area_room, area_stage, first_stage}
+use Rattle.vr_space.specs.Split.{fits_by, keyed_fits, keyed_room, keyed_room_by, keyed_stage}
+use Rattle.vr_space.specs.Split.{move_stage, room_after, split_in, stage_by, stage_under}
 use Rattle.vr_space.specs.Rosters.{IsOf, after_next}
 use Rattle.vr_space.specs.Way.{Found, found_on}
 use Rattle.vr_space.proofs.AreaEnds.{head-found}
@@ -140,24 +141,46 @@ item-of-none part image place none =
     found-area part image place (area_count part.geometry) part.first
     ∙ ap (item_by part image place) none
 
--- So are the stage that is next there, whether a record fits, and what stands in its way.
-pub stage-of-area : (part : KeyedChain) (split : Option AreaSplit) (image : Image) (place : List ℕ)
-    (area : ℕ) → area_for part image place ≡ Some area
-    → keyed_stage part split image place
-    ≡ area_stage (area_of part area) (split_in split area) image place
-stage-of-area part split image place area found = ap (stage_by part split image place) found
+-- So are the stage that is next there, which is that of the split of the area first; whether a
+-- record fits; and what stands in its way.
+pub stage-of-area : (part : KeyedChain) (split : Option AreaSplit) (move : Option MoveNow)
+    (image : Image) (place : List ℕ) (area : ℕ) → area_for part image place ≡ Some area
+    → keyed_stage part split move image place
+    ≡ first_stage (move_stage move area)
+    (area_stage (area_of part area) (split_in split area) image place)
+stage-of-area part split move image place area found =
+    ap (stage_by part split move image place) found
+
+no-first : (move split : Option StageKind) → first_stage move split ≡ None
+    → (move ≡ None) × (split ≡ None)
+no-first None split none = (refl, none)
+no-first (Some stage) split none = absurd cc
+
+-- Where none is next, neither the area nor one of its intervals waits for one.
+pub no-stage-of-area : (part : KeyedChain) (split : Option AreaSplit) (move : Option MoveNow)
+    (image : Image) (place : List ℕ) (area : ℕ) → area_for part image place ≡ Some area
+    → keyed_stage part split move image place ≡ None
+    → (move_stage move area ≡ None)
+    × (area_stage (area_of part area) (split_in split area) image place ≡ None)
+no-stage-of-area part split move image place area found none =
+    no-first (move_stage move area)
+    (area_stage (area_of part area) (split_in split area) image place)
+    (sym (stage-of-area part split move image place area found) ∙ none)
 
 pub fits-of-area : (part : KeyedChain) (image : Image) (kept : Lengths) (place : List ℕ) (n : ℕ)
     (area : ℕ) → area_for part image place ≡ Some area
     → keyed_fits part image kept place n ≡ area_fits (area_of part area) image kept place n
 fits-of-area part image kept place n area found = ap (fits_by part image kept place n) found
 
-pub room-of-area : (part : KeyedChain) (split : Option AreaSplit) (image : Image) (kept : Lengths)
-    (place : List ℕ) (n : ℕ) (area : ℕ) → area_for part image place ≡ Some area
-    → keyed_room part split image kept place n
-    ≡ area_room (area_of part area) (split_in split area) (stage_under split) image kept place n
-room-of-area part split image kept place n area found =
-    ap (keyed_room_by part split image kept place n) found
+pub room-of-area : (part : KeyedChain) (split : Option AreaSplit) (move : Option MoveNow)
+    (image : Image) (free : ℕ) (kept : Lengths) (place : List ℕ) (n : ℕ) (area : ℕ)
+    → area_for part image place ≡ Some area
+    → keyed_room part split move image free kept place n
+    ≡ room_after (move_stage move area)
+    (area_room (area_of part area) (split_in split area) (stage_under split move) image free kept
+    place n)
+room-of-area part split move image free kept place n area found =
+    ap (keyed_room_by part split move image free kept place n) found
 
 -- each area of the chain stands for its records
 pub here-stands : (part : KeyedChain) (image : Image) (content : Content)

@@ -42,8 +42,14 @@ pub use Rattle.vr_space.proofs.SameEnds.{HasSameEnds, IsAlike, KeepsHead, MayHol
 pub use Rattle.vr_space.proofs.SameEnds.{areas-kept, each-after-kept, ends-followed, ends-reach}
 pub use Rattle.vr_space.proofs.SameEnds.{keeps-head, knows-kept, links-in-kept, links-kept}
 pub use Rattle.vr_space.proofs.SameEnds.{ways-down, ways-up}
-pub use Rattle.vr_space.proofs.UnderWay.{IsSplitBlock, StaysAt, AllStay, found-in, free-in}
+pub use Rattle.vr_space.proofs.EntryCounts.{entries-below, head-entries}
+pub use Rattle.vr_space.proofs.UnderWay.{AreaStays, IsSplitBlock, StaysAt, AllStay, found-in}
+pub use Rattle.vr_space.proofs.UnderWay.{free-in}
 pub use Rattle.vr_space.proofs.UnderWay.{begun-stays, way-stays, way-puts, met-stays}
+pub use Rattle.vr_space.proofs.MovesUnderWay.{aside-of, move-keeps, moving-stays}
+pub use Rattle.vr_space.proofs.MovesUnderWay.{waits-elsewhere}
+pub use Rattle.vr_space.proofs.Holding.{AreOwn, held-own, own-after, owns-after}
+pub use Rattle.vr_space.proofs.Holding.{held-same, owns-grows, owns-held, owns-none, owns-same}
 pub use Rattle.vr_space.proofs.Rising.{stands_content, one_content, Rising, rising-sorted}
 pub use Rattle.vr_space.proofs.Rising.{rising-filtered, places-placed, sorted-rising, rising-append}
 pub use Rattle.vr_space.proofs.Searching.{low_at, found-entry, found-none, got-whole, items-read}
@@ -59,11 +65,11 @@ pub use Rattle.vr_space.proofs.Rooms.{IsRoomyArea, area-room-image, area-room-le
 pub use Rattle.vr_space.proofs.Keeping.{keep-here, keep-room}
 pub use Rattle.vr_space.proofs.Counting.{area-fits-once, kept_fits, kept_room}
 pub use Rattle.vr_space.proofs.Framing.{room-stays, knows-stays, can-stays, way-keeps, knows-keeps}
-pub use Rattle.vr_space.proofs.Framing.{knows-puts, one-owner, grows-none}
+pub use Rattle.vr_space.proofs.Framing.{knows-puts, one-owner}
 pub use Rattle.vr_space.proofs.Fewer.{AreAmong, MayKeepLess, Rise, Under, fewer-room, rise-with}
 pub use Rattle.vr_space.proofs.Fewer.{area-fewer, under-both, under-more, under-self}
 pub use Rattle.vr_space.proofs.Intervals.{IsChainStage, interval-owners, room-stage, stage-lacks}
-pub use Rattle.vr_space.proofs.Intervals.{stage-owners}
+pub use Rattle.vr_space.proofs.Intervals.{area-owners, stage-owners}
 pub use Rattle.vr_space.proofs.Standing.{item-read, left-is, left-none, left-standing}
 pub use Rattle.vr_space.proofs.PlacesHeld.{read-place}
 pub use Rattle.vr_space.proofs.NumberedRooms.{GrowsFrom, GrowsTo, grows-same, interval-grows}
@@ -109,5 +115,6 @@ pub use Rattle.vr_space.proofs.AreaSearch.{HasNoneHere, area-reaching, chain-nex
 pub use Rattle.vr_space.proofs.AreaSearch.{chain-none, knows-area, none-past-here, reaching}
 pub use Rattle.vr_space.proofs.AreaSearch.{some-between}
 pub use Rattle.vr_space.proofs.AreaPlaces.{fits-of-area, room-of-area, same-areas, same-known}
-pub use Rattle.vr_space.proofs.AreaPlaces.{stage-of-area}
-pub use Rattle.vr_space.proofs.LiftingKnown.{lift-met, lift-under, split-here, under-here}
+pub use Rattle.vr_space.proofs.AreaPlaces.{no-stage-of-area, stage-of-area}
+pub use Rattle.vr_space.proofs.LiftingKnown.{lift-met, lift-move, lift-under, split-here}
+pub use Rattle.vr_space.proofs.LiftingKnown.{under-here}

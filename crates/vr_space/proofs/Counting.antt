@@ -18,9 +18,9 @@ use Rattle.vr_space.specs.Keyed.{lengths_of, low_of, range_of, records_in, way_i
 use Rattle.vr_space.specs.Part.{KeyedShape, NumberedShape, Shape, Stands, fits_at, item_of, room_of}
 use Rattle.vr_space.specs.Room.{Lengths, Range, have_room, is_above, is_in, with_length}
 use Rattle.vr_space.specs.Room.{with_lengths}
-use Rattle.vr_space.specs.Split.{AreaSplit, area_fits, area_stage, fits_by, fits_in, free_interval}
-use Rattle.vr_space.specs.Split.{keyed_room_by, room_after, room_by, room_by_split, split_in}
-use Rattle.vr_space.specs.Split.{stage_under}
+use Rattle.vr_space.specs.Split.{AreaSplit, MoveNow, area_fits, area_stage, can_grow, fits_by}
+use Rattle.vr_space.specs.Split.{fits_in, free_interval, keyed_room_by, move_stage, room_after}
+use Rattle.vr_space.specs.Split.{room_by, room_by_split, split_in, stage_under}
 use Rattle.vr_space.proofs.AreaEnds.{found-between}
 use Rattle.vr_space.proofs.LinkedContent.{IsLinkedArea, area-found, area-reached, found-area}
 use Rattle.vr_space.proofs.LinkedContent.{item_by, links-in-area}
@@ -219,16 +219,18 @@ module _ (part : KeyedChain) (image : Image) (kept : Lengths) (place bytes : Lis
     keyed-fits-once other m None found = refl
     keyed-fits-once other m (Some area) found = by_area other m area found
 
-    keyed-room-once : (split : Option AreaSplit) (other : List ℕ) (m : ℕ) (found : Option ℕ)
-        → area_for part image other ≡ found
-        → keyed_room_by part split image (with_length kept place n) other m found
-        ≡ keyed_room_by part split image kept other m found
-    keyed-room-once split other m None found = refl
-    keyed-room-once split other m (Some area) found =
+    keyed-room-once : (split : Option AreaSplit) (move : Option MoveNow) (free : ℕ)
+        (other : List ℕ) (m : ℕ) (found : Option ℕ) → area_for part image other ≡ found
+        → keyed_room_by part split move image free (with_length kept place n) other m found
+        ≡ keyed_room_by part split move image free kept other m found
+    keyed-room-once split move free other m None found = refl
+    keyed-room-once split move free other m (Some area) found =
         let one = area_of part area in
-        ap (λ (fits : Bool). room_after (area_stage one (split_in split area) image other)
-        (room_by fits (room_by_split (stage_under split)
-        (free_interval one (block_at image one.head)))))
+        ap (λ (fits : Bool). room_after (move_stage move area)
+        (room_after (area_stage one (split_in split area) image other)
+        (room_by fits (room_by_split (stage_under split move)
+        (free_interval one (block_at image one.head))
+        (can_grow free (block_at image one.head))))))
         (by_area other m area found)
 
 -- ---- the law
@@ -251,6 +253,6 @@ pub kept_room : (shape : Shape) (image : Image) (kept : Lengths) (place bytes : 
     → room_of shape known image free (with_length kept place n) other m
     ≡ room_of shape known image free kept other m
 kept_room (KeyedShape part) image kept place bytes n stands is most known free other m =
-    keyed-room-once part image kept place bytes n stands is most known.split other m
-    (area_for part image other) refl
+    keyed-room-once part image kept place bytes n stands is most known.split known.move free other
+    m (area_for part image other) refl
 kept_room (NumberedShape part) image kept place bytes n stands is most known free other m = refl

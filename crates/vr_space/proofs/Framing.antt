@@ -6,7 +6,6 @@ use Rattle.std.proofs.lemmas.List.Elements.{All-weaker}
 use Rattle.vr_types.specs.Blocks.{Keeps, Puts}
 use Rattle.vr_types.specs.Image.{Block, block_at}
 use Rattle.vr_types.specs.Seen.{Left, Seen}
-use Rattle.vr_types.specs.declared.unit.PartNo.{PartNo}
 use Rattle.vr_types.specs.Geometry.{area_count}
 use Rattle.vr_seqset.specs.Entry.{Entry}
 use Rattle.vr_space.specs.Areas.{EachAfter, IsChainSound, IsOwnedArea, KeyedChain, area_for}
@@ -18,13 +17,15 @@ use Rattle.vr_space.specs.Known.{Known}
 use Rattle.vr_space.specs.Met.{IsChainMet, Met}
 use Rattle.vr_space.specs.Owners.{Owners}
 use Rattle.vr_space.specs.Part.{AreMet, CanSet, HasKeptRoom, HasRoomFor, InPart, IsSound}
-use Rattle.vr_space.specs.Part.{IsUnderWay, KeyedShape, Knows, MayGrow, NumberedShape, Shape}
+use Rattle.vr_space.specs.Part.{IsUnderWay, KeyedShape, Knows, NumberedShape, OwnsClaimed, Shape}
 use Rattle.vr_space.specs.Part.{fits_at, part_no}
 use Rattle.vr_space.specs.Room.{Lengths, Range}
 use Rattle.vr_space.specs.Rosters.{IsOf}
-use Rattle.vr_space.specs.Split.{AreaSplit, area_fits, fits_by, fits_in, keyed_fits, keyed_stage}
-use Rattle.vr_space.specs.Split.{split_in, stage_by, stage_in}
+use Rattle.vr_space.specs.Moves.{MoveUnderWay, OwnsInto}
+use Rattle.vr_space.specs.Split.{AreaSplit, MoveNow, area_fits, first_stage, fits_by, fits_in}
+use Rattle.vr_space.specs.Split.{keyed_fits, keyed_stage, move_stage, split_in, stage_by, stage_in}
 use Rattle.vr_space.specs.UnderWay.{KeyedUnderWay}
+use Rattle.vr_space.proofs.Adding.{rest-stands}
 use Rattle.vr_space.proofs.Ends.{same-ends}
 use Rattle.vr_space.proofs.LinkedContent.{area-found}
 use Rattle.vr_space.proofs.Links.{area-each, each-after-image, each-after-less, links-each}
@@ -33,7 +34,8 @@ use Rattle.vr_space.proofs.NumberedKnown.{numbered-fits-same, numbered-known}
 use Rattle.vr_space.proofs.PartBlocks.{StaysPart, stays-keeps, stays-puts}
 use Rattle.vr_space.proofs.Rooms.{room-less}
 use Rattle.vr_space.proofs.SameEnds.{HasSameEnds, area-kept, areas-kept, knows-kept}
-use Rattle.vr_space.proofs.UnderWay.{found-in, met-stays, way-stays}
+use Rattle.vr_space.proofs.MovesUnderWay.{move-keeps, moving-stays}
+use Rattle.vr_space.proofs.UnderWay.{AreaStays, found-in, met-stays, way-stays}
 
 -- the blocks of a keyed part's area do
 record StaysArea (part : Keyed) (a b : Seen) : Type 0 where
@@ -50,6 +52,12 @@ area-stays part owners a b area own stays = record {
   size = stays.size;
   same = λ n inside. stays.same n (own.owned n inside);
   fewer = λ n block below inside. stays.fewer n block below (own.owned n inside);
+}
+
+blocks-stay : (part : Keyed) (a b : Seen) → StaysArea part a b → AreaStays part a b
+blocks-stay part a b stays n is = record {
+  cur = stays.same n is.1;
+  less = λ bytes may. stays.fewer n bytes is.0 is.1 may;
 }
 
 -- an area of the part's own is in order, and as it was
@@ -117,11 +125,20 @@ module _ (part : KeyedChain) (owners : Owners) (a b : Seen)
       let still : IsStill part a b split.area = area-still split.area way.0 in (
         subst (λ (areas : List ℕ). Contains areas split.area) (sym areas-stay) way.0,
         way-stays (area_of part split.area) (Some split.split) a b still.sound left
-            (λ now some n block named. record {
-              cur = still.stays.same n block.1;
-              less = λ bytes may. still.stays.fewer n bytes block.0 block.1 may;
-            }) way.1,
+            (λ now some n block named.
+            blocks-stay (area_of part split.area) a b still.stays n block) way.1,
       )
+
+  -- The split of an area stays so, where the area that it claimed is the part's own.
+  chain-moves : (move : Option MoveNow) → OwnsInto part owners move → MoveUnderWay part move a
+      → MoveUnderWay part move b
+  chain-moves None owns moves = tt
+  chain-moves (Some move) owns moves =
+      let still : IsStill part a b move.area = area-still move.area moves.inside in
+      moving-stays part move a b chain.on (omega (arith, still.sound.area)) still.head areas-stay
+      (blocks-stay (area_of part move.area) a b still.stays)
+      (λ later. blocks-stay (area_of part move.into) a b
+      (area-stays part owners a b move.into (owns later) stays)) moves
 
   chain-met : (one : Met) → IsChainMet part a.cur one → IsChainMet part b.cur one
   chain-met one is =
@@ -140,12 +157,17 @@ module _ (a b : Seen) where
   room-stays shape owners kept stays =
       room-less shape owners kept a b (λ n block is. stays.fewer n block is.0 is.1)
 
-  -- a split under way stays so,
+  -- a split under way stays so, where the area that it claimed is the part's own,
   under-stays : (shape : Shape) (owners : Owners) (known : Known) → StaysPart shape owners a b
-      → IsSound shape owners a → Left a a.cur → IsUnderWay shape known a → IsUnderWay shape known b
-  under-stays (KeyedShape part) owners known stays sound left way =
-      chain-under part owners a b stays sound left known.split way
-  under-stays (NumberedShape part) owners known stays sound left way = tt
+      → IsSound shape owners a → Left a a.cur → OwnsClaimed shape owners known
+      → IsUnderWay shape known a → IsUnderWay shape known b
+  under-stays (KeyedShape part) owners known stays sound left owns way = (
+    chain-under part owners a b stays sound left known.split way.0,
+    chain-moves part owners a b stays sound left known.move owns way.1,
+    way.2,
+    way.3,
+  )
+  under-stays (NumberedShape part) owners known stays sound left owns way = tt
 
   -- the blocks that were met as they were,
   met-known : (shape : Shape) (owners : Owners) (known : Known) → StaysPart shape owners a b
@@ -161,10 +183,10 @@ module _ (a b : Seen) where
 
   -- and so does what a part knows of its blocks.
   pub knows-stays : (shape : Shape) (owners : Owners) (known : Known)
-      → StaysPart shape owners a b → IsSound shape owners a → Left a a.cur → Knows shape known a
-      → Knows shape known b
-  knows-stays shape owners known stays sound left knows = record {
-    way = under-stays shape owners known stays sound left knows.way;
+      → StaysPart shape owners a b → IsSound shape owners a → Left a a.cur
+      → OwnsClaimed shape owners known → Knows shape known a → Knows shape known b
+  knows-stays shape owners known stays sound left owns knows = record {
+    way = under-stays shape owners known stays sound left owns knows.way;
     blocks = met-known shape owners known stays sound left knows.blocks;
   }
 
@@ -208,17 +230,19 @@ module _ (a b : Seen) where
 
   chain-stage-same : (part : KeyedChain) (owners : Owners)
       → StaysPart (KeyedShape part) owners a b → IsChainSound part owners a → Left a a.cur
-      → (split : Option AreaSplit) (place : List ℕ)
-      → keyed_stage part split b.cur place ≡ keyed_stage part split a.cur place
-  chain-stage-same part owners stays sound left split place =
-      ap (stage_by part split b.cur place) (area-stay part owners a b stays sound left place)
+      → (split : Option AreaSplit) (move : Option MoveNow) (place : List ℕ)
+      → keyed_stage part split move b.cur place ≡ keyed_stage part split move a.cur place
+  chain-stage-same part owners stays sound left split move place =
+      ap (stage_by part split move b.cur place) (area-stay part owners a b stays sound left place)
       ∙ by_area (area_for part a.cur place) refl
     where
       by_area : (found : Option ℕ) → area_for part a.cur place ≡ found
-          → stage_by part split b.cur place found ≡ stage_by part split a.cur place found
+          → stage_by part split move b.cur place found
+          ≡ stage_by part split move a.cur place found
       by_area None is = refl
-      by_area (Some area) is = ap (λ (top : Block). stage_in (split_in split area)
-          (entry_in top place)) (found-still part owners a b stays sound left place area is).same
+      by_area (Some area) is = ap (λ (top : Block). first_stage (move_stage move area)
+          (stage_in (split_in split area) (entry_in top place)))
+          (found-still part owners a b stays sound left place area is).same
 
   -- what fits in the same way has room
   room-for : (shape : Shape) (known : Known) (kept : Lengths) (place : List ℕ)
@@ -237,7 +261,8 @@ module _ (a b : Seen) where
       → IsSound shape owners a → Left a a.cur → CanSet shape known a.cur kept place item
       → CanSet shape known b.cur kept place item
   can-stays (KeyedShape part) owners known kept place item stays sound left can = record {
-    no_stage = chain-stage-same part owners stays sound left known.split place ∙ can.no_stage;
+    no_stage = chain-stage-same part owners stays sound left known.split known.move place
+        ∙ can.no_stage;
     room = room-for (KeyedShape part) known kept place item
         (λ n. chain-fits-same part owners stays sound left kept place n) can.room;
   }
@@ -250,24 +275,35 @@ module _ (a b : Seen) where
 -- ---- calls that put nothing into the part
 
 module _ (tells : Bool) (told : IsTrue tells) where
-  -- a call that puts nothing leaves a split under way
+  -- a call that puts nothing leaves a split under way, whoever owns the area that it claimed
   pub way-keeps : (shape : Shape) (owners : Owners) (known : Known) (a b : Seen) → Keeps tells a b
       → IsSound shape owners a → Left a a.cur → IsUnderWay shape known a → IsUnderWay shape known b
-  way-keeps shape owners known a b call =
-      under-stays a b shape owners known (stays-keeps tells told a b call shape owners)
+  way-keeps (KeyedShape part) owners known a b call sound left way = (
+    chain-under part owners a b (stays-keeps tells told a b call (KeyedShape part) owners) sound
+        left known.split way.0,
+    move-keeps part known.move tells told a b call sound.on
+        (rest-stands (KeyedShape part) owners a sound left) way.1,
+    way.2,
+    way.3,
+  )
+  way-keeps (NumberedShape part) owners known a b call sound left way = tt
 
   -- and what a part knows of its blocks
   pub knows-keeps : (shape : Shape) (owners : Owners) (known : Known) (a b : Seen) → Keeps tells a b
       → IsSound shape owners a → Left a a.cur → Knows shape known a
       → Knows shape known b
-  knows-keeps shape owners known a b call =
-      knows-stays a b shape owners known (stays-keeps tells told a b call shape owners)
+  knows-keeps shape owners known a b call sound left knows = record {
+    way = way-keeps shape owners known a b call sound left knows.way;
+    blocks = met-known a b shape owners known (stays-keeps tells told a b call shape owners) sound
+        left knows.blocks;
+  }
 
   -- what is put outside the part leaves what it knows of them, too
   pub knows-puts : (shape : Shape) (owners : Owners) (known : Known) (n : ℕ) (bytes : Block)
       (a b : Seen)
       → Puts tells n bytes a b → (InPart shape owners n → ⊥)
-      → IsSound shape owners a → Left a a.cur → Knows shape known a → Knows shape known b
+      → IsSound shape owners a → Left a a.cur → OwnsClaimed shape owners known
+      → Knows shape known a → Knows shape known b
   knows-puts shape owners known n bytes a b call beyond =
       knows-stays a b shape owners known
       (stays-puts tells told a b shape owners n bytes call beyond)
@@ -281,13 +317,3 @@ one-owner here there owners n is also = some-same (sym is ∙ also)
   where
     some-same : {one other : ℕ} → Some one ≡ Some other → one ≡ other
     some-same same = cc
-
--- a keyed part claims none
-pub grows-none : (part : KeyedChain) (areas : List (Option PartNo)) (owners : Owners)
-    → MayGrow (KeyedShape part) areas owners owners
-grows-none part areas owners =
-    record {
-      kept = λ n other is. is;
-      free = λ area least n inside. absurd inside;
-      claimed = λ area least n inside. absurd inside;
-    }

@@ -1,5 +1,6 @@
 -- Which stages come before a record: of a keyed part those of a split of one interval, which take
--- no area, of the others the one that makes their chain longer.
+-- no area, and those of a split of one area, of which the first takes one; of the others the one
+-- that makes their chain longer.
 use Rattle.std.proofs.Common.{◌≡◌, ◌≤◌, ◌⊎◌, inl, inr, ⊎_elim, ℕ, Bool, true, false, List, Option}
 use Rattle.std.proofs.Common.{Some, None, ap, refl, subst, ◌∙◌, if◌then◌else◌, ◌||◌, nat_eq, nat_le}
 use Rattle.std.specs.Prelude.{slice_index}
@@ -21,14 +22,16 @@ use Rattle.vr_space.specs.Numbered.{areas_short, chain_room_by, has_interval, in
 use Rattle.vr_space.specs.Numbered.{numbered_fits}
 use Rattle.vr_space.specs.Rosters.{Numbered}
 use Rattle.vr_space.specs.Areas.{KeyedChain, area_for, area_of, head_in}
-use Rattle.vr_space.specs.Split.{AreaSplit, IsIntervalStage, SplitNow, area_fits, area_stage}
-use Rattle.vr_space.specs.Split.{free_interval, keyed_room_by, room_after, room_by, room_by_split}
-use Rattle.vr_space.specs.Split.{split_in, stage_in, stage_under}
+use Rattle.vr_space.specs.Moves.{IsAreaStage, IsReadyTo, MoveUnderWay}
+use Rattle.vr_space.specs.Split.{AreaSplit, IsIntervalStage, MoveNow, SplitNow, area_fits}
+use Rattle.vr_space.specs.Split.{area_stage, can_grow, free_interval, keyed_room_by, move_stage}
+use Rattle.vr_space.specs.Split.{room_after, room_by, room_by_split, split_in, stage_in}
+use Rattle.vr_space.specs.Split.{stage_under}
 use Rattle.vr_space.specs.UnderWay.{IsReadyFor, KeyedUnderWay}
 use Rattle.vr_space.specs.declared.room.Room.{Room}
 use Rattle.vr_space.specs.declared.room.Room.TheVariants.{NoSpace, Stage}
 
--- a split under way is at one of them
+-- a split of an interval that is under way is at one of them,
 stage-ready : (part : Keyed) (split : SplitNow) (now : Seen) (stage : StageKind)
     → IsReadyFor stage part split now → IsIntervalStage stage
 stage-ready part split now CiCopy ready = tt
@@ -43,14 +46,33 @@ stage-ready part split now Extend ready = absurd ready
 stage-ready part split now Undo ready = absurd ready
 stage-ready part split now Force ready = absurd ready
 
--- and so is that of a part
-stage-under : (part : KeyedChain) (split : Option AreaSplit) (now : Seen) (kind : StageKind)
-    → KeyedUnderWay part split now → stage_under split ≡ Some kind → IsIntervalStage kind
-stage-under part None now kind way is = absurd cc
-stage-under part (Some split) now kind way is =
+-- one of an area at one of its own,
+move-ready : (part : KeyedChain) (move : MoveNow) (now : Seen) (stage : StageKind)
+    → IsReadyTo stage part move now → IsAreaStage stage
+move-ready part move now CaClaim ready = tt
+move-ready part move now CaCopy ready = tt
+move-ready part move now CaLink ready = tt
+move-ready part move now CaSwitch ready = tt
+move-ready part move now CiCopy ready = absurd ready
+move-ready part move now CiSwitch ready = absurd ready
+move-ready part move now CiClean ready = absurd ready
+move-ready part move now Post ready = absurd ready
+move-ready part move now Extend ready = absurd ready
+move-ready part move now Undo ready = absurd ready
+move-ready part move now Force ready = absurd ready
+
+-- and so is that of a part.
+stage-under : (part : KeyedChain) (split : Option AreaSplit) (move : Option MoveNow) (now : Seen)
+    (kind : StageKind) → KeyedUnderWay part split now → MoveUnderWay part move now
+    → stage_under split move ≡ Some kind → IsStageOf (KeyedShape part) kind
+stage-under part None None now kind way moves is = absurd cc
+stage-under part (Some split) move now kind way moves is =
     let it : split.split.stage ≡ kind = cc in
-    subst IsIntervalStage it
-    (stage-ready (area_of part split.area) split.split now split.split.stage way.1)
+    inl (subst IsIntervalStage it
+    (stage-ready (area_of part split.area) split.split now split.split.stage way.1))
+stage-under part None (Some move) now kind way moves is =
+    let it : move.stage ≡ kind = cc in
+    inr (subst IsAreaStage it (move-ready part move now move.stage moves.ready))
 
 -- the stage that is next in an area is that of the split there
 stage-here : (split : Option SplitNow) (found : Option (Range × Entry)) (kind : StageKind)
@@ -68,10 +90,10 @@ stage-here (Some split) (Some found) kind is =
     by_test false same = absurd cc
 
 -- which is the part's
-split-under : (split : Option AreaSplit) (area : ℕ) (now : SplitNow)
-    → split_in split area ≡ Some now → stage_under split ≡ Some now.stage
-split-under None area now is = absurd cc
-split-under (Some split) area now is = by_test (nat_eq split.area area) is
+split-under : (split : Option AreaSplit) (move : Option MoveNow) (area : ℕ) (now : SplitNow)
+    → split_in split area ≡ Some now → stage_under split move ≡ Some now.stage
+split-under None move area now is = absurd cc
+split-under (Some split) move area now is = by_test (nat_eq split.area area) is
   where
     by_test : (test : Bool) → (if test then Some split.split else None) ≡ Some now
         → Some split.split.stage ≡ Some now.stage
@@ -79,37 +101,76 @@ split-under (Some split) area now is = by_test (nat_eq split.area area) is
         ap (λ (one : SplitNow). Some one.stage) it
     by_test false same = absurd cc
 
-by-split : (stage : Option StageKind) (free : Option ℕ) (kind : StageKind)
-    → room_by_split stage free ≡ Stage kind → (stage ≡ Some kind) ⊎ (CiCopy ≡ kind)
-by-split (Some stage) free kind is = let it : stage ≡ kind = cc in inl (ap Some it)
-by-split None (Some free) kind is = let it : CiCopy ≡ kind = cc in inr it
-by-split None None kind is = absurd cc
+-- so is the stage for which the whole area waits
+area-waits : (part : KeyedChain) (move : Option MoveNow) (area : ℕ) (now : Seen) (kind : StageKind)
+    → MoveUnderWay part move now → move_stage move area ≡ Some kind → IsAreaStage kind
+area-waits part None area now kind moves is = absurd cc
+area-waits part (Some move) area now kind moves is = by_test (nat_eq move.area area) is
+  where
+    by_test : (test : Bool) → (if test then Some move.stage else None) ≡ Some kind
+        → IsAreaStage kind
+    by_test true same = let it : move.stage ≡ kind = cc in
+        subst IsAreaStage it (move-ready part move now move.stage moves.ready)
+    by_test false same = absurd cc
 
-by-room : (stage : Option StageKind) (fits : Bool) (other : Room) (kind : StageKind)
-    → room_after stage (room_by fits other) ≡ Stage kind
-    → (stage ≡ Some kind) ⊎ (other ≡ Stage kind)
-by-room (Some stage) fits other kind is = let it : stage ≡ kind = cc in inl cc
-by-room None true other kind is = absurd cc
-by-room None false other kind is = inr is
+by-split : (stage : Option StageKind) (free : Option ℕ) (grows : Bool) (kind : StageKind)
+    → room_by_split stage free grows ≡ Stage kind
+    → (stage ≡ Some kind) ⊎ ((CiCopy ≡ kind) ⊎ (CaClaim ≡ kind))
+by-split (Some stage) free grows kind is = let it : stage ≡ kind = cc in inl (ap Some it)
+by-split None (Some free) grows kind is = let it : CiCopy ≡ kind = cc in inr (inl it)
+by-split None None true kind is = let it : CaClaim ≡ kind = cc in inr (inr it)
+by-split None None false kind is = absurd cc
 
-keyed-stage : (part : KeyedChain) (split : Option AreaSplit) (now : Seen) (image : Image)
-    (kept : Lengths) (place : List ℕ) (n : ℕ) (found : Option ℕ) (kind : StageKind)
-    → KeyedUnderWay part split now
-    → keyed_room_by part split image kept place n found ≡ Stage kind → IsIntervalStage kind
-keyed-stage part split now image kept place n None kind way is = absurd cc
-keyed-stage part split now image kept place n (Some area) kind way is = ⊎_elim
-    (λ staged.
-    let here = stage-here (split_in split area) (entry_in (head_in part image area) place) kind
-    staged in
-    stage-under part split now kind way (split-under split area here.0 here.1 ∙ ap Some here.2))
-    (λ splits. ⊎_elim (λ next. stage-under part split now kind way next)
-    (λ first. subst IsIntervalStage first tt)
-    (by-split (stage_under split) (free_interval one (head_in part image area)) kind splits))
-    (by-room (area_stage one (split_in split area) image place) (area_fits one image kept place n)
-    (room_by_split (stage_under split) (free_interval one (head_in part image area))) kind is)
+after-stage : (stage : Option StageKind) (other : Room) (kind : StageKind)
+    → room_after stage other ≡ Stage kind → (stage ≡ Some kind) ⊎ (other ≡ Stage kind)
+after-stage (Some stage) other kind is = let it : stage ≡ kind = cc in inl (ap Some it)
+after-stage None other kind is = inr is
+
+by-room : (fits : Bool) (other : Room) (kind : StageKind) → room_by fits other ≡ Stage kind
+    → other ≡ Stage kind
+by-room true other kind is = absurd cc
+by-room false other kind is = is
+
+keyed-stage : (part : KeyedChain) (split : Option AreaSplit) (move : Option MoveNow) (now : Seen)
+    (image : Image) (free : ℕ) (kept : Lengths) (place : List ℕ) (n : ℕ) (found : Option ℕ)
+    (kind : StageKind) → KeyedUnderWay part split now → MoveUnderWay part move now
+    → keyed_room_by part split move image free kept place n found ≡ Stage kind
+    → IsStageOf (KeyedShape part) kind
+keyed-stage part split move now image free kept place n None kind way moves is = absurd cc
+keyed-stage part split move now image free kept place n (Some area) kind way moves is = ⊎_elim
+    (λ waits. inr (area-waits part move area now kind moves waits))
+    (λ later. ⊎_elim in_interval
+    (λ lacks. ⊎_elim (λ next. stage-under part split move now kind way moves next)
+    (λ first. begins first)
+    (by-split (stage_under split move) interval grows kind
+    (by-room (area_fits one image kept place n) rest kind lacks)))
+    (after-stage (area_stage one (split_in split area) image place)
+    (room_by (area_fits one image kept place n) rest) kind later))
+    (after-stage (move_stage move area) _ kind is)
   where
     one : Keyed
     one = area_of part area
+
+    interval : Option ℕ
+    interval = free_interval one (head_in part image area)
+
+    grows : Bool
+    grows = can_grow free (head_in part image area)
+
+    rest : Room
+    rest = room_by_split (stage_under split move) interval grows
+
+    in_interval : area_stage one (split_in split area) image place ≡ Some kind
+        → IsStageOf (KeyedShape part) kind
+    in_interval staged =
+        let here = stage-here (split_in split area) (entry_in (head_in part image area) place) kind
+        staged in
+        stage-under part split move now kind way moves
+        (split-under split move area here.0 here.1 ∙ ap Some here.2)
+
+    begins : (CiCopy ≡ kind) ⊎ (CaClaim ≡ kind) → IsStageOf (KeyedShape part) kind
+    begins = ⊎_elim (λ first. inl (subst IsIntervalStage first tt))
+        (λ first. inr (subst IsAreaStage first tt))
 
 -- the chain lacks the interval, which areas enough are free for
 pub record IsChainStage (used : Bool) (need free : ℕ) (kind : StageKind) : Type 0 where
@@ -146,7 +207,8 @@ pub room-stage : (shape : Shape) (known : Known) (now : Seen) (image : Image)
     → IsUnderWay shape known now → room_of shape known image free kept place n ≡ Stage kind
     → IsStageOf shape kind
 room-stage (KeyedShape part) known now image free kept place n kind way is =
-    keyed-stage part known.split now image kept place n (area_for part image place) kind way is
+    keyed-stage part known.split known.move now image free kept place n (area_for part image place)
+    kind way.0 way.1 is
 room-stage (NumberedShape part) known now image free kept place n kind way is =
     (stage-lacks part known image free kept place n kind is).stage
 
@@ -165,12 +227,29 @@ interval-owners part Extend old new stage after = absurd stage
 interval-owners part Undo old new stage after = absurd stage
 interval-owners part Force old new stage after = absurd stage
 
+-- Of those of the split of an area the first takes the least free one or none, the others none.
+pub area-owners : (part : PartNo) (kind : StageKind) (old new : List (Option PartNo))
+    → IsAreaStage kind → OwnersAfter part kind old new → (new ≡ old) ⊎ IsClaimed part old new
+area-owners part CaClaim old new stage after = after
+area-owners part CaCopy old new stage after = inl after
+area-owners part CaLink old new stage after = inl after
+area-owners part CaSwitch old new stage after = inl after
+area-owners part CiCopy old new stage after = absurd stage
+area-owners part CiSwitch old new stage after = absurd stage
+area-owners part CiClean old new stage after = absurd stage
+area-owners part Post old new stage after = absurd stage
+area-owners part Extend old new stage after = absurd stage
+area-owners part Undo old new stage after = absurd stage
+area-owners part Force old new stage after = absurd stage
+
 -- So what a stage of a part leaves of the owners of areas is what they were, or the part got the
 -- least free one.
 pub stage-owners : (shape : Shape) (part : PartNo) (kind : StageKind)
     (old new : List (Option PartNo)) → IsStageOf shape kind → OwnersAfter part kind old new
     → (new ≡ old) ⊎ IsClaimed part old new
-stage-owners (KeyedShape keyed) part kind old new stage after =
-    inl (interval-owners part kind old new stage after)
+stage-owners (KeyedShape keyed) part kind old new stage after = ⊎_elim
+    (λ interval. inl (interval-owners part kind old new interval after))
+    (λ area. area-owners part kind old new area after)
+    stage
 stage-owners (NumberedShape numbered) part kind old new stage after =
     subst (λ (at : StageKind). OwnersAfter part at old new) stage after

@@ -9,6 +9,7 @@ pub mod NumberedReads
 pub mod KeyedContent
 pub mod Ends
 pub mod KeyedSound
+pub mod EntryCounts
 pub mod AreaEnds
 pub mod Links
 pub mod LinkedContent
@@ -17,10 +18,12 @@ pub mod PartBlocks
 pub mod Due
 pub mod NumberedKnown
 pub mod UnderWay
+pub mod MovesUnderWay
 pub mod AreaPlaces
 pub mod Searching
 pub mod NumberedRooms
 pub mod Adding
+pub mod Holding
 pub mod Intervals
 pub mod Rising
 pub mod Rooms

@@ -241,7 +241,7 @@ area-grows part owners grown leaves area own = record {
   owned = λ n inside. leaves n part.part (own.owned n inside);
 }
 
-owned-grows : (part : KeyedChain) (owners grown : Owners)
+pub owned-grows : (part : KeyedChain) (owners grown : Owners)
     → ((n other : ℕ) → owners n ≡ Some other → grown n ≡ Some other)
     → (area : ℕ) → IsOwnedArea part owners area → IsOwnedArea part grown area
 owned-grows part owners grown leaves area own = record {

@@ -33,6 +33,10 @@ pub record StaysAt (a b : Seen) (n : ℕ) : Type 0 where
   pub cur : block_at b.cur n ≡ block_at a.cur n
   pub less : (block : Block) → b.may n block → a.may n block
 
+-- and so does each block of an area
+abbrev pub AreaStays : Keyed → Seen → Seen → Type 0
+AreaStays part a b = (n : ℕ) → IsBlock part a n → StaysAt a b n
+
 -- ---- where the intervals are
 
 -- the interval of an entry that is found is in the area

@@ -9,6 +9,7 @@ pub mod Areas
 pub mod AreaCalls
 pub mod Split
 pub mod UnderWay
+pub mod Moves
 pub mod Met
 pub mod Slots
 pub mod Entries

@@ -24,9 +24,10 @@ use Rattle.vr_space.specs.declared.room.Room.{Room}
 use Rattle.vr_space.specs.declared.room.Room.TheVariants.{Stage}
 use Rattle.vr_space.specs.Whence.{allows}
 use Rattle.vr_space.specs.Room.{Lengths, length_at}
-use Rattle.vr_space.specs.Known.{Known}
+use Rattle.vr_space.specs.Known.{Known, areas_held}
 use Rattle.vr_space.specs.Split.{IsIntervalStage, keyed_room, keyed_stage, keyed_fits}
 use Rattle.vr_space.specs.UnderWay.{KeyedUnderWay}
+use Rattle.vr_space.specs.Moves.{IsAreaStage, IsPastClaim, MoveUnderWay, OwnsInto}
 use Rattle.vr_space.specs.Met.{IsChainMet}
 use Rattle.vr_space.specs.Owners.{Owners}
 use Rattle.vr_space.specs.Keyed.{InArea, IsValid, key_of}
@@ -221,7 +222,7 @@ IsFirm shape now place = (item : Option Item) → MayHold shape now.may place it
 -- with this kept
 abbrev pub room_of : Shape → Known → Image → ℕ → Lengths → List ℕ → ℕ → Room
 room_of (KeyedShape part) known image free kept place n =
-    keyed_room part known.split image kept place n
+    keyed_room part known.split known.move image free kept place n
 room_of (NumberedShape part) known image free kept place n =
     numbered_room part known.tail image free place n
 
@@ -233,13 +234,21 @@ fits_at (NumberedShape part) known image kept place n =
 
 -- the stage of a split under way that comes before any change at the place
 abbrev pub stage_of : Shape → Known → Image → List ℕ → Option StageKind
-stage_of (KeyedShape part) known image place = keyed_stage part known.split image place
+stage_of (KeyedShape part) known image place =
+    keyed_stage part known.split known.move image place
 stage_of (NumberedShape part) known image place = None
 
 -- the blocks are as the split under way left them
 abbrev pub IsUnderWay : Shape → Known → Seen → Type 0
 IsUnderWay (KeyedShape part) known now = KeyedUnderWay part known.split now
+    × MoveUnderWay part known.move now × ((known.split ≡ None) ⊎ (known.move ≡ None))
+    × IsPastClaim known.move
 IsUnderWay (NumberedShape part) known now = Unit {0}
+
+-- the area that the split under way claimed, which no chain reaches yet, is the part's own
+abbrev pub OwnsClaimed : Shape → Owners → Known → Type 0
+OwnsClaimed (KeyedShape part) owners known = OwnsInto part owners known.move
+OwnsClaimed (NumberedShape part) owners known = Unit {0}
 
 -- the blocks that were met are as they were
 abbrev pub AreMet : Shape → Known → Image → Type 0
@@ -255,7 +264,7 @@ pub record Knows (shape : Shape) (known : Known) (now : Seen) : Type 0 where
 -- the stages that may come before a record: those of the split of one interval, or the one that
 -- makes the chain of areas longer
 abbrev pub IsStageOf : Shape → StageKind → Type 0
-IsStageOf (KeyedShape part) kind = IsIntervalStage kind
+IsStageOf (KeyedShape part) kind = IsIntervalStage kind ⊎ IsAreaStage kind
 IsStageOf (NumberedShape part) kind = kind ≡ Extend
 
 -- a stage comes before such a record
@@ -270,23 +279,35 @@ IsClaimed part old new = (area : ℕ) × (least_free old ≡ Some area)
 
 -- what a stage leaves of the owners of areas
 abbrev pub OwnersAfter : PartNo → StageKind → List (Option PartNo) → List (Option PartNo) → Type 0
-OwnersAfter part CaClaim old new = IsClaimed part old new
+OwnersAfter part CaClaim old new = (new ≡ old) ⊎ IsClaimed part old new
 OwnersAfter part Post old new = (new ≡ old) ⊎ IsClaimed part old new
 OwnersAfter part Extend old new = (new ≡ old) ⊎ IsClaimed part old new
 OwnersAfter part stage old new = new ≡ old
 
--- The areas that a part keeps in memory go with those that it owns: both stay, or, of a part of
--- chained areas, the least free area is the part's now and the last one that it keeps.
+-- the same areas, in whatever order
+pub record HoldsSame (areas after : List ℕ) : Type 0 where
+  pub many : length after ≡ length areas
+  pub kept : (area : ℕ) → Contains areas area → Contains after area
+  pub none : (area : ℕ) → Contains after area → Contains areas area
+
+-- the least free area is the part's now and the last one that it holds
+pub record HoldsMore (part : PartNo) (areas after : List ℕ) (old new : List (Option PartNo))
+    : Type 0
+  where
+    pub area : ℕ
+    pub least : least_free old ≡ Some area
+    pub more : after ≡ areas ++ area ∷ []
+    pub owned : new ≡ slice_set old area (Some part)
+
+-- The areas that a part holds in memory go with those that it owns: both stay, or it has one more.
 abbrev pub KeepsChain : Shape → List ℕ → List ℕ → List (Option PartNo) → List (Option PartNo)
     → Type 0
-KeepsChain (KeyedShape part) areas after old new = (after ≡ areas) × (new ≡ old)
-KeepsChain (NumberedShape part) areas after old new = ((after ≡ areas) × (new ≡ old))
-    ⊎ ((area : ℕ) × (least_free old ≡ Some area) × (after ≡ areas ++ area ∷ [])
-    × (new ≡ slice_set old area (Some (record { 0 = part.part }))))
+KeepsChain shape areas after old new = (HoldsSame areas after × (new ≡ old))
+    ⊎ HoldsMore (part_no shape) areas after old new
 
--- what a stage of a chain of areas leaves: one interval more is used
+-- what a stage leaves: a split that goes on, or one interval more of a chain under rosters
 abbrev pub HasMore : Shape → Known → Known → Type 0
-HasMore (KeyedShape part) old new = Unit {0}
+HasMore (KeyedShape part) old new = (new.split ≢ old.split) ⊎ (new.move ≢ old.move)
 HasMore (NumberedShape part) old new = new.used ≡ old.used + 1
 
 -- the owners are those of as many areas as the volume has
@@ -298,20 +319,26 @@ HasOwners (NumberedShape part) areas = length areas ≡ area_count part.geometry
 abbrev pub owned_count : PartNo → List (Option PartNo) → ℕ
 owned_count part areas = length (filter (is_owner part) areas)
 
--- a part owns as many areas as it keeps
-abbrev pub OwnsChain : Shape → Known → List (Option PartNo) → Type 0
-OwnsChain shape known areas = owned_count (part_no shape) areas ≡ length known.areas
+-- The areas that a part holds, as it keeps them in memory: those of its chain, and of a keyed part
+-- the one that the split of an area under way claimed.
+abbrev pub held_by : Shape → Known → List ℕ
+held_by (KeyedShape part) known = areas_held known
+held_by (NumberedShape part) known = known.areas
 
--- the blocks of the areas that the part has, as it keeps them in memory
+-- a part owns as many areas as it holds
+abbrev pub OwnsChain : Shape → Known → List (Option PartNo) → Type 0
+OwnsChain shape known areas = owned_count (part_no shape) areas ≡ length (held_by shape known)
+
+-- the blocks of the areas that the part holds
 abbrev pub InHeld : Shape → Known → ℕ → Type 0
 InHeld (KeyedShape part) known n =
-    (area : ℕ) × Contains known.areas area × InArea (area_of part area) n
+    (area : ℕ) × Contains (areas_held known) area × InArea (area_of part area) n
 InHeld (NumberedShape part) known n =
     (area : ℕ) × Contains known.areas area × IsInArea part area n
 
--- the blocks of an area that a stage of the part may claim: a keyed part claims none yet
+-- the blocks of an area that a stage of the part may claim
 abbrev pub InClaimed : Shape → ℕ → ℕ → Type 0
-InClaimed (KeyedShape part) area n = ⊥
+InClaimed (KeyedShape part) area n = InArea (area_of part area) n
 InClaimed (NumberedShape part) area n = IsInArea part area n
 
 -- The part has the blocks that it had, and those of the least free area too, which were nobody's,

@@ -20,6 +20,7 @@ ghost use Rattle.vr_space.specs.Part.{
   place_length,
   item_of,
   record_read,
+  held_by,
   left_by,
   room_of,
   IsOn,
@@ -40,6 +41,7 @@ ghost use Rattle.vr_space.specs.Part.{
   IsStageDue,
   Knows,
   OwnersAfter,
+  OwnsClaimed,
   CanSet,
   given,
   AddsTo,
@@ -141,6 +143,7 @@ pub trait Part {
         ensures cause { HasCause (B.faults blocks.old) (B.faults blocks.new) result }
         ensures shape { shape self.new ≡ shape self.old }
         ensures split { (known self.new).split ≡ (known self.old).split }
+        ensures moves { (known self.new).move ≡ (known self.old).move }
         ensures areas { (known self.new).areas ≡ (known self.old).areas }
         ensures tail { (known self.new).tail ≡ (known self.old).tail }
         ensures put { put self.new ≡ put self.old };
@@ -174,18 +177,22 @@ pub trait Part {
             OwnersAfter (part_no (shape self.old)) kind space.old space.new) }
         ensures owners_stay { OnErr result (space.new ≡ space.old) }
         // What it keeps of its areas goes with the areas that it owns.
-        ensures chain { OnOk result (KeepsChain (shape self.old) (known self.old).areas
-            (known self.new).areas space.old space.new) }
-        ensures chain_stays { OnErr result ((known self.new).areas ≡ (known self.old).areas) }
-        // A chain of areas has one interval more.
+        ensures chain { OnOk result (KeepsChain (shape self.old)
+            (held_by (shape self.old) (known self.old)) (held_by (shape self.old) (known self.new))
+            space.old space.new) }
+        ensures chain_stays { OnErr result (held_by (shape self.old) (known self.new)
+            ≡ held_by (shape self.old) (known self.old)) }
+        // A split goes on, or a chain under rosters has one interval more.
         ensures more { IsTrue B.tells → HasOwners (shape self.old) space.old
             → (owners grown : Owners) → MayGrow (shape self.old) space.old owners grown
             → IsAtRest (shape self.old) owners (B.seen blocks.old)
+            → OwnsClaimed (shape self.old) owners (known self.old)
             → OnOk result (HasMore (shape self.old) (known self.old) (known self.new)) }
         // At every moment, whether it fails or not.
         ensures adds { IsTrue B.tells → (owners grown : Owners)
             → MayGrow (shape self.old) space.old owners grown
             → IsAtRest (shape self.old) owners (B.seen blocks.old)
+            → OwnsClaimed (shape self.old) owners (known self.old)
             → AddsTo (shape self.old) grown Nothing (B.seen blocks.old) (B.seen blocks.new) }
         ensures same { IsTrue B.tells → SameRecords (shape self.old)
             (B.seen blocks.old).cur (B.seen blocks.new).cur }
@@ -194,21 +201,25 @@ pub trait Part {
         ensures rests { IsTrue B.tells → (owners grown : Owners)
             → MayGrow (shape self.old) space.old owners grown
             → IsAtRest (shape self.old) owners (B.seen blocks.old)
+            → OwnsClaimed (shape self.old) owners (known self.old)
             → OnOk result (IsAtRest (shape self.old) grown (B.seen blocks.new)) }
         ensures stays { IsTrue B.tells → (owners : Owners) → space.new ≡ space.old
             → IsAtRest (shape self.old) owners (B.seen blocks.old)
+            → OwnsClaimed (shape self.old) owners (known self.old)
             → OnOk result (IsAtRest (shape self.old) owners (B.seen blocks.new)) }
         ensures room { IsTrue B.tells → HasKeptRoom (shape self.old)
             (K.kept kept.now (part_no (shape self.old))) (B.seen blocks.new) }
         ensures rooms { IsTrue B.tells → (owners grown : Owners)
             → MayGrow (shape self.old) space.old owners grown
             → IsAtRest (shape self.old) owners (B.seen blocks.old)
+            → OwnsClaimed (shape self.old) owners (known self.old)
             → Touches (InPart (shape self.old) grown)
             (HasRoom (shape self.old) (K.kept kept.now (part_no (shape self.old))))
             (B.seen blocks.old) (B.seen blocks.new) }
         ensures knows { IsTrue B.tells → OnOk result
             (Knows (shape self.old) (known self.new) (B.seen blocks.new)) }
         ensures split { OnErr result ((known self.new).split ≡ (known self.old).split) }
+        ensures moves { OnErr result ((known self.new).move ≡ (known self.old).move) }
         // It reads before it puts.
         ensures unread { IfErr result (λ fault. fault ≡ Read
             → Keeps B.tells (B.seen blocks.old) (B.seen blocks.new)
@@ -279,6 +290,7 @@ pub trait Part {
         ensures cause { HasCause (B.faults blocks.old) (B.faults blocks.new) result }
         ensures shape { shape self.new ≡ shape self.old }
         ensures split { (known self.new).split ≡ (known self.old).split }
+        ensures moves { (known self.new).move ≡ (known self.old).move }
         ensures areas { (known self.new).areas ≡ (known self.old).areas };
 
     /// The address that the next record of this length gets, in bytes from the start of the part

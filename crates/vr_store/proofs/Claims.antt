@@ -2,8 +2,8 @@
 -- are free.
 use Rattle.std.proofs.Common.{◌≡◌, ◌≢◌, ◌⊎◌, ⊎_elim, inl, inr, ◌<◌, ◌+◌, ◌∷◌, ◌==◌, ℕ, Bool}
 use Rattle.std.proofs.Common.{true, false, cond, List, [], Option, Some, None, refl, sym, ap}
-use Rattle.std.proofs.Common.{◌∙◌, arith, get_or, length, set}
-use Rattle.std.specs.Prelude.{filter, is_none}
+use Rattle.std.proofs.Common.{◌∙◌, arith, get_or, length, set, subst}
+use Rattle.std.specs.Prelude.{Contains, filter, is_none}
 use Rattle.std.proofs.lemmas.Bool.{true≢false}
 use Rattle.std.proofs.lemmas.Bool.Decides.{Decides-eqb}
 use Rattle.std.proofs.lemmas.List.{length-append, length-set}
@@ -14,8 +14,8 @@ use Rattle.vr_types.specs.declared.unit.PartNo.{PartNo}
 use Rattle.vr_types.specs.declared.unit.StageKind.{StageKind}
 use Rattle.vr_types.specs.declared.unit.StageKind.TheVariants as stages
 use Rattle.vr_space.specs.Known.{Known}
-use Rattle.vr_space.specs.Part.{IsClaimed, KeepsChain, KeyedShape, OwnersAfter, OwnsChain}
-use Rattle.vr_space.specs.Part.{NumberedShape, Shape, owned_count, part_no}
+use Rattle.vr_space.specs.Part.{HoldsSame, IsClaimed, KeepsChain, OwnersAfter, OwnsChain, Shape}
+use Rattle.vr_space.specs.Part.{held_by, owned_count, part_no}
 
 -- how many of a list pass a test, once one of them is another
 count-set : {X : Type 0} (p : X → Bool) (xs : List X) (i : ℕ) (y d : X) → i < length xs
@@ -90,7 +90,8 @@ has-claimed part old new claimed = record {
 -- So it is after a stage, whichever, or the owners are as before.
 pub owners-after : (part : PartNo) (kind : StageKind) (old new : List (Option PartNo))
     → OwnersAfter part kind old new → (new ≡ old) ⊎ HasClaimed part old new
-owners-after part stages.CaClaim old new after = inr (has-claimed part old new after)
+owners-after part stages.CaClaim old new after =
+    ⊎_elim (λ same. inl same) (λ claimed. inr (has-claimed part old new claimed)) after
 owners-after part stages.Post old new after =
     ⊎_elim (λ same. inl same) (λ claimed. inr (has-claimed part old new claimed)) after
 owners-after part stages.Extend old new after =
@@ -104,10 +105,10 @@ owners-after part stages.CaSwitch old new after = inl after
 owners-after part stages.Undo old new after = inl after
 owners-after part stages.Force old new after = inl after
 
--- ---- what parts keep of their areas
+-- ---- what parts hold of their areas
 
--- The areas that a part keeps in memory and those that it owns are as before, or of both there is one
--- more.
+-- The areas that a part holds in memory and those that it owns are as many as before, or of both
+-- there is one more.
 pub record HasOneMore (part : PartNo) (areas after : List ℕ) (old new : List (Option PartNo))
     : Type 0 where
   pub claimed : HasClaimed part old new
@@ -116,23 +117,28 @@ pub record HasOneMore (part : PartNo) (areas after : List ℕ) (old new : List (
 -- They are as before where nothing was claimed, whatever the kind of the part.
 pub chain-same : (shape : Shape) (areas after : List ℕ) (old new : List (Option PartNo))
     → after ≡ areas → new ≡ old → KeepsChain shape areas after old new
-chain-same (KeyedShape keyed) areas after old new kept same = (kept, same)
-chain-same (NumberedShape numbered) areas after old new kept same = inl (kept, same)
+chain-same shape areas after old new kept same = inl (
+  record {
+    many = ap length kept;
+    kept = λ area held. subst (λ (list : List ℕ). Contains list area) (sym kept) held;
+    none = λ area held. subst (λ (list : List ℕ). Contains list area) kept held;
+  },
+  same,
+)
 
 pub chain-by : (shape : Shape) (areas after : List ℕ) (old new : List (Option PartNo))
     → KeepsChain shape areas after old new
-    → ((after ≡ areas) × (new ≡ old)) ⊎ HasOneMore (part_no shape) areas after old new
-chain-by (KeyedShape keyed) areas after old new same = inl same
-chain-by (NumberedShape numbered) areas after old new chain = ⊎_elim (λ same. inl same)
+    → (HoldsSame areas after × (new ≡ old)) ⊎ HasOneMore (part_no shape) areas after old new
+chain-by shape areas after old new chain = ⊎_elim (λ same. inl same)
     (λ more. inr (record {
-      claimed = has-claimed (record { 0 = numbered.part }) old new (more.0, more.1, more.3);
-      kept = ap length more.2 ∙ length-append areas (more.0 ∷ []);
+      claimed = has-claimed (part_no shape) old new (more.area, more.least, more.owned);
+      kept = ap length more.more ∙ length-append areas (more.area ∷ []);
     }))
     chain
 
 module _ (part : Shape) (areas after : List ℕ) (old new : List (Option PartNo))
     (chain : KeepsChain part areas after old new) where
-  chained : ((after ≡ areas) × (new ≡ old)) ⊎ HasOneMore (part_no part) areas after old new
+  chained : (HoldsSame areas after × (new ≡ old)) ⊎ HasOneMore (part_no part) areas after old new
   chained = chain-by part areas after old new chain
 
   -- there are as many areas,
@@ -144,16 +150,16 @@ module _ (part : Shape) (areas after : List ℕ) (old new : List (Option PartNo)
   count-other other apart = ⊎_elim (λ same. ap (owned_count other) same.1)
       (λ more. more.claimed.others other apart) chained
 
-  -- each other part keeps as many of them as it owns,
+  -- each other part holds as many of them as it owns,
   pub owns-other : (shape : Shape) (known : Known) → (part_no shape).0 ≢ (part_no part).0
       → OwnsChain shape known old → OwnsChain shape known new
   owns-other shape known apart owns = count-other (part_no shape) apart ∙ owns
 
 -- and so does the part.
 pub owns-mine : (shape : Shape) (known later : Known) (old new : List (Option PartNo))
-    → KeepsChain shape known.areas later.areas old new → OwnsChain shape known old
-    → OwnsChain shape later new
+    → KeepsChain shape (held_by shape known) (held_by shape later) old new
+    → OwnsChain shape known old → OwnsChain shape later new
 owns-mine shape known later old new chain owns = ⊎_elim
-    (λ same. ap (owned_count (part_no shape)) same.1 ∙ owns ∙ sym (ap length same.0))
+    (λ same. ap (owned_count (part_no shape)) same.1 ∙ owns ∙ sym same.0.many)
     (λ more. more.claimed.mine ∙ ap (λ (n : ℕ). n + 1) owns ∙ sym more.kept)
-    (chain-by shape known.areas later.areas old new chain)
+    (chain-by shape (held_by shape known) (held_by shape later) old new chain)

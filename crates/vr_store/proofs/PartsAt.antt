@@ -8,7 +8,7 @@ use Rattle.std.proofs.lemmas.List.{length-map, map-set}
 use Rattle.vr_types.specs.declared.unit.PartNo.{PartNo}
 use Rattle.vr_space.specs.Known.{Known}
 use Rattle.vr_space.specs.Part.{Shape}
-use Rattle.vr_space.specs.Split.{AreaSplit}
+use Rattle.vr_space.specs.Split.{AreaSplit, MoveNow}
 use Rattle.vr_store.specs.Parts.{OnlyMet, OnlySplit, but_met, but_split, with_part}
 use Rattle.vr_store.specs.Store.{PartNow, has_number, part_among, part_now}
 use Rattle.vr_store.specs.declared.parts.Laid.{Laid}
@@ -77,25 +77,32 @@ abbrev pub part-of : PartNo → Shape → Known → PartNow
 part-of number shape known =
     record { number = number; shape = shape; known = known }
 
--- a part by its split alone
-abbrev pub part-split : PartNo → Shape → Option AreaSplit → PartNow
-part-split number shape split = part-of number shape
-    (record { split = split; met = []; areas = []; ends = []; used = 0; tail = None })
+-- a part by its splits and its areas alone
+abbrev part-met : PartNo → Shape → Option AreaSplit → Option MoveNow → List ℕ → PartNow
+part-met number shape split move areas = part-of number shape (record {
+  split = split;
+  move = move;
+  met = [];
+  areas = areas;
+  ends = [];
+  used = 0;
+  tail = None;
+})
 
--- A part that a call left with its shape, its split under way and its areas is the same but for what
--- it met.
+-- and by its split of an interval alone
+abbrev pub part-split : PartNo → Shape → Option AreaSplit → PartNow
+part-split number shape split = part-met number shape split None []
+
+-- A part that a call left with its shape, its splits under way and its areas is the same but for
+-- what it met.
 pub same-met : (number : PartNo) (shape now : Shape) (known later : Known) → now ≡ shape
-    → later.split ≡ known.split → later.areas ≡ known.areas
+    → later.split ≡ known.split → later.move ≡ known.move → later.areas ≡ known.areas
     → but_met (part-of number now later) ≡ but_met (part-of number shape known)
-same-met number shape now known later shapes splits areas =
-    ap (λ (s : Shape). part-met s later.split later.areas) shapes
-    ∙ ap (λ (s : Option AreaSplit). part-met shape s later.areas) splits
-    ∙ ap (part-met shape known.split) areas
-  where
-    part-met : Shape → Option AreaSplit → List ℕ → PartNow
-    part-met s split kept =
-        part-of number s
-        (record { split = split; met = []; areas = kept; ends = []; used = 0; tail = None })
+same-met number shape now known later shapes splits moves areas =
+    ap (λ (s : Shape). part-met number s later.split later.move later.areas) shapes
+    ∙ ap (λ (s : Option AreaSplit). part-met number shape s later.move later.areas) splits
+    ∙ ap (λ (m : Option MoveNow). part-met number shape known.split m later.areas) moves
+    ∙ ap (part-met number shape known.split known.move) areas
 
 -- a part that a call left as it was
 pub laid-same : {P : Type 0} (shape : P → Shape) (known : P → Known)

@@ -40,7 +40,7 @@ use Rattle.vr_store.specs.Store.{ChangedBy, IsPartSet, IsRestedPart, IsSet, IsSt
 use Rattle.vr_store.specs.Store.{StoreNow, blocks_of, owners_of, part_among}
 use Rattle.vr_store.specs.declared.prepared.Prepared.{Prepared}
 use Rattle.vr_store.proofs.Among.{HasShape, among-all, among-number, among-shape}
-use Rattle.vr_store.proofs.PartsAt.{IsPartAt}
+use Rattle.vr_store.proofs.PartsAt.{IsPartAt, part-split}
 use Rattle.vr_store.proofs.PlacedParts.{all-with, map-with, shapes-same}
 use Rattle.vr_store.proofs.ReadyParts.{change, firm-to, kept, new-item, numbered, to-set}
 use Rattle.vr_store.proofs.ReadyParts.{undo-images}
@@ -281,16 +281,8 @@ module _ (number : ℕ) (store : StoreNow) (unit : UnitOfRecovery) (part : PartN
       same-parts : map but_split parts ≡ map but_split store.parts
       same-parts = ap (map but_split) into.is
           ∙ map-with but_split part.0 before now
-          (ap (λ (n : PartNo). record {
-            number = n;
-            shape = now.shape;
-            known = record { split = None; met = []; areas = []; ends = []; used = 0; tail = None };
-          }) number-same
-          ∙ ap (λ (s : Shape). record {
-            number = before.number;
-            shape = s;
-            known = record { split = None; met = []; areas = []; ends = []; used = 0; tail = None };
-          }) shape-same) store.parts into.found
+          (ap (λ (n : PartNo). part-split n now.shape None) number-same
+          ∙ ap (λ (s : Shape). part-split before.number s None) shape-same) store.parts into.found
 
       -- the store as the call left it
       abbrev pub changed-store : StoreNow

@@ -13,8 +13,9 @@ use Rattle.vr_types.specs.declared.geometry.Geometry.{Geometry}
 use Rattle.vr_types.specs.declared.unit.PartNo.{PartNo}
 use Rattle.vr_space.specs.Known.{Known}
 use Rattle.vr_space.specs.Owners.{Owners}
-use Rattle.vr_space.specs.Part.{DueMore, IsOn, KeepsChain, Knows, OwnsChain, Shape, part_no}
-use Rattle.vr_space.proofs.CallerLemmas.{due-keeps, rest-sound}
+use Rattle.vr_space.specs.Part.{DueMore, IsOn, KeepsChain, Knows, OwnsChain, Shape, held_by}
+use Rattle.vr_space.specs.Part.{part_no}
+use Rattle.vr_space.proofs.CallerLemmas.{due-keeps, owns-same, rest-sound}
 use Rattle.vr_history.specs.State.{BeforeImage, State}
 use Rattle.vr_undo.specs.Records.{befores_of, images_in}
 use Rattle.vr_volume.specs.Rests.{IsPartAtRest, IsVolumeAtRest}
@@ -53,10 +54,16 @@ module _ (store : StoreNow) (number : ℕ) (before after : PartNow) (new : List 
   same-parts = ap (map but_split) at.is
       ∙ map-with but_split number before after same store.parts at.found
 
-  -- it is set, where its areas go with those that it owns,
+  -- the areas that the part holds, and held
+  abbrev held : List ℕ
+  held = held_by before.shape before.known
+
+  abbrev held-after : List ℕ
+  held-after = held_by before.shape after.known
+
+  -- it is set, where the areas that the part holds go with those that it owns,
   pub set-worked : (a b : Seen) → b.count ≡ a.count → b.size ≡ a.size
-      → KeepsChain before.shape before.known.areas after.known.areas store.space space
-      → IsSet store a → IsSet worked b
+      → KeepsChain before.shape held held-after store.space space → IsSet store a → IsSet worked b
   set-worked a b count size chain before-set =
       let set = set-still store a b count size before-set in
       let mine : IsPartSet b before =
@@ -80,13 +87,12 @@ module _ (store : StoreNow) (number : ℕ) (before after : PartNow) (new : List 
         changed = set.changed;
         idle = set.idle;
         kept = fits-parts new store.parts same-parts (befores_of store.undo) set.kept;
-        areas = count-kept before.shape before.known.areas after.known.areas store.space
-            space chain ∙ set.areas;
+        areas = count-kept before.shape held held-after store.space space chain ∙ set.areas;
         owns = subst (All (OwnsItsChain space)) (sym at.is)
             (all-with (λ (part : PartNow). IsPartSet b part × OwnsItsChain store.space part)
             (OwnsItsChain space) number after
-            (λ part apart both. owns-other before.shape before.known.areas
-            after.known.areas store.space space chain part.shape part.known
+            (λ part apart both. owns-other before.shape held held-after store.space space chain
+            part.shape part.known
             (λ same. apart (ap (λ (n : PartNo). n.0) (sym both.0.number) ∙ same
             ∙ ap (λ (n : PartNo). n.0) mine.number
             ∙ among-number store.parts number before at.found)) both.1)
@@ -99,10 +105,9 @@ module _ (store : StoreNow) (number : ℕ) (before after : PartNow) (new : List 
 
   -- so where the call claimed nothing,
   pub set-unclaimed : (a b : Seen) → b.count ≡ a.count → b.size ≡ a.size
-      → after.known.areas ≡ before.known.areas → space ≡ store.space → IsSet store a
-      → IsSet worked b
+      → held-after ≡ held → space ≡ store.space → IsSet store a → IsSet worked b
   set-unclaimed a b count size kept same = set-worked a b count size
-      (chain-same before.shape before.known.areas after.known.areas store.space space kept same)
+      (chain-same before.shape held held-after store.space space kept same)
 
   module _ (volume : ℕ) (state : State) (a b : Seen) (set : IsSet store a)
       (stored : IsStored volume store state a) where
@@ -176,17 +181,18 @@ module _ (store : StoreNow) (number : ℕ) (before after : PartNow) (new : List 
 
 -- ---- a call that puts nothing
 
--- a part at rest is so with what it met since
+-- a part at rest is so with what it met since, while the same split of an area is under way
 pub rested-met : (geometry : Geometry) (owners : Owners) (images : List BeforeImage)
     (state : State) (shape same : Shape) (known now : Known) (b : Seen) → same ≡ shape
-    → IsPartAtRest geometry owners images state shape known b
+    → now.move ≡ known.move → IsPartAtRest geometry owners images state shape known b
     → Knows shape now b → IsPartAtRest geometry owners images state same now b
-rested-met geometry owners images state shape same known now b shapes part knows =
+rested-met geometry owners images state shape same known now b shapes moves part knows =
     subst (λ (s : Shape). IsPartAtRest geometry owners images state s now b) (sym shapes)
     (record {
       laid = part.laid;
       on = part.on;
       rests = part.rests;
+      claimed = owns-same shape owners known now moves part.claimed;
       room = part.room;
       knows = knows;
       reads = part.reads;
@@ -196,7 +202,7 @@ rested-met geometry owners images state shape same known now b shapes part knows
 module _ (tells : Bool) (told : IsTrue tells) (a b : Seen) (call : Keeps tells a b)
     (left : Left a a.cur) (store : StoreNow) (number : ℕ) (before after : PartNow)
     (new : List PartNow) (at : IsPartAt number before after store.parts new)
-    (same : but_split after ≡ but_split before) where
+    (same : but_split after ≡ but_split before) (moves : after.known.move ≡ before.known.move) where
   pub stored-met : (volume : ℕ) (state : State) → IsSet store a → IsStored volume store state a
       → Knows before.shape after.known b → IsStored volume (record store { parts = new }) state b
   stored-met volume state set stored knows =
@@ -204,7 +210,7 @@ module _ (tells : Bool) (told : IsTrue tells) (a b : Seen) (call : Keeps tells a
       (volume-keeps tells told a b call store.log.geometry volume (owners_of store) store.log
       (images_in store.undo) state stored.volume)
       (rested-met store.log.geometry (owners_of store) (images_in store.undo) state before.shape
-      after.shape before.known after.known b (ap (λ (part : PartNow). part.shape) same)
+      after.shape before.known after.known b (ap (λ (part : PartNow). part.shape) same) moves
       (kept before mine) knows)
       (λ other apart rested. kept other rested)
       (due-keeps tells told before.shape (owners_of store) a b call

@@ -6,7 +6,7 @@ use Rattle.vr_types.specs.Image.{Image}
 use Rattle.vr_types.specs.declared.unit.Unit.{Unit as UnitOfRecovery}
 use Rattle.vr_types.specs.declared.unit.PartNo.{PartNo}
 use Rattle.vr_types.specs.declared.unit.StageKind.{StageKind}
-use Rattle.vr_types.specs.declared.unit.StageKind.TheVariants.{Extend}
+use Rattle.vr_types.specs.declared.unit.StageKind.TheVariants.{CaClaim, Extend}
 use Rattle.vr_types.specs.declared.geometry.Geometry.{Geometry}
 use Rattle.vr_types.specs.Content.{item_at, record_of}
 use Rattle.vr_space.specs.Owners.{Owners}
@@ -18,7 +18,7 @@ use Rattle.vr_history.specs.Effects.{last_kept, with_change, without_last}
 use Rattle.vr_history.specs.State.{BeforeImage, State}
 use Rattle.vr_undo.specs.Records.{befores_of, last_in}
 use Rattle.vr_volume.specs.Laid.{shape_by}
-use Rattle.vr_store.specs.Room.{IsDueAt}
+use Rattle.vr_store.specs.Room.{IsRoomAt}
 use Rattle.vr_store.specs.Store.{PartNow, StoreNow, part_among}
 
 abbrev pub last_of_unit : StoreNow → UnitOfRecovery → Option BeforeImage
@@ -27,11 +27,6 @@ last_of_unit store unit = last_in unit (befores_of store.undo)
 -- it is so of the last one, where there is one
 abbrev pub OnLast : StoreNow → UnitOfRecovery → (BeforeImage → Type 0) → Type 0
 OnLast store unit P = IfSome (last_of_unit store unit) P
-
--- a stage of a split comes before it
-abbrev pub IsDueAtLast : StoreNow → Image → UnitOfRecovery → ℕ → Type 0
-IsDueAtLast store image unit n =
-    OnLast store unit (λ last. IsDueAt store image last.part last.place n)
 
 -- a stage of a part left the owners of areas so
 pub record HasAdvanced (part : PartNo) (shape : Shape) (old new : List (Option PartNo)) : Type 0
@@ -50,22 +45,38 @@ abbrev pub last_claimed : StoreNow → UnitOfRecovery → Owners
 last_claimed store unit =
     owner_of store.log.geometry (claimed_for store.space (last_of_unit store unit))
 
--- A stage of a split comes first. Where a chain of areas has the place already, it need not become
--- longer for what is put back there.
+-- A stage of a split comes first, one that takes no area. Where a chain of areas has the place
+-- already, or no split has begun, nothing need grow for what is put back there: the room for it was
+-- kept.
 abbrev pub is_stage : Room → Bool
 is_stage (Stage Extend) = false
+is_stage (Stage CaClaim) = false
 is_stage (Stage kind) = true
 is_stage Ready = false
 is_stage (NoSpace need free) = false
+
+-- what the part of this number answers to such a record is that stage
+pub record IsSplitDue (store : StoreNow) (image : Image) (number : ℕ) (place : List ℕ) (n : ℕ)
+    : Type 0
+  where
+    pub kind : StageKind
+    pub room : IsRoomAt store image number place n (Stage kind)
+    pub first : is_stage (Stage kind) ≡ true
+
+-- a stage of a split comes before it
+abbrev pub IsDueAtLast : StoreNow → Image → UnitOfRecovery → ℕ → Type 0
+IsDueAtLast store image unit n =
+    OnLast store unit (λ last. IsSplitDue store image last.part last.place n)
 
 -- no stage of a split is left at a place
 abbrev pub HasNoStage : StoreNow → Image → ℕ → List ℕ → Type 0
 HasNoStage store image number place = IfSome (part_among store.parts number)
     (λ (part : PartNow). stage_of part.shape part.known image place ≡ None)
 
--- where a record of a length is to be set at a place, a stage comes first, or none
+-- where a record of a length is to be put back at a place, such a stage comes first, or none is
+-- left
 abbrev pub IsMetBy : Bool → StoreNow → Image → ℕ → List ℕ → ℕ → Type 0
-IsMetBy true store image number place n = IsDueAt store image number place n
+IsMetBy true store image number place n = IsSplitDue store image number place n
 IsMetBy false store image number place n = HasNoStage store image number place
 
 -- The last before-image that the unit keeps is put back, and kept no more: at its place is what a

@@ -10,11 +10,12 @@ with_part number after [] = []
 with_part number after (part ∷ parts) =
     cond (has_number number part) (after ∷ parts) (part ∷ with_part number after parts)
 
--- a part by its split under way and its areas alone, and but for all that it keeps of its blocks
+-- a part by its splits under way and its areas alone, and but for all that it keeps of its blocks
 abbrev pub but_met : PartNow → PartNow
 but_met part = record part {
   known = record {
     split = part.known.split;
+    move = part.known.move;
     met = [];
     areas = part.known.areas;
     ends = [];
@@ -25,7 +26,15 @@ but_met part = record part {
 
 abbrev pub but_split : PartNow → PartNow
 but_split part = record part {
-  known = record { split = None; met = []; areas = []; ends = []; used = 0; tail = None };
+  known = record {
+    split = None;
+    move = None;
+    met = [];
+    areas = [];
+    ends = [];
+    used = 0;
+    tail = None;
+  };
 }
 
 -- each other part stays as it is
@@ -33,13 +42,13 @@ abbrev pub OthersStay : ℕ → List PartNow → List PartNow → Type 0
 OthersStay number old new = (other : ℕ) → other ≢ number
     → part_among new other ≡ part_among old other
 
--- a chain of areas of the part of this number has one interval more
+-- a split of the part of this number goes on, or its chain under rosters has one interval more
 abbrev pub HasMoreAt : ℕ → List PartNow → List PartNow → Type 0
 HasMoreAt number old new = IfSome (part_among old number) (λ (before : PartNow).
     IfSome (part_among new number) (λ (after : PartNow).
     HasMore before.shape before.known after.known))
 
--- Of the part of this number alone there is something new: what it keeps beside its split and its
+-- Of the part of this number alone there is something new: what it keeps beside its splits and its
 -- areas,
 pub record OnlyMet (number : ℕ) (old new : List PartNow) : Type 0 where
   pub parts : map but_met new ≡ map but_met old

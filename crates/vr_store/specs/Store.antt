@@ -103,7 +103,7 @@ pub record IsPartSet (now : Seen) (part : PartNow) : Type 0 where
   pub number : part_no part.shape ≡ part.number
   pub on : IsOn part.shape now
 
--- a part keeps as many areas as it owns
+-- a part holds as many areas as it owns: of a keyed part the one that a split claimed is among them
 abbrev pub OwnsItsChain : List (Option PartNo) → PartNow → Type 0
 OwnsItsChain areas part = OwnsChain part.shape part.known areas
 
@@ -121,7 +121,7 @@ pub record IsFitImage (parts : List PartNow) (image : BeforeImage) : Type 0 wher
 
 -- The numbers of the parts differ, and each changed block is one of the device. Once no unit is
 -- live the log has no record, and what units may put back is fit for the parts. Each area of the
--- volume has an owner or none, and each part keeps as many as it owns.
+-- volume has an owner or none, and each part holds as many as it owns.
 pub record IsSet (store : StoreNow) (now : Seen) : Type 0 where
   pub allowed : IsAllowed store.log.geometry
   pub blocks : IsOf store.log.geometry now
@@ -142,8 +142,9 @@ IsRestedPart store state now part =
     part.known now
 
 -- The volume is at rest by the state, and so is each of its parts, of which none is missing, in the
--- blocks that are its own by who owns the areas. The before-images are the state's, and once the
--- blocks that a unit changed are forced, a crash leaves what stands at its places.
+-- blocks that are its own by who owns the areas; the area that a split under way claimed is the
+-- part's own too. The before-images are the state's, and once the blocks that a unit changed are
+-- forced, a crash leaves what stands at its places.
 pub record IsStored (number : ℕ) (store : StoreNow) (state : State) (now : Seen) : Type 0 where
   pub volume : IsVolumeAtRest store.log.geometry number (owners_of store) store.log
       (images_in store.undo) state now

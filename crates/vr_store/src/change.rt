@@ -69,7 +69,7 @@ fn put_at<B: Blocks, P: Part>(
     requires place { IsPlaceOf (P.shape part.old) place.now }
     requires item { IsGiven (P.shape part.old) place.now bytes }
     requires rests { IsTrue B.tells → RestsPastLog log.old.geometry (P.shape part.old)
-        (B.seen blocks.old) }
+        (P.known part.old) (B.seen blocks.old) }
     requires room { IsTrue B.tells → HasKeptRoom (P.shape part.old)
         (lengths_kept (images_in undo.now) (part_no (P.shape part.old)).0) (B.seen blocks.old) }
     requires knows { IsTrue B.tells → Knows (P.shape part.old) (P.known part.old)
@@ -103,6 +103,7 @@ fn put_at<B: Blocks, P: Part>(
     ensures size { OnOk result ((B.seen blocks.new).size ≡ (B.seen blocks.old).size) }
     ensures part { OnOk result (P.shape part.new ≡ P.shape part.old) }
     ensures split { OnOk result ((P.known part.new).split ≡ (P.known part.old).split) }
+    ensures moves { OnOk result ((P.known part.new).move ≡ (P.known part.old).move) }
     ensures areas { OnOk result ((P.known part.new).areas ≡ (P.known part.old).areas) }
     ensures full { prepared.now.logged ≡ false
         → IsFullWhere log.old (need_of (live_in log.old.records) prepared.now.rec) result }
@@ -174,7 +175,7 @@ fn set_at<B: Blocks, P: Part>(
     requires place { IsPlaceOf (P.shape part.old) place.now }
     requires item { IsGiven (P.shape part.old) place.now bytes }
     requires rests { IsTrue B.tells → RestsPastLog log.old.geometry (P.shape part.old)
-        (B.seen blocks.old) }
+        (P.known part.old) (B.seen blocks.old) }
     requires room { IsTrue B.tells → HasKeptRoom (P.shape part.old)
         (lengths_kept (images_in undo.now) (part_no (P.shape part.old)).0) (B.seen blocks.old) }
     requires knows { IsTrue B.tells → Knows (P.shape part.old) (P.known part.old)
@@ -217,6 +218,7 @@ fn set_at<B: Blocks, P: Part>(
     ensures size { OnOk result ((B.seen blocks.new).size ≡ (B.seen blocks.old).size) }
     ensures part { OnOk result (P.shape part.new ≡ P.shape part.old) }
     ensures split { OnOk result ((P.known part.new).split ≡ (P.known part.old).split) }
+    ensures moves { OnOk result ((P.known part.new).move ≡ (P.known part.old).move) }
     ensures areas { OnOk result ((P.known part.new).areas ≡ (P.known part.old).areas) }
     ensures full { prepared.now.logged ≡ false
         → IsFullWhere log.old (need_of (live_in log.old.records) prepared.now.rec) result }

@@ -30,12 +30,13 @@ use vr_space::{Part, Room};
 use vr_types::{Blocks, DeviceFault, PartNo, StageKind, Unit};
 use vr_undo::Before;
 
-/// Whether it is a stage of a split that comes first.
+/// Whether it is a stage of a split that comes first: none that takes an area, since room was kept
+/// for what is put back.
 fn is_stage(room: Room) -> bool
     ensures { result ≡ is_a_stage room }
 {
     match room {
-        Room::Stage(StageKind::Extend) => false,
+        Room::Stage(StageKind::Extend | StageKind::CaClaim) => false,
         Room::Stage(_) => true,
         _ => false,
     }
@@ -116,7 +117,8 @@ impl<P: Part> Store<P> {
     }
 
     /// Does the stage of a split that comes before the last before-image that a unit keeps, and
-    /// answers the part of which an interval was split in two by it. A fault is the device's.
+    /// answers the part of which an interval was split in two by it. A BACKOUT claims no area. A
+    /// fault is the device's.
     pub fn advance_last<B: Blocks>(
         &mut self,
         blocks: &mut B,
@@ -131,12 +133,14 @@ impl<P: Part> Store<P> {
         requires due { IsTrue B.tells
             → IsDueAtLast self.old (B.seen blocks.old).cur unit length }
         ensures owners_stay { OnErr result (self.new.space ≡ self.old.space) }
-        // What is due is a stage of its part, which takes no area or the least free one.
+        // What is due is a stage of its part, which leaves the owners of areas so:
         ensures owners { IsTrue B.tells → OnOk result (OnLast self.old unit (λ last.
             IfSome (shape_among self.old.parts last.part)
             (λ shape. HasAdvanced (record { 0 = last.part }) shape self.old.space
             self.new.space))) }
-        // A chain of areas has one interval more.
+        // it is none that takes an area.
+        ensures claims_none { IsTrue B.tells → self.new.space ≡ self.old.space }
+        // A split goes on, or a chain under rosters has one interval more.
         ensures more { IsTrue B.tells → OnOk result (OnLast self.old unit (λ last.
             HasMoreAt last.part self.old.parts self.new.parts)) }
         ensures shapes { (number : ℕ)

@@ -95,6 +95,7 @@ fn set_back<B: Blocks, P: Part>(
     ensures size { (B.seen blocks.new).size ≡ (B.seen blocks.old).size }
     ensures part { P.shape part.new ≡ P.shape part.old }
     ensures split { (P.known part.new).split ≡ (P.known part.old).split }
+    ensures moves { (P.known part.new).move ≡ (P.known part.old).move }
     ensures areas { (P.known part.new).areas ≡ (P.known part.old).areas }
     // Where the place is met, no read is made of it.
     ensures reads { HasMet (P.known part.old) place.now → IfErr result (λ fault. fault ≡ Write) }

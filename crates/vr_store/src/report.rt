@@ -32,7 +32,7 @@ impl<P: Part> Store<P> {
     }
 
     /// How many areas the chain of a part has, as the part keeps them in memory; 0 where no part of
-    /// this number is laid.
+    /// this number is laid. An area that a split under way claimed is in no chain yet.
     pub fn areas_of(&self, number: PartNo) -> u32
         ensures { result ≡ option_map_or (λ (part : PartNow). length part.known.areas)
             (part_among self.now.parts number.0) 0 }

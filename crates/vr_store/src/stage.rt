@@ -237,7 +237,7 @@ impl<P: Part> Store<P> {
             × (IsTrue B.tells → (volume : ℕ) (state : State)
             → IsStored volume self.old state (B.seen blocks.old)
             → IsStored volume self.new state (B.seen blocks.new))) }
-        // A chain of areas has one interval more.
+        // A split goes on, or a chain under rosters has one interval more.
         ensures more { IsTrue B.tells → OnOk result
             (HasMoreAt number.0 self.old.parts self.new.parts) }
         ensures parts { OnlySplit number.0 self.old.parts self.new.parts }

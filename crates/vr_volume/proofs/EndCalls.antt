@@ -319,6 +319,7 @@ part-after geometry number owners log Q images old new unit shape known a b is r
           (made.contents 0) ∙ part.laid;
       on = on-still shape a b part.on stays.count stays.size;
       rests = rest-stays a b shape owners stays part.rests;
+      claimed = part.claimed;
       room = fewer-room shape owners (lengths_kept (others_of unit images) (part_no shape).0)
           (lengths_kept images (part_no shape).0) b
           (kept-under (part_no shape).0 (others_of unit images) images [] [] tt tt
@@ -330,7 +331,7 @@ part-after geometry number owners log Q images old new unit shape known a b is r
           (rest-sound shape owners b (rest-stays a b shape owners stays part.rests))
           (room-stays a b shape owners (lengths_kept images (part_no shape).0) stays sound
           part.room);
-      knows = knows-stays a b shape owners known stays sound left part.knows;
+      knows = knows-stays a b shape owners known stays sound left part.claimed part.knows;
       reads = λ place. same-stays a b shape owners stays sound left place ∙ part.reads place
           ∙ sym (ap (λ (content : Content). item_at content place)
           (made.contents (part_no shape).0));

@@ -20,13 +20,13 @@ use Rattle.vr_types.specs.declared.unit.Unit.{Unit as UnitOfRecovery}
 use Rattle.vr_space.specs.Owners.{Owners}
 use Rattle.vr_space.specs.Known.{Known}
 use Rattle.vr_attach.specs.Owning.{IsPastLog}
-use Rattle.vr_space.specs.Part.{HasKeptRoom, InPart, IsAtRest, Knows, SameRecords}
+use Rattle.vr_space.specs.Part.{HasKeptRoom, InPart, IsAtRest, Knows, OwnsClaimed, SameRecords}
 use Rattle.vr_space.specs.Part.{IsPlaceOf, IsSound, MayHold, SetsOne, Shape, item_of, left_by}
 use Rattle.vr_space.specs.Part.{part_no}
 use Rattle.vr_space.specs.Room.{Lengths}
 use Rattle.vr_space.proofs.CallerLemmas.{StaysPart, holds-less, knows-stays, on-still, one-owner}
 use Rattle.vr_space.proofs.CallerLemmas.{rest-grows, rest-sound, rest-stays, room-stays, same-stays}
-use Rattle.vr_space.proofs.CallerLemmas.{stays-keeps}
+use Rattle.vr_space.proofs.CallerLemmas.{owns-grows, owns-same, stays-keeps}
 use Rattle.vr_log.specs.Content.{Content as LogContent}
 use Rattle.vr_log.specs.Live.{live_in}
 use Rattle.vr_log.specs.LogNow.{IsForced, IsLogOf, IsPrefixOf, LogNow}
@@ -160,10 +160,11 @@ part-stays geometry owners images more old new shape known a b stays left part c
       laid = ap (λ (c : Content). shape_by geometry c (part_no shape).0) catalog ∙ part.laid;
       on = on-still shape a b part.on stays.count stays.size;
       rests = rest-stays a b shape owners stays part.rests;
+      claimed = part.claimed;
       room = subst (λ (lengths : Lengths). HasKeptRoom shape lengths b) (sym kept)
           (room-stays a b shape owners (lengths_kept images (part_no shape).0) stays sound
           part.room);
-      knows = knows-stays a b shape owners known stays sound left part.knows;
+      knows = knows-stays a b shape owners known stays sound left part.claimed part.knows;
       reads = λ place.
           same-stays a b shape owners stays sound left place ∙ part.reads place
           ∙ sym (ap (λ (c : Content). item_at c place) content);
@@ -242,17 +243,18 @@ module _ (geometry : Geometry) (owners : Owners) (old new : State) (change : Cha
       → HasImageHere shape images after change.place → HoldsNoMore shape change.place a d
       → part_no shape ≡ change.part → d.count ≡ a.count → d.size ≡ a.size
       → IsAtRest shape owners d → HasKeptRoom shape (lengths_kept after (part_no shape).0) d
-      → Knows shape later d → SetsOne shape change.place found a.cur d.cur
-      → change.new
+      → Knows shape later d → later.move ≡ known.move
+      → SetsOne shape change.place found a.cur d.cur → change.new
       ≡ left_by shape (item_at (old.contents change.part.0) change.place) found
       → IsPartAtRest geometry owners after new shape later d
-  part-set shape known later found images after part here holds at count size rests room knows set
-      given =
+  part-set shape known later found images after part here holds at count size rests room knows moves
+      set given =
       record {
         laid = ap (λ (c : Content). shape_by geometry c (part_no shape).0)
             (catalog-stays geometry old new change laid of put) ∙ part.laid;
         on = on-still shape a d part.on count size;
         rests = rests;
+        claimed = owns-same shape owners known later moves part.claimed;
         room = room;
         knows = knows;
         reads = λ place. by_place place (bytes_eq place change.place) refl;
@@ -342,11 +344,11 @@ module _ (geometry : Geometry) (number : ℕ) (owners : Owners) (log more : LogN
       → HoldsNoMore shape change.place a d → part_no shape ≡ change.part
       → d.count ≡ a.count → d.size ≡ a.size
       → IsAtRest shape owners d → HasKeptRoom shape (lengths_kept after (part_no shape).0) d
-      → Knows shape later d → SetsOne shape change.place found a.cur d.cur
-      → change.new
+      → Knows shape later d → later.move ≡ known.move
+      → SetsOne shape change.place found a.cur d.cur → change.new
       ≡ left_by shape (item_at (old.contents change.part.0) change.place) found
       → IsPartAtRest geometry owners after new shape later d
-  part-first-change shape known later found part holds at count size rests room knows set
+  part-first-change shape known later found part holds at count size rests room knows moves set
       given = part-set geometry owners old new change a d rest.laid of made.contents shape known
       later found images after part
       (record {
@@ -359,7 +361,7 @@ module _ (geometry : Geometry) (number : ℕ) (owners : Owners) (log more : LogN
             (sym (ap (λ (them : List BeforeImage). oldest them (part_no shape).0 place) kept)
             ∙ none);
       })
-      holds at count size rests room knows set given
+      holds at count size rests room knows moves set given
 
 -- ---- what a first change asks for
 
@@ -526,17 +528,17 @@ module _ (geometry : Geometry) (number : ℕ) (owners : Owners) (log : LogNow)
         → oldest images (part_no shape).0 place ≢ None → HoldsNoMore shape place a d
         → IsGivenFor old change shape place found → d.count ≡ a.count → d.size ≡ a.size
         → IsAtRest shape owners d → HasKeptRoom shape (lengths_kept images (part_no shape).0) d
-        → Knows shape later d → SetsOne shape place found a.cur d.cur
+        → Knows shape later d → later.move ≡ known.move → SetsOne shape place found a.cur d.cur
         → IsPartAtRest geometry owners images new shape later d
     part-put shape known later place found put part some holds given count size rests room knows
-        set = part-set geometry owners old new change a d rest.laid of put shape known later found
+        moves set = part-set geometry owners old new change a d rest.laid of put shape known later found
         images images part
         (record {
           some = λ none. some (ap (oldest images (part_no shape).0) given.place_is ∙ none);
           free = λ other none. none;
         })
         (subst (λ (q : List ℕ). HoldsNoMore shape q a d) given.place_is holds)
-        given.part count size rests room knows
+        given.part count size rests room knows moves
         (subst (λ (q : List ℕ). SetsOne shape q found a.cur d.cur) given.place_is set)
         (given-item old change shape place found given)
 
@@ -603,16 +605,18 @@ module _ (geometry : Geometry) (number : ℕ) (owners : Owners) (log : LogNow)
 pub part-same-records : (geometry : Geometry) (owners : Owners) (images : List BeforeImage)
     (state : State) (shape : Shape) (known later : Known) (a d : Seen)
     → IsPartAtRest geometry owners images state shape known a → d.count ≡ a.count → d.size ≡ a.size
-    → IsAtRest shape owners d → HasKeptRoom shape (lengths_kept images (part_no shape).0) d
+    → IsAtRest shape owners d → OwnsClaimed shape owners later
+    → HasKeptRoom shape (lengths_kept images (part_no shape).0) d
     → Knows shape later d → SameRecords shape a.cur d.cur
     → ((place : List ℕ) (found : Option Item) → MayHold shape d.may place found
     → MayHold shape a.may place found)
     → IsPartAtRest geometry owners images state shape later d
-part-same-records geometry owners images state shape known later a d part count size rests room
-    knows same holds = record {
+part-same-records geometry owners images state shape known later a d part count size rests claimed
+    room knows same holds = record {
       laid = part.laid;
       on = on-still shape a d part.on count size;
       rests = rests;
+      claimed = claimed;
       room = room;
       knows = knows;
       reads = λ place. same place ∙ part.reads place;
@@ -656,6 +660,7 @@ part-grows geometry owners grown images state shape known now leaves part = reco
   laid = part.laid;
   on = part.on;
   rests = rest-grows owners grown now leaves shape part.rests;
+  claimed = owns-grows shape owners grown known leaves part.claimed;
   room = part.room;
   knows = part.knows;
   reads = part.reads;

@@ -1,11 +1,16 @@
 -- What a stage of a part leaves of a safe volume, and of one at rest, by who owns the areas then.
-use Rattle.std.proofs.Common.{◌≡◌, ◌≢◌, ◌⊎◌, ⊎_elim, ℕ, List, [], Option, Some, refl, sym, subst}
-use Rattle.std.proofs.Common.{◌∙◌, ap, length}
+use Rattle.std.proofs.Common.{◌≡◌, ◌≢◌, ◌⊎◌, ⊎_elim, ℕ, List, [], None, Option, Some, refl, sym, subst}
+use Rattle.std.proofs.Common.{◌∙◌, ap, get_or, length, set}
+use Rattle.std.specs.Prelude.{is_none}
+use Rattle.std.proofs.lemmas.Bool.{true≢false}
+use Rattle.std.proofs.lemmas.List.{get_or-set_same}
+use Rattle.std.proofs.lemmas.List.Quantifiers.{position-Some}
 use Rattle.vr_types.specs.Content.{Content}
 use Rattle.vr_types.specs.Geometry.{area_count}
 use Rattle.vr_types.specs.Image.{Image}
 use Rattle.vr_types.specs.Regions.{Touches}
 use Rattle.vr_types.specs.Seen.{Left, Seen}
+use Rattle.vr_types.specs.Space.{least_free}
 use Rattle.vr_types.specs.declared.geometry.Geometry.{Geometry}
 use Rattle.vr_types.specs.declared.unit.PartNo.{PartNo}
 use Rattle.vr_types.specs.declared.unit.StageKind.{StageKind}
@@ -13,12 +18,12 @@ use Rattle.vr_space.specs.Known.{Known}
 use Rattle.vr_space.specs.Owners.{Owners}
 use Rattle.vr_space.specs.Part.{AddsTo, DueMore, HasKeptRoom, HasRoom, InPart, IsAtRest, IsSound}
 use Rattle.vr_space.specs.Part.{IsUnderWay, Knows, MayGrow, Nothing, OwnersAfter, SameRecords}
-use Rattle.vr_space.specs.Part.{HasOwners, KeyedShape, NumberedShape, Shape}
-use Rattle.vr_space.specs.Part.{part_no, room_of}
+use Rattle.vr_space.specs.Part.{HasOwners, KeepsChain, KeyedShape, NumberedShape, OwnsClaimed, Shape}
+use Rattle.vr_space.specs.Part.{held_by, part_no, room_of}
 use Rattle.vr_space.specs.Room.{Lengths}
 use Rattle.vr_space.specs.declared.room.Room.TheVariants.{Stage}
 use Rattle.vr_space.proofs.CallerLemmas.{StaysPart, due-stays, rest-sound, room-stage, sound-less}
-use Rattle.vr_space.proofs.CallerLemmas.{stage-owners}
+use Rattle.vr_space.proofs.CallerLemmas.{held-own, owns-after, owns-held, stage-owners}
 use Rattle.vr_attach.specs.Laid.{IsInside}
 use Rattle.vr_attach.specs.Owning.{IsPastLog, claimed_by, owner_of}
 use Rattle.vr_attach.proofs.CallerLemmas.{claimed-grows, claimed-owners, owner-past-log}
@@ -140,16 +145,39 @@ module _ (geometry : Geometry) (number : ℕ) (owners grown : Owners) (log : Log
 
 -- ---- a volume at rest
 
+-- a claim changes the owners of areas
+claim-changes : (areas : List (Option PartNo)) (area : ℕ) (part : PartNo)
+    → least_free areas ≡ Some area → areas ≢ set areas area (Some part)
+claim-changes areas area part least same =
+    let found = position-Some is_none areas area None least in
+    true≢false (sym found.1 ∙ ap (λ (one : List (Option PartNo)). is_none (get_or one area None))
+    same ∙ ap is_none (get_or-set_same areas area (Some part) None found.0))
+
+-- The area that a split claimed is the part's still, where the owners stay.
+owns-still : (shape : Shape) (owners : Owners) (before after : Known) (a b : Seen)
+    (areas : List (Option PartNo)) → IsSound shape owners a → Left a a.cur → Knows shape before a
+    → OwnsClaimed shape owners before
+    → KeepsChain shape (held_by shape before) (held_by shape after) areas areas
+    → IsUnderWay shape after b → OwnsClaimed shape owners after
+owns-still (NumberedShape part) owners before after a b areas sound left knows owns chain way = tt
+owns-still (KeyedShape part) owners before after a b areas sound left knows owns chain way =
+    owns-held (KeyedShape part) owners after b way
+    (λ n held. held-own part owners before a sound left knows owns held.0 n
+    (⊎_elim (λ kept. kept.0.none held.0 held.1)
+    (λ more. absurd (claim-changes areas more.area (part_no (KeyedShape part)) more.least
+    more.owned)) chain) held.2)
+
 -- what a stage leaves of its part
-pub record IsAdvanced (shape : Shape) (kept : Lengths) (later : Known)
+pub record IsAdvanced (shape : Shape) (kept : Lengths) (known later : Known)
     (areas after : List (Option PartNo)) (a d : Seen) : Type 0
   where
     pub adds : (owners grown : Owners) → MayGrow shape areas owners grown
-        → IsAtRest shape owners a → AddsTo shape grown Nothing a d
+        → IsAtRest shape owners a → OwnsClaimed shape owners known → AddsTo shape grown Nothing a d
     pub rests : (owners grown : Owners) → MayGrow shape areas owners grown
-        → IsAtRest shape owners a → IsAtRest shape grown d
+        → IsAtRest shape owners a → OwnsClaimed shape owners known → IsAtRest shape grown d
     pub stays : (owners : Owners) → after ≡ areas → IsAtRest shape owners a
-        → IsAtRest shape owners d
+        → OwnsClaimed shape owners known → IsAtRest shape owners d
+    pub chain : KeepsChain shape (held_by shape known) (held_by shape later) areas after
     pub room : HasKeptRoom shape kept d
     pub knows : Knows shape later d
     pub same : SameRecords shape a.cur d.cur
@@ -160,7 +188,7 @@ module _ (number : ℕ) (log : LogNow) (images : List BeforeImage) (state : Stat
     (rest : IsVolumeAtRest log.geometry number (owner_of log.geometry areas) log images state a)
     (part : IsPartAtRest log.geometry (owner_of log.geometry areas) images state shape known a)
     (puts : (owners grown : Owners) → MayGrow shape areas owners grown → IsAtRest shape owners a
-    → Touches (InPart shape grown) (HasRoom shape kept) a d)
+    → OwnsClaimed shape owners known → Touches (InPart shape grown) (HasRoom shape kept) a d)
     (areas_are : (after ≡ areas) ⊎ (after ≡ claimed_by (part_no shape) areas)) where
   abbrev own : Owners
   own = owner_of log.geometry areas
@@ -175,7 +203,7 @@ module _ (number : ℕ) (log : LogNow) (images : List BeforeImage) (state : Stat
       (lengths_kept images (part_no shape).0) refl) areas rest.safe
 
   rooms : Touches (InPart shape grown) (HasRoom shape kept) a d
-  rooms = puts own grown grows part.rests
+  rooms = puts own grown grows part.rests part.claimed
 
   -- each other part is as it was
   stays-other : (other : Shape) → (part_no other).0 ≢ (part_no shape).0
@@ -214,7 +242,7 @@ module _ (number : ℕ) (log : LogNow) (images : List BeforeImage) (state : Stat
       (rest-sound other own a others.rests) left
 
   module _ (later : Known) (room : kept ≡ lengths_kept images (part_no shape).0)
-      (call : IsAdvanced shape kept later areas after a d) where
+      (call : IsAdvanced shape kept known later areas after a d) where
     laid : IsLaidSo log.geometry log (committed_by state) (part_no shape).0 shape kept
     laid = laid-rest log.geometry number own log images state a rest shape known part kept room
 
@@ -222,7 +250,7 @@ module _ (number : ℕ) (log : LogNow) (images : List BeforeImage) (state : Stat
     past = owner-past-log log.geometry (claimed_by (part_no shape) areas)
 
     adds : AddsTo shape grown Nothing a d
-    adds = call.adds own grown grows part.rests
+    adds = call.adds own grown grows part.rests part.claimed
 
     more : IsVolumeAtRest log.geometry number grown log images state a
     more = volume-grows log.geometry number own grown log images state a grows.kept past rest
@@ -238,12 +266,27 @@ module _ (number : ℕ) (log : LogNow) (images : List BeforeImage) (state : Stat
         rooms
 
     part-by : (owners : Owners) → IsPartAtRest log.geometry owners images state shape known a
-        → IsAtRest shape owners d → IsPartAtRest log.geometry owners images state shape later d
-    part-by owners before rests = part-same-records log.geometry owners images state shape known
-        later a d before adds.touches.count_same adds.touches.size_same rests
+        → IsAtRest shape owners d → OwnsClaimed shape owners later
+        → IsPartAtRest log.geometry owners images state shape later d
+    part-by owners before rests claimed = part-same-records log.geometry owners images state shape known
+        later a d before adds.touches.count_same adds.touches.size_same rests claimed
         (subst (λ (lengths : Lengths). HasKeptRoom shape lengths d) room call.room) call.knows
         call.same (λ place found held. ⊎_elim (λ was. was) (λ none. absurd none)
         (adds.rest place found held))
+
+    sound : IsSound shape own a
+    sound = rest-sound shape own a part.rests
+
+    -- the area that a split claimed by then is the part's
+    claimed-grown : OwnsClaimed shape grown later
+    claimed-grown = owns-after shape own grown known later a d areas after sound left part.knows
+        part.claimed call.chain grows call.knows.way
+
+    claimed-still : after ≡ areas → OwnsClaimed shape own later
+    claimed-still same = owns-still shape own known later a d areas sound left part.knows
+        part.claimed (subst (λ (now : List (Option PartNo)).
+        KeepsChain shape (held_by shape known) (held_by shape later) areas now) same call.chain)
+        call.knows.way
 
     abbrev RestBy : List (Option PartNo) → Type 0
     RestBy now = IsVolumeAtRest log.geometry number (owner_of log.geometry now) log images state d
@@ -254,18 +297,18 @@ module _ (number : ℕ) (log : LogNow) (images : List BeforeImage) (state : Stat
       volume-same log.geometry number grown log images state a more d safe-claimed log-stands,
       part-by grown
           (part-grows log.geometry own grown images state shape known a grows.kept part)
-          (call.rests own grown grows part.rests),
+          (call.rests own grown grows part.rests part.claimed) claimed-grown,
     )
 
     rest-still : after ≡ areas → RestBy areas
     rest-still same =
-        let rests : IsAtRest shape own d = call.stays own same part.rests in (
+        let rests : IsAtRest shape own d = call.stays own same part.rests part.claimed in (
           volume-same log.geometry number own log images state a rest d
               (safe-back log.geometry number own grown log (committed_by state) (part_no shape).0
               shape kept (HasRoom shape kept) a d grows.kept rest.safe laid rooms
               (rest-sound shape own d rests) safe-claimed)
               log-stands,
-          part-by own part rests,
+          part-by own part rests (claimed-still same),
         )
 
     -- The volume and the part are at rest by who owns the areas then.

@@ -6,8 +6,8 @@ use Rattle.vr_types.specs.Seen.{Seen}
 use Rattle.vr_types.specs.declared.geometry.Geometry.{Geometry}
 use Rattle.vr_space.specs.Known.{Known}
 use Rattle.vr_space.specs.Owners.{Owners}
-use Rattle.vr_space.specs.Part.{HasKeptRoom, IsAtRest, IsOn, Knows, MayHold, Shape, item_of}
-use Rattle.vr_space.specs.Part.{left_by, part_no}
+use Rattle.vr_space.specs.Part.{HasKeptRoom, IsAtRest, IsOn, Knows, MayHold, OwnsClaimed, Shape}
+use Rattle.vr_space.specs.Part.{item_of, left_by, part_no}
 use Rattle.vr_attach.specs.Owning.{IsPastLog}
 use Rattle.vr_log.specs.LogNow.{IsForced, LogNow}
 use Rattle.vr_log.specs.Standing.{LogStands}
@@ -29,13 +29,15 @@ pub record IsVolumeAtRest (geometry : Geometry) (number : ℕ) (owners : Owners)
   pub logged : HasLogged log state
   pub kept : images ≡ images_of log.records
 
--- One part of it: it is laid so, reads as the state has it, and has room for what is kept. Off the
--- places of before-images a crash leaves what the state has, what was withdrawn too.
+-- One part of it: it is laid so, reads as the state has it, and has room for what is kept. The area
+-- that its split under way claimed is its own. Off the places of before-images a crash leaves what
+-- the state has, what was withdrawn too.
 pub record IsPartAtRest (geometry : Geometry) (owners : Owners) (images : List BeforeImage)
     (state : State) (shape : Shape) (known : Known) (now : Seen) : Type 0 where
   pub laid : shape_by geometry (state.contents 0) (part_no shape).0 ≡ Some shape
   pub on : IsOn shape now
   pub rests : IsAtRest shape owners now
+  pub claimed : OwnsClaimed shape owners known
   pub room : HasKeptRoom shape (lengths_kept images (part_no shape).0) now
   pub knows : Knows shape known now
   pub reads : (place : List ℕ) → item_of shape now.cur place
@@ -49,10 +51,11 @@ abbrev pub HoldsNoMore : Shape → List ℕ → Seen → Seen → Type 0
 HoldsNoMore shape at old new = (place : List ℕ) (found : Option Item) → place ≢ at
     → MayHold shape new.may place found → MayHold shape old.may place found
 
--- The part is at rest, whichever blocks are its own, as long as they are past the log.
-abbrev pub RestsPastLog : Geometry → Shape → Seen → Type 0
-RestsPastLog geometry shape now = (owners : Owners) × IsPastLog geometry owners
-    × IsAtRest shape owners now
+-- The part is at rest, whichever blocks are its own, as long as they are past the log and the area
+-- that its split under way claimed is among them.
+abbrev pub RestsPastLog : Geometry → Shape → Known → Seen → Type 0
+RestsPastLog geometry shape known now = (owners : Owners) × IsPastLog geometry owners
+    × IsAtRest shape owners now × OwnsClaimed shape owners known
 
 -- What a call that changes a place of the state is given is what the change makes of it: a record
 -- that stands there, or what such a part leaves of the item that is there where it is taken away.

@@ -143,6 +143,7 @@ pub fn set_again<B: Blocks, P: Part, K: Kept>(
     ensures cause { HasCause (B.faults blocks.old) (B.faults blocks.new) result }
     ensures shape { P.shape part.new ≡ P.shape part.old }
     ensures split { (P.known part.new).split ≡ (P.known part.old).split }
+    ensures moves { (P.known part.new).move ≡ (P.known part.old).move }
     ensures areas { (P.known part.new).areas ≡ (P.known part.old).areas }
 {
     let _ = log;

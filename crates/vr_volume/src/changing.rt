@@ -33,10 +33,12 @@ ghost use Rattle.vr_space.specs.Part.{
   Knows,
   MayGrow,
   OwnersAfter,
+  OwnsClaimed,
   SameRecords,
   SetsOne,
   Shape,
   given,
+  held_by,
   part_no,
   room_of,
 };
@@ -114,6 +116,7 @@ pub fn set_free<B: Blocks, P: Part, K: Kept>(
     ensures cause { HasCause (B.faults blocks.old) (B.faults blocks.new) result }
     ensures shape { P.shape part.new ≡ P.shape part.old }
     ensures split { (P.known part.new).split ≡ (P.known part.old).split }
+    ensures moves { (P.known part.new).move ≡ (P.known part.old).move }
     ensures areas { (P.known part.new).areas ≡ (P.known part.old).areas }
 {
     part.set(blocks, kept, place, bytes)
@@ -146,6 +149,7 @@ pub fn do_stage<B: Blocks, P: Part, K: Kept>(
         → IsSafe geometry number (owner_of geometry space.old) log committed (B.seen blocks.old)
         → IsLaidSo geometry log committed (part_no (P.shape part.old)).0 (P.shape part.old)
         (K.kept kept.now (part_no (P.shape part.old)))
+        → OwnsClaimed (P.shape part.old) (owner_of geometry space.old) (P.known part.old)
         → Guards (B.seen blocks.old) (B.seen blocks.new) (IsSafeImage geometry number
         (owner_of geometry (claimed_by (part_no (P.shape part.old)) space.old)) log committed)
         × IsSafe geometry number
@@ -158,9 +162,11 @@ pub fn do_stage<B: Blocks, P: Part, K: Kept>(
         OwnersAfter (part_no (P.shape part.old)) kind space.old space.new) }
     ensures owners_stay { OnErr result (space.new ≡ space.old) }
     // What the part keeps of its areas goes with the areas that it owns.
-    ensures chain { OnOk result (KeepsChain (P.shape part.old) (P.known part.old).areas
-        (P.known part.new).areas space.old space.new) }
-    ensures chain_stays { OnErr result ((P.known part.new).areas ≡ (P.known part.old).areas) }
+    ensures chain { OnOk result (KeepsChain (P.shape part.old)
+        (held_by (P.shape part.old) (P.known part.old))
+        (held_by (P.shape part.old) (P.known part.new)) space.old space.new) }
+    ensures chain_stays { OnErr result (held_by (P.shape part.old) (P.known part.new)
+        ≡ held_by (P.shape part.old) (P.known part.old)) }
     ensures same { IsTrue B.tells → SameRecords (P.shape part.old)
         (B.seen blocks.old).cur (B.seen blocks.new).cur }
     ensures due { IsTrue B.tells → OnOk result
@@ -168,15 +174,18 @@ pub fn do_stage<B: Blocks, P: Part, K: Kept>(
     ensures rests { IsTrue B.tells → (owners grown : Owners)
         → MayGrow (P.shape part.old) space.old owners grown
         → IsAtRest (P.shape part.old) owners (B.seen blocks.old)
+        → OwnsClaimed (P.shape part.old) owners (P.known part.old)
         → OnOk result (IsAtRest (P.shape part.old) grown (B.seen blocks.new)) }
     ensures stays { IsTrue B.tells → (owners : Owners) → space.new ≡ space.old
         → IsAtRest (P.shape part.old) owners (B.seen blocks.old)
+        → OwnsClaimed (P.shape part.old) owners (P.known part.old)
         → OnOk result (IsAtRest (P.shape part.old) owners (B.seen blocks.new)) }
     ensures room { IsTrue B.tells → HasKeptRoom (P.shape part.old)
         (K.kept kept.now (part_no (P.shape part.old))) (B.seen blocks.new) }
     ensures knows { IsTrue B.tells → OnOk result
         (Knows (P.shape part.old) (P.known part.new) (B.seen blocks.new)) }
     ensures split { OnErr result ((P.known part.new).split ≡ (P.known part.old).split) }
+    ensures moves { OnErr result ((P.known part.new).move ≡ (P.known part.old).move) }
     ensures unread { IfErr result (λ fault. fault ≡ Read
         → Keeps B.tells (B.seen blocks.old) (B.seen blocks.new)
         × (IsTrue B.tells
@@ -210,7 +219,7 @@ pub fn do_stage<B: Blocks, P: Part, K: Kept>(
         (B.seen blocks.old)
         → IsPartAtRest log.geometry (owner_of log.geometry space.new) images state other known
         (B.seen blocks.new)) }
-    // A chain of areas of a volume at rest has one interval more.
+    // A split of a volume at rest goes on, or a chain under rosters has one interval more.
     ensures more { IsTrue B.tells → OnOk result ((number : ℕ) (log : LogNow)
         (images : List BeforeImage) (state : State)
         → IsVolumeAtRest log.geometry number (owner_of log.geometry space.old) log images state

@@ -97,7 +97,7 @@ pub fn change<B: Blocks, P: Part, K: Kept>(
     requires place { IsPlaceOf (P.shape part.old) place.now }
     requires record { IsGiven (P.shape part.old) place.now bytes }
     requires rests { IsTrue B.tells → RestsPastLog log.old.geometry (P.shape part.old)
-        (B.seen blocks.old) }
+        (P.known part.old) (B.seen blocks.old) }
     requires room { IsTrue B.tells → HasKeptRoom (P.shape part.old)
         (K.kept kept.now (part_no (P.shape part.old))) (B.seen blocks.old) }
     requires knows { IsTrue B.tells → Knows (P.shape part.old) (P.known part.old)
@@ -148,6 +148,7 @@ pub fn change<B: Blocks, P: Part, K: Kept>(
     ensures size { OnOk result ((B.seen blocks.new).size ≡ (B.seen blocks.old).size) }
     ensures part { OnOk result (P.shape part.new ≡ P.shape part.old) }
     ensures split { OnOk result ((P.known part.new).split ≡ (P.known part.old).split) }
+    ensures moves { OnOk result ((P.known part.new).move ≡ (P.known part.old).move) }
     ensures areas { OnOk result ((P.known part.new).areas ≡ (P.known part.old).areas) }
     ensures stands { IsTrue B.tells → OnOk result (LogStands log.new (B.seen blocks.new)) }
     // A volume that was at rest is so by the state after the change, and so is the part.

@@ -4,7 +4,7 @@ use Rattle.std.proofs.lemmas.List.{get_or-drop, length-drop}
 use Rattle.vr_seqset.specs.Entry.{Entry}
 use Rattle.vr_seqset.specs.SequenceSet.{SequenceSet}
 use Rattle.vr_seqset.specs.Writer.{block_of, intervals_of, written}
-use Rattle.vr_casplit.specs.Halves.{numbered_from}
+use Rattle.vr_space.specs.Moves.{numbered_from}
 use Rattle.vr_casplit.proofs.WrittenHeads.{entries-field, length-numbered}
 use Rattle.vr_casplit.proofs.Writing.{moved-next, moved-whole, next-rules}
 use Rattle.vr_casplit.proofs.head.add_moved.Goals as goal

@@ -1,6 +1,6 @@
 use Rattle.std.proofs.Common.{◌≡◌, length, take, drop}
 use Rattle.vr_seqset.specs.Writer.{block_of, intervals_of, written}
-use Rattle.vr_casplit.specs.Halves.{numbered_from}
+use Rattle.vr_space.specs.Moves.{numbered_from}
 use Rattle.vr_casplit.proofs.head.add_moved.Given as goal
 
 abbrev pub invariant-loop-i : goal.invariant-loop-i

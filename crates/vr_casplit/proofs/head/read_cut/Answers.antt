@@ -3,7 +3,7 @@ use Rattle.vr_seqset.specs.Reading.{record_in}
 use Rattle.vr_seqset.specs.SequenceSet.{SequenceSet}
 use Rattle.vr_seqset.proofs.CallerLemmas.{record_is}
 use Rattle.vr_types.specs.PlaceBuffer.{PlaceRoom}
-use Rattle.vr_casplit.specs.Halves.{cut_of}
+use Rattle.vr_space.specs.Moves.{cut_of}
 use Rattle.vr_casplit.proofs.WrittenHeads.{cut-last}
 use Rattle.vr_casplit.proofs.head.read_cut.Goals as goal
 

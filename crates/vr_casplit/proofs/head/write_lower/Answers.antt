@@ -3,7 +3,7 @@ use Rattle.vr_seqset.specs.Reading.{record_in}
 use Rattle.vr_seqset.specs.SequenceSet.{KeepsRules, SequenceSet}
 use Rattle.vr_seqset.specs.Writer.{written}
 use Rattle.vr_seqset.proofs.CallerLemmas.{record_is}
-use Rattle.vr_casplit.specs.Halves.{lower_record}
+use Rattle.vr_space.specs.Moves.{lower_record}
 use Rattle.vr_casplit.proofs.WrittenHeads.{lower-rules}
 use Rattle.vr_casplit.proofs.Writing.{all-rules, begun-is, begun-rules}
 use Rattle.vr_casplit.proofs.head.write_lower.Goals as goal

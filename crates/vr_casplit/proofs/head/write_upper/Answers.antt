@@ -5,7 +5,7 @@ use Rattle.vr_seqset.specs.Reading.{record_in}
 use Rattle.vr_seqset.specs.SequenceSet.{KeepsRules, SequenceSet}
 use Rattle.vr_seqset.specs.Writer.{written}
 use Rattle.vr_seqset.proofs.CallerLemmas.{record_is}
-use Rattle.vr_casplit.specs.Halves.{numbered_from, upper_record}
+use Rattle.vr_space.specs.Moves.{numbered_from, upper_record}
 use Rattle.vr_casplit.proofs.WrittenHeads.{cut-last, length-numbered, upper-rules}
 use Rattle.vr_casplit.proofs.Writing.{all-rules, begun-is, begun-rules}
 use Rattle.vr_casplit.proofs.head.write_upper.Goals as goal

@@ -5,7 +5,8 @@ use Rattle.vr_types.specs.declared.unit.StageKind.TheVariants.{CaCopy}
 use Rattle.vr_types.proofs.CallerLemmas.{keeps-then, keeps-then-puts}
 use Rattle.vr_space.specs.Areas.{KeyedChain, area_of}
 use Rattle.vr_space.specs.UnderWay.{interval_block}
-use Rattle.vr_casplit.specs.Splits.{MoveNow, after_by, move_of}
+use Rattle.vr_space.specs.Split.{MoveNow}
+use Rattle.vr_casplit.specs.Splits.{after_by, move_of}
 use Rattle.vr_casplit.proofs.Reading.{moving-head}
 use Rattle.vr_casplit.proofs.Moves.{copy-way, is-put}
 use Rattle.vr_casplit.proofs.Works.{ok-when, read-work, work-done, work-leaves}
@@ -64,9 +65,9 @@ returns-clause-done g c told cut =
     (keeps-then-puts g.B.Blocks.tells _ c.copy_entry.new.out a m b c.read_head.ensures.keeps
     c.copy_entry.ensures.puts)
     refl way.ready.1 way.ready.2
-    (is-put part move move.copied (c.staying.result + move.copied) a.cur m.cur b.cur
+    (is-put part move move.copied (move.stay + move.copied) a.cur m.cur b.cur
     c.read_head.new.top c.copy_entry.new.out (c.in_ok-read_head.ensures.read told)
-    (c.read_head.ensures.keeps.content told) (omega (arith, c.staying.ensures))
+    (c.read_head.ensures.keeps.content told) refl
     (omega (arith, way.entries, way.ready.1)) (done _ (c.copy_entry.ensures.read told))
     (done _ (c.copy_entry.ensures.done told))))
     (λ owners kept areas ends grows knows.

@@ -1,4 +1,4 @@
-use Rattle.std.proofs.Common.{◌≡◌, ℕ, length, arith, refl, true≢false, sym, ap, subst, ◌∙◌}
+use Rattle.std.proofs.Common.{◌≡◌, length, arith, refl, true≢false, sym, ap, subst, ◌∙◌}
 use Rattle.vr_types.specs.Image.{Block, Image, block_at}
 use Rattle.vr_types.specs.Seen.{Only, Seen}
 use Rattle.vr_types.specs.declared.unit.StageKind.TheVariants.{CaLink}
@@ -6,9 +6,9 @@ use Rattle.vr_types.proofs.CallerLemmas.{keeps-then-puts}
 use Rattle.vr_space.specs.Areas.{KeyedChain, area_of, head_of}
 use Rattle.vr_space.specs.Keyed.{entries_of}
 use Rattle.vr_space.specs.UnderWay.{interval_block}
-use Rattle.vr_casplit.specs.Halves.{staying}
-use Rattle.vr_casplit.specs.Moving.{IsUpper}
-use Rattle.vr_casplit.specs.Splits.{MoveNow, after_by, move_of}
+use Rattle.vr_space.specs.Moves.{IsUpper}
+use Rattle.vr_space.specs.Split.{MoveNow}
+use Rattle.vr_casplit.specs.Splits.{after_by, move_of}
 use Rattle.vr_casplit.proofs.Reading.{moving-head}
 use Rattle.vr_casplit.proofs.Moves.{link-way}
 use Rattle.vr_casplit.proofs.Works.{ok-when, read-work, work-done, work-leaves}
@@ -66,10 +66,9 @@ returns-clause-done g c told cut =
     (keeps-then-puts g.B.Blocks.tells _ c.link_area.new.out a m b c.read_head.ensures.keeps
     c.link_area.ensures.puts)
     refl way.ready.1
-    (subst (λ (top : Block). IsUpper (area_of part move.area) (staying move.entries) top
+    (subst (λ (top : Block). IsUpper (area_of part move.area) move.stay top
     c.link_area.new.out) (c.in_ok-read_head.ensures.read told)
-    (subst (λ (stay : ℕ). IsUpper (area_of part move.area) stay c.read_head.new.top
-    c.link_area.new.out) c.staying-stay.ensures (done _ c.link_area.ensures.upper)))
+    (done _ c.link_area.ensures.upper))
     (done _ (c.link_area.ensures.stable told))
     (λ j below. subst
     (λ (image : Image). Only b (interval_block (area_of part move.into) j)
@@ -79,7 +78,6 @@ returns-clause-done g c told cut =
       arith,
       below,
       way.entries,
-      c.staying-stay.ensures,
       ap (λ (top : Block). length (entries_of top)) (c.in_ok-read_head.ensures.read told),
     )))))
     (λ owners kept areas ends grows knows.

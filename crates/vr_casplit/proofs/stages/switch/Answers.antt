@@ -1,16 +1,18 @@
-use Rattle.std.proofs.Common.{ℕ, List, None, All, length, take, arith, true≢false, sym, ap, subst}
-use Rattle.std.proofs.Common.{◌∙◌}
+use Rattle.std.proofs.Common.{ℕ, List, None, Some, All, length, take, arith, true≢false, sym}
+use Rattle.std.proofs.Common.{ap, subst, ◌∙◌}
 use Rattle.std.proofs.lemmas.List.Elements.{All-take}
 use Rattle.vr_types.specs.Image.{Block}
+use Rattle.vr_types.specs.Seen.{Seen}
 use Rattle.vr_types.specs.declared.unit.StageKind.TheVariants.{CaSwitch}
 use Rattle.vr_seqset.specs.Entry.{IsWhole}
 use Rattle.vr_seqset.specs.Reading.{record_in}
 use Rattle.vr_space.specs.Areas.{area_of}
 use Rattle.vr_space.specs.Keyed.{IsHead, entries_of}
-use Rattle.vr_casplit.specs.Halves.{staying}
+use Rattle.vr_space.specs.Owners.{Owners}
+use Rattle.vr_space.specs.Part.{IsSound, KeyedShape, Shape}
+use Rattle.vr_space.proofs.CallerLemmas.{move-keeps, rest-sound, rest-stands}
 use Rattle.vr_casplit.specs.Splits.{move_of}
 use Rattle.vr_casplit.proofs.Reading.{moving-head}
-use Rattle.vr_casplit.proofs.Stays.{moving-keeps}
 use Rattle.vr_casplit.proofs.Upper.{end-length}
 use Rattle.vr_casplit.proofs.Works.{ok-when, read-work, work-done, work-leaves}
 use Rattle.vr_casplit.proofs.stages.switch.Goals as goal
@@ -36,10 +38,14 @@ returns-then-not-branch-clause-done g c told =
 
 pub switch_head-requires-clause-moved : goal.switch_head-requires-clause-moved
 switch_head-requires-clause-moved g c told =
-    (moving-keeps g.B.Blocks.tells told c.args.layout.now (move_of c.args.moving.now CaSwitch)
-    (g.B.Blocks.seen c.args.blocks.now) (g.B.Blocks.seen c.read_head.new.blocks)
-    c.read_head.ensures.keeps (c.requires.rests told)
-    (g.met.B.Blocks.cur_may c.args.blocks.now told) (c.requires.way told)).ready.1
+    let now : Seen = g.B.Blocks.seen c.args.blocks.now in
+    let shape : Shape = KeyedShape c.args.layout.now in
+    let owners : Owners = (c.requires.rests told).0 in
+    let sound : IsSound shape owners now = rest-sound shape owners now (c.requires.rests told).1 in
+    (move-keeps c.args.layout.now (Some (move_of c.args.moving.now CaSwitch)) g.B.Blocks.tells told
+    now (g.B.Blocks.seen c.read_head.new.blocks) c.read_head.ensures.keeps c.requires.on
+    (rest-stands shape owners now sound (g.met.B.Blocks.cur_may c.args.blocks.now told))
+    (c.requires.way told)).ready.1
 
 pub returns-clause-leaves : goal.returns-clause-leaves
 returns-clause-leaves g c told =
@@ -59,9 +65,8 @@ returns-clause-long g c =
       arith,
       ap (λ (place : List ℕ). length place) c.switch_head.ensures.cut,
       end-length c.args.layout.now.key (record_in top).low
-          (take (staying (length (entries_of top))) (entries_of top)) head.key
-          (All-take (IsWhole c.args.layout.now.key) (staying (length (entries_of top)))
-          (entries_of top)
+          (take c.args.moving.now.stay (entries_of top)) head.key
+          (All-take (IsWhole c.args.layout.now.key) c.args.moving.now.stay (entries_of top)
           (subst (λ (n : ℕ). All (IsWhole n) (entries_of top)) head.key
           head.spelled.rules.lengths.whole)),
     )

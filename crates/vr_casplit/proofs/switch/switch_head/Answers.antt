@@ -1,5 +1,4 @@
-use Rattle.std.proofs.Common.{◌≡◌, ℕ, IsTrue, List, Option, ◌≤◌, length, sym, ap, subst, ◌∙◌}
-use Rattle.std.proofs.Common.{unwrap_or}
+use Rattle.std.proofs.Common.{◌≡◌, ℕ, IsTrue, List, ◌<◌, length, sym, ap, subst, ◌∙◌}
 use Rattle.std.specs.Prelude.{Contains, OnOk}
 use Rattle.std.proofs.lemmas.Result.{on_ok_weaker}
 use Rattle.vr_types.specs.Blocks.{Puts}
@@ -7,12 +6,11 @@ use Rattle.vr_types.specs.Image.{Block}
 use Rattle.vr_types.specs.Seen.{Left, Only, Seen}
 use Rattle.vr_seqset.specs.Reading.{record_in}
 use Rattle.vr_space.specs.Areas.{KeyedChain, KnowsAreas, area_of, areas_in, head_in, head_of}
-use Rattle.vr_space.specs.Keyed.{IsHead, Keyed, entries_of}
+use Rattle.vr_space.specs.Keyed.{Keyed, entries_of}
 use Rattle.vr_space.specs.Owners.{Owners}
 use Rattle.vr_space.specs.Room.{Lengths}
-use Rattle.vr_casplit.specs.Growing.{IsGrowing, LeavesRecords, LeavesRest, with_area, with_end}
-use Rattle.vr_casplit.specs.Halves.{cut_of, staying}
-use Rattle.vr_casplit.specs.Moving.{IsLower, IsMoved}
+use Rattle.vr_space.specs.Moves.{IsLower, IsMoved, cut_of, with_area, with_end}
+use Rattle.vr_casplit.specs.Growing.{IsGrowing, LeavesRecords, LeavesRest}
 use Rattle.vr_casplit.proofs.Switched.{switch-knows, switch-leaves, switch-rests}
 use Rattle.vr_casplit.proofs.Switching.{CanSwitch}
 use Rattle.vr_casplit.proofs.switch.switch_head.Given as over
@@ -23,31 +21,30 @@ use Rattle.vr_casplit.proofs.switch.switch_head.Goals.{After-settle}
 record IsReady (part : KeyedChain) (area into stay : ℕ) (here : Keyed) (now : Seen)
     (top lower : Block) : Type 0 where
   area_is : here ≡ area_of part area
-  stays : stay ≡ staying (length (entries_of top))
-  some : 2 ≤ length (entries_of top)
+  some : 0 < stay
+  fewer : stay < length (entries_of top)
   left : Left now now.cur
   is_top : top ≡ head_in part now.cur area
   inside : Contains (areas_in part now.cur) area
-  moved : IsMoved part area into now
+  moved : IsMoved part area into stay now
   is_lower : IsLower here stay into top lower
 
 can-switch : (part : KeyedChain) (owners : Owners) (kept : Lengths) (area into stay : ℕ)
     (here : Keyed) (now : Seen) (top lower : Block)
     → IsReady part area into stay here now top lower → IsGrowing part into owners kept now
-    → CanSwitch part owners area into now lower
+    → CanSwitch part owners area into stay now lower
 can-switch part owners kept area into stay here now top lower ready growing = record {
   rests = growing.rests;
   left = ready.left;
   inside = ready.inside;
   own = growing.own;
   apart = growing.apart;
-  some = subst (λ (one : Block). 2 ≤ length (entries_of one)) ready.is_top ready.some;
+  some = ready.some;
+  fewer = subst (λ (one : Block). stay < length (entries_of one)) ready.is_top ready.fewer;
   moved = ready.moved;
   is_lower =
-      subst (λ (one : Block). IsLower (area_of part area) (staying (length (entries_of one))) into
-      one lower) ready.is_top
-      (subst (λ (n : ℕ). IsLower (area_of part area) n into top lower) ready.stays
-      (subst (λ (one : Keyed). IsLower one stay into top lower) ready.area_is ready.is_lower));
+      subst (λ (one : Block). IsLower (area_of part area) stay into one lower) ready.is_top
+      (subst (λ (one : Keyed). IsLower one stay into top lower) ready.area_is ready.is_lower);
 }
 
 module _ (g : over.Over) (c : After-settle g) (told : IsTrue g.B.Blocks.tells) where
@@ -79,16 +76,12 @@ module _ (g : over.Over) (c : After-settle g) (told : IsTrue g.B.Blocks.tells) w
   then-left : Left b b.cur
   then-left = g.met.B.Blocks.cur_may c.settle.new.blocks told
 
-  ready : IsReady part c.args.area c.args.into c.staying-stay.result c.area-layout_here.result a
+  ready : IsReady part c.args.area c.args.into c.args.stay c.area-layout_here.result a
       c.args.top.now lower
   ready = record {
     area_is = c.area-layout_here.ensures.layout;
-    stays = c.staying-stay.ensures
-        ∙ ap staying (c.unwrap_or.ensures
-        ∙ ap (λ (o : Option ℕ). unwrap_or o 2)
-        (c.entry_count.ensures (subst (λ (one : Keyed). IsHead one c.args.top.now)
-        (sym c.area-layout_here.ensures.layout) c.requires.head)));
     some = c.requires.some;
+    fewer = c.requires.fewer;
     left = g.met.B.Blocks.cur_may c.args.blocks.now told;
     is_top = c.requires.top told;
     inside = c.requires.inside told;
@@ -97,27 +90,24 @@ module _ (g : over.Over) (c : After-settle g) (told : IsTrue g.B.Blocks.tells) w
   }
 
   cut-is : c.read_cut.new.cut.place
-      ≡ cut_of (staying (length (entries_of (head_in part a.cur c.args.area))))
-      (record_in (head_in part a.cur c.args.area))
+      ≡ cut_of c.args.stay (record_in (head_in part a.cur c.args.area))
   cut-is = c.read_cut.ensures.cut
-      ∙ ap (λ (n : ℕ). cut_of n (record_in c.args.top.now)) ready.stays
-      ∙ ap (λ (one : Block). cut_of (staying (length (entries_of one))) (record_in one))
-      (c.requires.top told)
+      ∙ ap (λ (one : Block). cut_of c.args.stay (record_in one)) (c.requires.top told)
 
   module _ (owners : Owners) (kept : Lengths) (growing : IsGrowing part c.args.into owners kept a)
     where
-      can : CanSwitch part owners c.args.area c.args.into a lower
-      can = can-switch part owners kept c.args.area c.args.into c.staying-stay.result
+      can : CanSwitch part owners c.args.area c.args.into c.args.stay a lower
+      can = can-switch part owners kept c.args.area c.args.into c.args.stay
           c.area-layout_here.result a c.args.top.now lower ready growing
 
       leaves : LeavesRecords part owners kept a b
-      leaves = switch-leaves g.B.Blocks.tells told part owners c.args.area c.args.into a b lower can
-          call kept growing.room
+      leaves = switch-leaves g.B.Blocks.tells told part owners c.args.area c.args.into c.args.stay a
+          b lower can call kept growing.room
 
       rests : OnOk c.settle.result (LeavesRest part owners a b)
       rests = on_ok_weaker c.settle.result
-          (switch-rests g.B.Blocks.tells told part owners c.args.area c.args.into a b lower can
-          call then-left) only-now
+          (switch-rests g.B.Blocks.tells told part owners c.args.area c.args.into c.args.stay a b
+          lower can call then-left) only-now
 
       knows-more : (areas : List ℕ) (ends : List (List ℕ)) → KnowsAreas part areas ends a.cur
           → OnOk c.settle.result (KnowsAreas part (with_area c.args.area c.args.into areas)
@@ -126,8 +116,8 @@ module _ (g : over.Over) (c : After-settle g) (told : IsTrue g.B.Blocks.tells) w
           (λ only. subst
           (λ (place : List ℕ). KnowsAreas part (with_area c.args.area c.args.into areas)
           (with_end c.args.area place areas ends) b.cur) (sym cut-is)
-          (switch-knows g.B.Blocks.tells told part owners c.args.area c.args.into a b lower can
-          call then-left only areas ends knows)) only-now
+          (switch-knows g.B.Blocks.tells told part owners c.args.area c.args.into c.args.stay a b
+          lower can call then-left only areas ends knows)) only-now
 
 pub returns-clause-leaves : goal.returns-clause-leaves
 returns-clause-leaves g c told owners kept growing = leaves g c told owners kept growing

@@ -8,9 +8,9 @@ use Rattle.vr_space.specs.Keyed.{InArea, IsHead, Keyed}
 use Rattle.vr_space.specs.Met.{IsChainMet, IsMet, Met}
 use Rattle.vr_space.specs.Part.{given}
 use Rattle.vr_space.specs.Split.{split_in}
-use Rattle.vr_space.proofs.CallerLemmas.{resting-stands}
+use Rattle.vr_space.proofs.CallerLemmas.{no-stage-of-area, resting-stands}
 use Rattle.vr_keyed.specs.Look.{HasEntry}
-use Rattle.vr_keyed.specs.Owned.{IsMine, known_by}
+use Rattle.vr_keyed.specs.Owned.{IsMine, known_in}
 use Rattle.vr_keyed.specs.Ready.{IsReady, IsSetNow, MaySet, again, put_of}
 use Rattle.vr_keyed.specs.Slots.{IsMetAt, LeavesMet, mets}
 use Rattle.vr_keyed.proofs.Adding.{if-err-both}
@@ -75,7 +75,7 @@ returns-clause-mine g c =
     c.set.ensures.refreshed c.set.ensures.failed
 
 pub returns-clause-may : goal.returns-clause-may
-returns-clause-may g c told kept split ready =
+returns-clause-may g c told kept splits ready =
     let chain = c.args.areas.now in
     let a = g.B.Blocks.seen c.args.blocks.now in
     let b = g.B.Blocks.seen c.set.new.blocks in
@@ -88,13 +88,14 @@ returns-clause-may g c told kept split ready =
     area-inside chain a.cur known.0 place at.0 at.1 in
     let found : area_for chain.part a.cur place ≡ Some at.0 =
     area-known chain a.cur known.0 place at.0 at.1 in
-    let here : IsReady (area_of chain.part at.0) kept (split_in split at.0) place item a =
+    let here : IsReady (area_of chain.part at.0) kept (split_in splits.split at.0) place item a =
     ready-here chain.part at.0 a b ready.rests left inside
-    (known_by chain split (mets c.args.slots.now)) kept place item found ready in
+    (known_in chain splits (mets c.args.slots.now)) kept place item found ready in
     may-set chain.part at.0 a b ready.rests left inside kept place item
     (subst (λ (one : Keyed). MaySet one kept place item a b) at.3
-    (c.set.ensures.may told kept (split_in split at.0)
-    (subst (λ (one : Keyed). IsReady one kept (split_in split at.0) place item a) (sym at.3) here)))
+    (c.set.ensures.may told kept (split_in splits.split at.0)
+    (subst (λ (one : Keyed). IsReady one kept (split_in splits.split at.0) place item a) (sym at.3)
+    here)))
     ready.room
 
 pub returns-clause-done : goal.returns-clause-done
@@ -116,27 +117,30 @@ returns-clause-done g c told =
     let found : area_for chain.part a.cur place ≡ Some at.0 =
     area-known chain a.cur known.0 place at.0 at.1 in
     IfOk-weaker c.set.result _ _
-    (λ put both kept split ready.
-    let here : IsReady (area_of chain.part at.0) kept (split_in split at.0) place item a =
+    (λ put both kept splits ready.
+    let here : IsReady (area_of chain.part at.0) kept (split_in splits.split at.0) place item a =
     ready-here chain.part at.0 a b ready.rests left inside
-    (known_by chain split (mets c.args.slots.now)) kept place item found ready in
-    let there : IsReady layout kept (split_in split at.0) place item a =
-    subst (λ (one : Keyed). IsReady one kept (split_in split at.0) place item a) (sym at.3) here in
+    (known_in chain splits (mets c.args.slots.now)) kept place item found ready in
+    let there : IsReady layout kept (split_in splits.split at.0) place item a =
+    subst (λ (one : Keyed). IsReady one kept (split_in splits.split at.0) place item a) (sym at.3)
+    here in
     let mid : List Met = both.1.1.0 in
     is-set chain.part at.0 a b ready.rests left inside kept place item
     (subst (λ (one : Keyed). MaySet one kept place item a b) at.3
-    (c.set.ensures.may told kept (split_in split at.0) there))
-    chain.areas chain.ends split old mid new put c.set.new.out found ready.knows
+    (c.set.ensures.may told kept (split_in splits.split at.0) there))
+    chain.areas chain.ends splits.split splits.move old mid new put c.set.new.out found ready.knows
+    (no-stage-of-area chain.part splits.split splits.move a.cur place at.0 found
+    ready.can.no_stage).0
     (leaves-met chain.part tells a.cur place at.0 told found old mid
     (subst (λ (one : Keyed). LeavesMet one tells a.cur place old mid) at.3 both.1.1.1) known.1)
     both.1.1.2
     (subst (λ (one : Keyed). All (InArea one) (put_of put)) at.3 both.1.0)
     (λ met is. subst
     (λ (one : Keyed). IsMet one b.cur (again put c.set.new.out met)) at.3
-    (both.0.1 kept (split_in split at.0) there met
+    (both.0.1 kept (split_in splits.split at.0) there met
     (subst (λ (one : Keyed). IsMet one a.cur met) (sym at.3) is)))
-    (subst (λ (one : Keyed). IsSetNow one (split_in split at.0) (put_of put) place item a b) at.3
-    (both.0.0 kept (split_in split at.0) there)))
+    (subst (λ (one : Keyed). IsSetNow one (split_in splits.split at.0) (put_of put) place item a b)
+    at.3 (both.0.0 kept (split_in splits.split at.0) there)))
     (ok-and c.set.result _ _
     (ok-and c.set.result _ _ (c.set.ensures.done told) (c.set.ensures.met told))
     (ok-and c.set.result _ _ c.set.ensures.put c.set.ensures.refreshed))

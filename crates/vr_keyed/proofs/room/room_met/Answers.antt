@@ -24,7 +24,7 @@ returns-then-fits-clause-answer g c told now split =
     let image = (g.B.Blocks.seen c.args.blocks.now).cur in
     let kept = g.K.Kept.kept c.args.kept.now (area_part part) in
     let is = c.requires.met told in
-    sym (answer-met part image met is now c.args.under_way kept
+    sym (answer-met part image met is now c.args.under_way c.args.free kept
     c.args.longest c.args.place.now None true
     c.requires.slot (c.in_default.ensures now is.entry split is.number)
     (fits-met part kept met c.args.longest c.args.weights.now
@@ -41,7 +41,7 @@ returns-clause-answer g c told =
     let kept = g.K.Kept.kept c.args.kept.now (area_part part) in
     let is = c.requires.met told in
     IfOk-weaker c.room_beyond.result _ _ (λ room answered now split. answered
-    ∙ sym (answer-met part image met is now c.args.under_way kept
+    ∙ sym (answer-met part image met is now c.args.under_way c.args.free kept
     c.args.longest c.args.place.now None false
     c.requires.slot (c.in_default.ensures now is.entry split is.number)
     (fits-met part kept met c.args.longest c.args.weights.now

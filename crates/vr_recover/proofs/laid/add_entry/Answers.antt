@@ -154,7 +154,7 @@ returns-clause-added g c =
           (shape-number geometry entry (shape_any it) laid);
       begins = subst (BeginsWith (head_block geometry c.in-Some.area))
           (shape-is of.shape (shape_any it) (sym of.laid ∙ laid)) of.begins;
-      split = made.split;
+      split = (made.split, made.moves);
       has = made.first;
       owns = made.owns;
       marked = made.marked;

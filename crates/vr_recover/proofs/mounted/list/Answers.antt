@@ -13,6 +13,7 @@ records_of_part-requires-clause-knows g c told =
     let cur = (g.B.Blocks.seen c.args.blocks.now).cur in
     record {
       no_split = c.requires.split;
+      no_move = c.requires.moves;
       met = (
         c.requires.knows told,
         subst (λ (met : List Met). All (IsChainMet part cur) met) (sym c.requires.met)

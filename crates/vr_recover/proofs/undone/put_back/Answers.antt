@@ -28,6 +28,7 @@ loop-rec-init g c =
     record {
       shape = refl;
       split = refl;
+      moves = refl;
       areas = refl;
       count = refl;
       size = refl;
@@ -116,6 +117,7 @@ loop-rec-preserved g c =
     record {
       shape = c.put_record.ensures.shape ∙ same;
       split = c.put_record.ensures.split ∙ c.loop-rec.invariant.split;
+      moves = c.put_record.ensures.moves ∙ c.loop-rec.invariant.moves;
       areas = c.put_record.ensures.areas ∙ c.loop-rec.invariant.areas;
       count = c.put_record.ensures.count ∙ c.loop-rec.invariant.count;
       size = c.put_record.ensures.size ∙ c.loop-rec.invariant.size;

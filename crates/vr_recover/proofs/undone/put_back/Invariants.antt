@@ -20,6 +20,7 @@ abbrev pub invariant-loop-rec : goal.invariant-loop-rec
 invariant-loop-rec g l = record {
   shape : g.P.Part.shape l.part ≡ g.P.Part.shape l.fn.part;
   split : (g.P.Part.known l.part).split ≡ (g.P.Part.known l.fn.part).split;
+  moves : (g.P.Part.known l.part).move ≡ (g.P.Part.known l.fn.part).move;
   areas : (g.P.Part.known l.part).areas ≡ (g.P.Part.known l.fn.part).areas;
   count : (g.B.Blocks.seen l.blocks).count ≡ (g.B.Blocks.seen l.fn.blocks).count;
   size : (g.B.Blocks.seen l.blocks).size ≡ (g.B.Blocks.seen l.fn.blocks).size;

@@ -127,7 +127,7 @@ set_forced-requires-clause-can g c told =
     (g.B.Blocks.seen c.args.blocks.now).cur (kept (part_no shape)) c.in-Before.place old)
     (sym c.bytes_of.ensures.given)
     (can-go-back shape (g.P.Part.known c.args.part.now) (g.B.Blocks.seen c.args.blocks.now).cur
-    (kept (part_no shape)) c.in-Before.place c.in-Before.old c.requires.split
+    (kept (part_no shape)) c.in-Before.place c.in-Before.old c.requires.split c.requires.moves
     (subst (λ (no : PartNo). IsKeptAt (kept no) c.in-Before.place c.in-Before.old)
     (sym c.requires.number)
     (subst (IsKeptAt (kept c.args.number) c.in-Before.place) (record-is c.in-Before.old) room)))

@@ -10,7 +10,6 @@ use Rattle.vr_types.specs.Regions.{Touches}
 use Rattle.vr_types.specs.declared.unit.PartNo.{PartNo}
 use Rattle.vr_types.proofs.CallerLemmas.{guards-start, guards-then}
 use Rattle.vr_part.specs.Any.{known_any, shape_any}
-use Rattle.vr_part.specs.declared.any.AnyPart.{AnyPart}
 use Rattle.vr_space.specs.Owners.{Owners}
 use Rattle.vr_space.specs.Part.{InPart, IsOn, IsSound, Shape, part_no}
 use Rattle.vr_space.proofs.CallerLemmas.{StaysPart, on-still, rest-sound}
@@ -21,11 +20,12 @@ use Rattle.vr_volume.proofs.Apart.{laid-number}
 use Rattle.vr_volume.proofs.Recovering.{each_image_is_safe}
 use Rattle.vr_volume.proofs.Rested.{stands-part, stays-apart}
 use Rattle.vr_mount.specs.Touched.{Anything}
+use Rattle.vr_recover.specs.Found.{held_any}
 use Rattle.vr_recover.specs.Opening.{HasNoSplit}
 use Rattle.vr_recover.specs.Undone.{FitsPart, HasContent, HasPart, IsReady, IsSettledPart, alike}
 use Rattle.vr_recover.proofs.PartsBack.{all-at, all-before, all-parts, all-set, at-taken}
-use Rattle.vr_recover.proofs.PartsBack.{content-stays, laid-opened, read-off, ready-stays}
-use Rattle.vr_recover.proofs.PartsBack.{settled-stays, taken-at}
+use Rattle.vr_recover.proofs.PartsBack.{content-stays, holds-still, laid-opened, read-off}
+use Rattle.vr_recover.proofs.PartsBack.{ready-stays, settled-stays, taken-at}
 use Rattle.vr_recover.proofs.PuttingBack.{are-left, part-back}
 use Rattle.vr_recover.proofs.undone_parts.put_back_all.Goals as goal
 
@@ -105,8 +105,11 @@ returns-in_err-put_back-clause-shapes g c =
 
 pub returns-in_err-put_back-clause-areas : goal.returns-in_err-put_back-clause-areas
 returns-in_err-put_back-clause-areas g c =
-    map-set_same (λ (part : AnyPart). (known_any part).areas) c.loop-part.parts
-    c.loop-part.part-index c.put_back.new.part c.part-item.result c.put_back.ensures.areas
+    let part = get_or c.loop-part.parts c.loop-part.part-index c.part-item.result in
+    let new = c.put_back.new.part in
+    map-set_same held_any c.loop-part.parts c.loop-part.part-index new c.part-item.result
+    (holds-still (shape_any part) (shape_any new) (known_any part) (known_any new)
+    c.put_back.ensures.shape c.put_back.ensures.areas c.put_back.ensures.moves)
     ∙ c.loop-part.invariant.areas
 
 pub returns-in_err-put_back-clause-safe : goal.returns-in_err-put_back-clause-safe
@@ -195,12 +198,16 @@ loop-part-preserved g c =
     record {
       shapes = map-set_same shape_any parts index new c.part-item.result
           c.put_back.ensures.shape ∙ c.loop-part.invariant.shapes;
-      split = all-set HasNoSplit HasNoSplit parts index new
-          (c.put_back.ensures.split
-          ∙ c.loop-part.invariant.split index c.part-item.result within)
+      split =
+          let was = c.loop-part.invariant.split index c.part-item.result within in
+          all-set HasNoSplit HasNoSplit parts index new
+          (c.put_back.ensures.split ∙ was.0, c.put_back.ensures.moves ∙ was.1)
           (λ other part at off same. same) c.loop-part.invariant.split;
-      areas = map-set_same (λ (part : AnyPart). (known_any part).areas) parts index new
-          c.part-item.result c.put_back.ensures.areas ∙ c.loop-part.invariant.areas;
+      areas = map-set_same held_any parts index new c.part-item.result
+          (holds-still shape (shape_any new) (known_any (get_or parts index c.part-item.result))
+          (known_any new) c.put_back.ensures.shape c.put_back.ensures.areas
+          c.put_back.ensures.moves)
+          ∙ c.loop-part.invariant.areas;
       count = c.put_back.ensures.count ∙ c.loop-part.invariant.count;
       size = c.put_back.ensures.size ∙ c.loop-part.invariant.size;
       faults = c.in_ok-put_back.ensures.cause.ok ∙ c.loop-part.invariant.faults;
@@ -252,6 +259,7 @@ loop-part-preserved g c =
             room = first-ready.room;
             knows = first-ready.knows;
             no_split = first-ready.no_split;
+            no_move = first-ready.no_move;
           } in
           let call : Touches (InPart shape owners) Anything b d =
           c.put_back.ensures.touches told owners ready-by in

@@ -1,4 +1,4 @@
-use Rattle.std.proofs.Common.{refl, sym, ap, subst, map, inl}
+use Rattle.std.proofs.Common.{refl, sym, ap, subst, map}
 use Rattle.std.proofs.Common.{set, List, Option, None, rules, IsTrue}
 use Rattle.vr_types.specs.declared.unit.PartNo.{PartNo}
 use Rattle.vr_types.specs.Space.{free_count}
@@ -105,7 +105,8 @@ returns-in_err-kind-in-Some g c =
           stored.volume.safe
           (laid-rest store.log.geometry volume (owners_of store) store.log (images_in store.undo)
           state a stored.volume before.shape before.known
-          (rested-at store a c.requires.set volume state number before at.found stored) _ refl)).0;
+          (rested-at store a c.requires.set volume state number before at.found stored) _ refl)
+          (rested-at store a c.requires.set volume state number before at.found stored).claimed).0;
       unread = err-as c.from_residual.result c.in_err-kind-in-Some.field-0.0 _
           c.from_residual.ensures.1
           (λ read.
@@ -116,7 +117,8 @@ returns-in_err-kind-in-Some g c =
                 (sym c.in_err-kind-in-Some.ensures.owners_stay)
                 (stored-met g.B.Blocks.tells told a b kept.0
                 (g.met.B.Blocks.cur_may c.args.blocks.now told) store number before after parts
-                at same volume state c.requires.set stored (kept.1 told)),
+                at same c.in_err-kind-in-Some.ensures.moves volume state c.requires.set stored
+                (kept.1 told)),
           ));
       more = search rules;
       parts = only-split number before after store.parts parts at refl same;
@@ -191,7 +193,8 @@ returns g c =
           stored.volume.safe
           (laid-rest store.log.geometry volume (owners_of store) store.log images state a
           stored.volume before.shape before.known
-          (rested-at store a c.requires.set volume state number before at.found stored) _ refl)).0;
+          (rested-at store a c.requires.set volume state number before at.found stored) _ refl)
+          (rested-at store a c.requires.set volume state number before at.found stored).claimed).0;
       unread = search rules;
       more = λ told.
           let stands = c.requires.stands told in

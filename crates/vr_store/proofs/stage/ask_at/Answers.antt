@@ -1,10 +1,11 @@
-use Rattle.std.proofs.Common.{◌≡◌, refl, ap, inl, map, set, None}
+use Rattle.std.proofs.Common.{◌≡◌, refl, ap, map, set, None}
 use Rattle.std.proofs.Common.{IsTrue}
 use Rattle.std.proofs.lemmas.Result.{IfOk-weaker}
 use Rattle.vr_space.specs.Known.{HasMet, places_met}
 use Rattle.vr_space.specs.Met.{met_next}
 use Rattle.vr_space.specs.Part.{IsLengthOf, IsPlaceOf, Shape, part_no}
 use Rattle.vr_space.specs.declared.room.Room.{Room}
+use Rattle.vr_space.proofs.CallerLemmas.{held-same}
 use Rattle.vr_store.specs.Parts.{but_split}
 use Rattle.vr_store.specs.Room.{IsRoomAt}
 use Rattle.vr_store.specs.Store.{PartNow, StoreNow, changed_by, part_now, store_of}
@@ -98,8 +99,8 @@ returns g c =
           (λ (room : Room). IsRoomAt store a.cur number place length room)
           (λ (room : Room). IsRoomAt new b.cur number place length room)
           (room-still store new number before after a.cur b.cur at.found there
-          c.room.ensures.shape c.room.ensures.split c.room.ensures.tail refl refl
-          (c.room.ensures.keeps.content told) place length)
+          c.room.ensures.shape c.room.ensures.split c.room.ensures.moves c.room.ensures.tail refl
+          refl (c.room.ensures.keeps.content told) place length)
           (answer told);
       met = IfOk-weaker c.room.result
           (λ room. places_met after.known ≡ met_next (places_met before.known) place)
@@ -109,14 +110,15 @@ returns g c =
           c.room.ensures.met;
       set = set-unclaimed store number before after parts store.space at same a b
           c.room.ensures.keeps.count_same c.room.ensures.keeps.size_same
-          c.room.ensures.areas refl c.requires.set;
+          (held-same before.shape before.known after.known c.room.ensures.areas
+          c.room.ensures.moves) refl c.requires.set;
       stored = λ told volume state stored. stored-met tells told a b c.room.ensures.keeps
           (g.met.B.Blocks.cur_may c.args.blocks.now told) store number before after parts
-          at same volume state c.requires.set stored
+          at same c.room.ensures.moves volume state c.requires.set stored
           (c.room.ensures.knows told);
       parts = only-met number before after store.parts parts at refl
           (same-met laid.number before.shape after.shape before.known after.known
-          c.room.ensures.shape c.room.ensures.split c.room.ensures.areas);
+          c.room.ensures.shape c.room.ensures.split c.room.ensures.moves c.room.ensures.areas);
       keeps = c.room.ensures.keeps;
       cause = c.room.ensures.cause;
     }

@@ -62,7 +62,7 @@ returns-clause-next g c told number owners old new change images rest part of ma
           c.set_free.ensures.count c.set_free.ensures.size (c.in_ok-set_free.ensures.rests told
           owners part.rests) (subst (λ (lengths : Lengths). HasKeptRoom shape lengths d) room
           (c.set_free.ensures.room told))
-          (c.in_ok-set_free.ensures.knows told)
+          (c.in_ok-set_free.ensures.knows told) c.set_free.ensures.moves
           (c.in_ok-set_free.ensures.set told),
     )
 
@@ -94,7 +94,7 @@ returns-clause-back g c told number owners old new change images rest part of ma
           c.set_free.ensures.count c.set_free.ensures.size (c.in_ok-set_free.ensures.rests told
           owners part.rests) (subst (λ (lengths : Lengths). HasKeptRoom shape lengths d) room
           (c.set_free.ensures.room told))
-          (c.in_ok-set_free.ensures.knows told)
+          (c.in_ok-set_free.ensures.knows told) c.set_free.ensures.moves
           (c.in_ok-set_free.ensures.set told),
     )
 
@@ -138,7 +138,7 @@ returns-clause-again g c told number owners old new change images rest part of m
           c.set_free.ensures.count c.set_free.ensures.size (c.in_ok-set_free.ensures.rests told
           owners part.rests) (subst (λ (lengths : Lengths). HasKeptRoom shape lengths d) room
           (c.set_free.ensures.room told))
-          (c.in_ok-set_free.ensures.knows told)
+          (c.in_ok-set_free.ensures.knows told) c.set_free.ensures.moves
           (c.in_ok-set_free.ensures.set told),
     )
 

@@ -12,7 +12,7 @@ use Rattle.vr_volume.proofs.Stages.{stage-rest}
 use Rattle.vr_volume.proofs.changing.do_stage.Goals as goal
 
 pub returns-clause-safe : goal.returns-clause-safe
-returns-clause-safe g c told geometry number log committed safe laid =
+returns-clause-safe g c told geometry number log committed safe laid claimed =
     let B = g.B.Blocks in
     let shape = g.P.Part.shape c.args.part.now in
     let part = (part_no shape).0 in
@@ -29,8 +29,8 @@ returns-clause-safe g c told geometry number log committed safe laid =
     (c.requires.rests told) in
     let more = safe-grows geometry number owners grown log committed a grows.kept
     (owner-past-log geometry (claimed_by (part_no shape) areas)) safe in
-    let adds = c.advance.ensures.adds told owners grown grows rests in
-    let rooms = c.advance.ensures.rooms told owners grown grows rests in (
+    let adds = c.advance.ensures.adds told owners grown grows rests claimed in
+    let rooms = c.advance.ensures.rooms told owners grown grows rests claimed in (
       part-guards geometry number grown log committed part shape kept Nothing a b more laid added
           adds rooms left (c.advance.ensures.room told),
       part-after geometry number grown log committed part shape kept Nothing a b more laid added
@@ -38,7 +38,7 @@ returns-clause-safe g c told geometry number log committed safe laid =
     )
 
 pub returns-in_err-kind-clause-safe : goal.returns-in_err-kind-clause-safe
-returns-in_err-kind-clause-safe g c told geometry number log committed safe laid =
+returns-in_err-kind-clause-safe g c told geometry number log committed safe laid claimed =
     let B = g.B.Blocks in
     let shape = g.P.Part.shape c.args.part.now in
     let part = (part_no shape).0 in
@@ -55,8 +55,8 @@ returns-in_err-kind-clause-safe g c told geometry number log committed safe laid
     (c.requires.rests told) in
     let more = safe-grows geometry number owners grown log committed a grows.kept
     (owner-past-log geometry (claimed_by (part_no shape) areas)) safe in
-    let adds = c.advance.ensures.adds told owners grown grows rests in
-    let rooms = c.advance.ensures.rooms told owners grown grows rests in (
+    let adds = c.advance.ensures.adds told owners grown grows rests claimed in
+    let rooms = c.advance.ensures.rooms told owners grown grows rests claimed in (
       part-guards geometry number grown log committed part shape kept Nothing a b more laid added
           adds rooms left (c.advance.ensures.room told),
       part-after geometry number grown log committed part shape kept Nothing a b more laid added
@@ -82,6 +82,7 @@ returns-clause-at_rest g c told number log images state before part room =
       adds = c.advance.ensures.adds told;
       rests = done.rests told;
       stays = done.stays told;
+      chain = done.chain;
       room = c.advance.ensures.room told;
       knows = done.knows told;
       same = c.advance.ensures.same told;
@@ -135,4 +136,4 @@ returns-clause-more g c told number log images state rest part count =
     count)
     owners (owner_of log.geometry (claimed_by (part_no shape) areas))
     (may-claim log.geometry number log (committed_by state) shape kept a left laid areas rest.safe)
-    part.rests
+    part.rests part.claimed

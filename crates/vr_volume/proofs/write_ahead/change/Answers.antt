@@ -70,7 +70,7 @@ set_free-requires-clause-knows g c told =
     knows-stays a b shape owners (g.P.Part.known part)
     (stays-part log.geometry shape owners (HasLog (with_record log c.args.rec.now)) a b own.1
     (c.log_forced.ensures.touches told))
-    (rest-sound shape owners a own.2) (g.met.B.Blocks.cur_may c.args.blocks.now told)
+    (rest-sound shape owners a own.2) (g.met.B.Blocks.cur_may c.args.blocks.now told) own.3
     (c.requires.knows told)
 
 pub set_free-requires-clause-can : goal.set_free-requires-clause-can
@@ -281,7 +281,7 @@ returns-clause-at_rest g c told number owners old new change images after rest p
           (returns-clause-rests g c told owners rest.safe.past part.rests)
           (subst (λ (lengths : Lengths). HasKeptRoom shape lengths d) room
           (c.set_free.ensures.room told))
-          (c.in_ok-set_free.ensures.knows told)
+          (c.in_ok-set_free.ensures.knows told) c.set_free.ensures.moves
           (subst (λ (q : List ℕ). SetsOne shape q found a.cur d.cur) given-for.place_is
           (returns-clause-set g c told))
           (given-item old change shape place found given-for),

@@ -37,7 +37,8 @@ failed g c told =
     (c.requires.room told) (c.requires.rests told)
 
 pub returns-in_err-extend-clause-adds : goal.returns-in_err-extend-clause-adds
-returns-in_err-extend-clause-adds g c told = (failed g c told).adds
+returns-in_err-extend-clause-adds g c told owners grown grows rests claimed =
+    (failed g c told).adds owners grown grows rests
 
 pub returns-in_err-extend-clause-same : goal.returns-in_err-extend-clause-same
 returns-in_err-extend-clause-same g c told = (failed g c told).same
@@ -46,7 +47,8 @@ pub returns-in_err-extend-clause-room : goal.returns-in_err-extend-clause-room
 returns-in_err-extend-clause-room g c told = (failed g c told).room
 
 pub returns-in_err-extend-clause-rooms : goal.returns-in_err-extend-clause-rooms
-returns-in_err-extend-clause-rooms g c told = (failed g c told).rooms
+returns-in_err-extend-clause-rooms g c told owners grown grows rests claimed =
+    (failed g c told).rooms owners grown grows rests
 
 -- ---- where it is done
 
@@ -82,7 +84,8 @@ module _ (g : over.Over) (c : After-forget g) where
       (c.in_ok-extend.ensures.done told) (c.requires.rests told)
 
 pub returns-clause-adds : goal.returns-clause-adds
-returns-clause-adds g c told = (may g c told).adds
+returns-clause-adds g c told owners grown grows rests claimed =
+    (may g c told).adds owners grown grows rests
 
 pub returns-clause-same : goal.returns-clause-same
 returns-clause-same g c told = (may g c told).same
@@ -94,7 +97,8 @@ pub returns-clause-room : goal.returns-clause-room
 returns-clause-room g c told = (may g c told).room
 
 pub returns-clause-rooms : goal.returns-clause-rooms
-returns-clause-rooms g c told = (may g c told).rooms
+returns-clause-rooms g c told owners grown grows rests claimed =
+    (may g c told).rooms owners grown grows rests
 
 pub returns-clause-knows : goal.returns-clause-knows
 returns-clause-knows g c told =
@@ -134,7 +138,7 @@ returns-clause-stage g c told =
     c.args._length (c.requires.due told)
 
 pub returns-clause-more : goal.returns-clause-more
-returns-clause-more g c told volume owners grown grows rests =
+returns-clause-more g c told volume owners grown grows rests claimed =
     let due = stage-more (now g c) (old g c).cur (free_count c.args.space.now) (kept g c)
     c.args._place.now c.args._length (c.requires.due told) (c.requires.knows told).blocks.chain
     c.args.space.now refl volume (old g c) owners grown grows rests in

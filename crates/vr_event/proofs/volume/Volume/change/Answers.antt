@@ -7,11 +7,9 @@ use Rattle.vr_types.specs.declared.reply.Refusal.TheVariants.{NoSpace}
 use Rattle.vr_types.specs.declared.request.Request.{Request}
 use Rattle.vr_types.specs.declared.reply.Reply.TheVariants.{Refused}
 use Rattle.vr_types.specs.declared.unit.Unit.{Unit as UnitOfRecovery}
-use Rattle.vr_catalog.specs.declared.entry.CatEntry.{CatEntry}
 use Rattle.vr_answer.specs.Here.{base_here}
 use Rattle.vr_answer.specs.Tried.{file_refusals}
 use Rattle.vr_history.specs.Change.{place_changed}
-use Rattle.vr_history.specs.Opened.{catalog_of}
 use Rattle.vr_history.specs.Replies.{before_room, fills_base, first_of}
 use Rattle.vr_history.specs.State.{State}
 use Rattle.vr_history.specs.Step.{case_of}
@@ -22,17 +20,16 @@ use Rattle.vr_event.specs.Acting.{IsActed}
 use Rattle.vr_event.specs.Cause.{HasGetCause}
 use Rattle.vr_event.specs.Getting.{IsEntered}
 use Rattle.vr_event.specs.Lacking.{IfNoSpace, IsLacking, LacksRoomIn}
-use Rattle.vr_event.specs.Putting.{AreLaidBy, IfAgain, IsChanging, IsKeyedIn, IsReadyFor}
-use Rattle.vr_event.specs.Putting.{MayLackRoom, MayWeigh}
-use Rattle.vr_event.specs.Volume.{IsHeld}
+use Rattle.vr_event.specs.Putting.{IfAgain, IsChange, IsReadyFor, MayLackRoom, MayWeigh}
+use Rattle.vr_event.specs.Staging.{IsStateStaged}
 use Rattle.vr_store.specs.Store.{StoreNow}
 use Rattle.vr_event.specs.declared.act.Act.{Act}
 use Rattle.vr_event.specs.declared.act.Act.TheVariants.{Again, Done}
 use Rattle.vr_event.specs.declared.weighing.Weighed.TheVariants as weighed
 use Rattle.vr_event.proofs.ActedLater.{acted-earlier}
 use Rattle.vr_event.proofs.Acts.{acted-got}
+use Rattle.vr_event.proofs.ClaimedAreas.{staged-refusals}
 use Rattle.vr_event.proofs.Lacks.{done-unrefused, fact-of}
-use Rattle.vr_event.proofs.PartKinds.{fills-keyed}
 use Rattle.vr_event.proofs.Recovering.{keeps-recovers}
 use Rattle.vr_event.proofs.Wholes.{may-changing}
 use Rattle.vr_event.proofs.volume.Volume.change.Goals as goal
@@ -160,55 +157,36 @@ returns-in-Ready-clause-moments g c told opening held =
     c.args.unit c.args.request) c.in-Ready.place o c.in-Ready.reply c.in-Ready.names)
     (sym c.slice_of-old.ensures) is-ready)))))
 
--- where nothing is claimed, nothing refuses it that didn't before
-again-by : (act : Act) (opening : State) (old new : FileNow) (unit : UnitOfRecovery) (request : Request)
-    → (IsTrue (fills_base (case_of new.geometry (state_now opening new) unit request))
+-- what refuses it once a stage is done refused it before
+again-by : (act : Act) (opening : State) (old new : FileNow) (unit : UnitOfRecovery)
+    (request : Request) (part : ℕ) → IsChange request
     → IfAgain act ((new.geometry ≡ old.geometry)
-    × (state_now opening new ≡ state_now opening old)))
+    × IsStateStaged part (state_now opening old) (state_now opening new))
     → first_of (before_room (case_of old.geometry (state_now opening old) unit request)) ≡ None
     → IfAgain act (MayLackRoom opening new unit request)
-again-by Done opening old new unit request same none = tt
-again-by (Again given) opening old new unit request same none = λ some fills.
-    let both = same fills in
-    subst (λ (g : Geometry). first_of
-    (before_room (case_of g (state_now opening new) unit request)) ≡ None) (sym both.0)
-    (subst (λ (s : State). first_of
-    (before_room (case_of old.geometry s unit request)) ≡ None) (sym both.1) none)
+again-by Done opening old new unit request part change leaves none = tt
+again-by (Again given) opening old new unit request part change leaves none = λ some fills.
+    subst (λ (g : Geometry). IsTrue (fills_base (case_of g (state_now opening new) unit request))
+    → first_of (before_room (case_of g (state_now opening new) unit request)) ≡ None)
+    (sym leaves.0)
+    (λ filled. staged-refusals old.geometry unit request part (state_now opening old)
+    (state_now opening new) change leaves.1 filled ∙ none) fills
 
 pub returns-in-Stage-clause-again : goal.returns-in-Stage-clause-again
 returns-in-Stage-clause-again g c told opening held asked =
-    let seen = g.B.Blocks.seen in
     let old = c.args.self.now.file in
-    let mid = c.weigh_change.new.self in
     let new = c.do_stage.new.self.file in
-    let request = c.args.request in
-    let may : MayWeigh (case_of old.geometry (state_now opening old) c.args.unit request)
+    let part = c.base_of-part.result.0 in
+    let may : MayWeigh (case_of old.geometry (state_now opening old) c.args.unit c.args.request)
     (weighed.Stage c.in-Stage.place c.in-Stage.length) =
     subst (λ (r : Request). MayWeigh (case_of old.geometry (state_now opening old) c.args.unit r)
     (weighed.Stage c.in-Stage.place c.in-Stage.length)) c.get-2.ensures
     (c.in-Stage.ensures.may told opening held) in
-    let of-mid : IsHeld seen opening mid = c.weigh_change.ensures.held told opening held in
-    let then : IsHeld seen opening c.do_stage.new.self = c.do_stage.ensures.held told opening of-mid
-    (subst (λ (f : FileNow). IsChanging opening f c.args.unit request)
-    (sym c.weigh_change.ensures.file) asked) in
-    let going : mid.file.stopped ≡ None =
-    ap (λ (f : FileNow). f.stopped) c.weigh_change.ensures.file ∙ c.requires.going in
-    let catalog : catalog_of (state_now opening new) ≡ mid.file.catalog =
-    sym then.file.now.catalog ∙ c.do_stage.ensures.catalog in
-    let laid : AreLaidBy mid.file.geometry (catalog_of (state_now opening new)) mid.store.parts =
-    subst (λ (entries : List CatEntry). AreLaidBy mid.file.geometry entries mid.store.parts)
-    (sym catalog) (c.weigh_change.ensures.whole.laid going) in
-    let here : base_here request ≡ c.base_of-part.result.0 =
-    sym (c.base_of-part.ensures ∙ ap (λ (r : Request). base_here r) c.get.ensures) in
-    again-by c.do_stage.result opening old new c.args.unit request
-    (λ fills. subst (λ (f : FileNow). IfAgain c.do_stage.result
-    ((new.geometry ≡ f.geometry)
-    × (state_now opening new ≡ state_now opening f))) c.weigh_change.ensures.file
-    (c.do_stage.ensures.again told
-    (subst (IsKeyedIn mid.store.parts) here
-    (fills-keyed mid.file.geometry
-    (case_of new.geometry (state_now opening new) c.args.unit request) mid.store.parts laid fills))
-    opening)) (may asked.unrefused)
+    again-by c.do_stage.result opening old new c.args.unit c.args.request part
+    c.requires.change
+    (subst (λ (f : FileNow). IfAgain c.do_stage.result ((new.geometry ≡ f.geometry)
+    × IsStateStaged part (state_now opening f) (state_now opening new)))
+    c.weigh_change.ensures.file (c.do_stage.ensures.again opening)) (may asked.unrefused)
 
 pub returns-in-Refused-clause-lacks : goal.returns-in-Refused-clause-lacks
 returns-in-Refused-clause-lacks g c told opening held asked entered need free is place at =

@@ -1,4 +1,4 @@
-use Rattle.std.proofs.Common.{◌≡◌, ◌≢◌, ◌∙◌, [], Err, None, ap, inl, refl, subst, sym}
+use Rattle.std.proofs.Common.{◌≡◌, ◌≢◌, ◌∙◌, [], Err, None, ap, refl, subst, sym}
 use Rattle.vr_types.specs.Moments.{Guards}
 use Rattle.vr_types.specs.declared.fault.DeviceFault.{DeviceFault}
 use Rattle.vr_types.specs.declared.fault.DeviceFault.TheVariants.{Read, Write}
@@ -9,7 +9,8 @@ use Rattle.vr_record_file.specs.Now.{FileNow, state_now}
 use Rattle.vr_volume.specs.Crashes.{RecoversTo}
 use Rattle.vr_event.specs.Acting.{IsActed}
 use Rattle.vr_event.specs.Getting.{IsEntered}
-use Rattle.vr_event.specs.Putting.{IsChanging, IsKeyedIn}
+use Rattle.vr_event.specs.Putting.{IsChanging}
+use Rattle.vr_event.specs.Staging.{IsStateStaged}
 use Rattle.vr_attach.specs.Owning.{claimed_by, owner_of}
 use Rattle.vr_store.specs.Store.{StoreNow, part_among}
 use Rattle.vr_event.specs.Volume.{IsHeld, IsWhole, VolumeNow}
@@ -21,8 +22,7 @@ use Rattle.vr_event.proofs.Recovering.{owned-recovers}
 use Rattle.vr_event.proofs.Acts.{acted-again, acted-failed, acted-read}
 use Rattle.vr_event.proofs.Replied.{not-failed, replied-over}
 use Rattle.vr_event.proofs.Staged.{geometry-staged, not-staged, owners-claimed, shape-some}
-use Rattle.vr_event.proofs.Staged.{staged-of, state-unclaimed, stepped-entered, taken-none}
-use Rattle.vr_event.proofs.Staged.{takes-none}
+use Rattle.vr_event.proofs.Staged.{staged-of, state-staged, stepped-entered}
 use Rattle.vr_event.proofs.UnitEnded.{held-stopped}
 use Rattle.vr_event.proofs.Weighs.{refuse-look}
 use Rattle.vr_event.proofs.Wholes.{held-moved, may-changing, whole-of}
@@ -101,36 +101,18 @@ returns-in-Ok-clause-held g c told opening held asked =
     (c.in-Ok.ensures.stored told before.number (state_now opening before.file) (was.stored goes)))
 
 pub returns-in-Ok-clause-again : goal.returns-in-Ok-clause-again
-returns-in-Ok-clause-again g c told keyed opening =
-    let seen = g.B.Blocks.seen in
-    let before : VolumeNow g.row.B.Denot = record {
-      blocks = c.self.inside.blocks;
-      number = c.self.inside.number;
-      store = c.self.inside.store;
-      file = c.self.inside.file;
-    } in
-    let laid : part_among before.store.parts c.args.part.0 ≢ None =
-    subst (λ (v : VolumeNow g.row.B.Denot). part_among v.store.parts c.args.part.0 ≢ None)
-    (sym c.self.view_is) c.requires.at.laid in
-    let mine : IsKeyedIn before.store.parts c.args.part.0 =
-    subst (λ (v : VolumeNow g.row.B.Denot). IsKeyedIn v.store.parts c.args.part.0)
-    (sym c.self.view_is) keyed in
-    let of-file : before.file ≡ c.args.self.now.file =
-    ap (λ (v : VolumeNow g.row.B.Denot). v.file) c.self.view_is in
-    let space : c.advance.new.self.space ≡ before.store.space =
-    takes-none before.store.parts c.args.part before.store.space c.advance.new.self.space laid mine
-    c.in-Ok.kind (c.in-Ok.ensures.kind told) c.in-Ok.ensures.owners in
-    let taken : c.area_taken-taken.result ≡ None =
-    taken-none c.args.part before.store.space c.advance.new.self.space c.area_taken-taken.result
-    (c.area_taken-taken.ensures c.args.part before.store.space c.advance.new.self.space
-    c.least_free-least.ensures c.free_areas-free.ensures c.free_areas.ensures (inl space)) space in (
-      subst (λ (f : FileNow). c.enter_stage.new.self.file.geometry ≡ f.geometry) of-file
-          (geometry-staged c.args.after c.args.unit c.args.line c.args.part before.file
-          c.enter_stage.new.self.file _ _ c.enter_stage.ensures.leaves),
-      subst (λ (f : FileNow). state_now opening c.enter_stage.new.self.file
-          ≡ state_now opening f) of-file
-          (state-unclaimed c.args.after c.args.unit c.args.line c.args.part before.file
-          c.enter_stage.new.self.file opening _ _ taken c.enter_stage.ensures.leaves),
+returns-in-Ok-clause-again g c opening =
+    let part = c.args.part in
+    let new = c.enter_stage.new.self.file in
+    let of-file : c.self.inside.file ≡ c.args.self.now.file =
+    ap (λ (v : VolumeNow g.row.B.Denot). v.file) c.self.view_is in (
+      subst (λ (f : FileNow). new.geometry ≡ f.geometry) of-file
+          (geometry-staged c.args.after c.args.unit c.args.line part c.self.inside.file new _ _
+          c.enter_stage.ensures.leaves),
+      subst (λ (f : FileNow). IsStateStaged part.0 (state_now opening f) (state_now opening new))
+          of-file
+          (state-staged c.args.after c.args.unit c.args.line part c.self.inside.file new opening _ _
+          c.enter_stage.ensures.leaves),
     )
 
 pub returns-in-Ok-clause-acted : goal.returns-in-Ok-clause-acted

@@ -1,140 +1,155 @@
-use Rattle.std.proofs.Common.{◌≡◌, ap, subst}
+use Rattle.std.proofs.Common.{◌≢◌, ◌⊎◌, List, Option, subst, sym}
 use Rattle.std.specs.Prelude.{OnOk}
 use Rattle.std.proofs.lemmas.Result.{on_ok_weaker}
+use Rattle.vr_types.specs.Seen.{Left}
 use Rattle.vr_types.specs.declared.unit.PartNo.{PartNo}
-use Rattle.vr_space.specs.Areas.{IsChainAtRest, KeyedChain}
-use Rattle.vr_space.specs.Known.{Known}
+use Rattle.vr_space.specs.Areas.{IsChainAtRest}
+use Rattle.vr_space.specs.Known.{Known, areas_held}
+use Rattle.vr_space.specs.Moves.{OwnsInto}
 use Rattle.vr_space.specs.Part.{KeyedShape, part_no}
 use Rattle.vr_space.specs.Room.{Lengths}
-use Rattle.vr_space.proofs.CallerLemmas.{rest-grows}
+use Rattle.vr_space.proofs.CallerLemmas.{AreOwn, held-own, owns-grows, rest-grows, rest-sound}
 use Rattle.vr_attach.specs.Areas.{AreasNow}
+use Rattle.vr_keyed.specs.Advance.{IsLeastAside}
 use Rattle.vr_keyed.specs.Changed.{IsDoneIn, KeepsIn}
-use Rattle.vr_keyed.specs.Owned.{Owned, known_by, split_at}
+use Rattle.vr_keyed.specs.Owned.{Owned, Splitting, known_in, known_of}
 use Rattle.vr_keyed.specs.Slots.{mets}
+use Rattle.vr_keyed.proofs.Aside.{least-aside}
 use Rattle.vr_keyed.proofs.keyed.KeyedPart.advance.Goals as goal
 
 pub returns-clause-adds : goal.returns-clause-adds
-returns-clause-adds g c told owners grown grows still =
+returns-clause-adds g c told owners grown grows still claimed =
     let now = c.args.self.now in
-    let chain : AreasNow = c.self.inside.areas in
     let a = g.B.Blocks.seen c.args.blocks.now in
     let b = g.B.Blocks.seen c.advance_over.new.blocks in
-    let same : chain.part ≡ now.part = ap (λ (keyed : Owned). keyed.part) c.self.view_is in
     let all : PartNo → Lengths = g.K.Kept.kept c.args.kept.now in
     let kept : Lengths = all (part_no (KeyedShape now.part)) in
-    let keeps : KeepsIn now.part kept a b =
-    subst (λ (part : KeyedChain). KeepsIn part (all (part_no (KeyedShape part))) a b) same
+    let keeps : KeepsIn now.part now.move kept a b =
+    subst (λ (keyed : Owned). KeepsIn keyed.part keyed.move
+    (all (part_no (KeyedShape keyed.part))) a b) c.self.view_is
     (c.advance_over.ensures.keeps told) in
     let rests : IsChainAtRest now.part grown a =
     rest-grows owners grown a grows.kept (KeyedShape now.part) still in
-    keeps.adds grown rests
+    let own : OwnsInto now.part grown now.move =
+    owns-grows (KeyedShape now.part) owners grown (known_of now) grows.kept claimed in
+    keeps.adds grown rests own
 
 pub returns-clause-same : goal.returns-clause-same
 returns-clause-same g c told =
     let now = c.args.self.now in
-    let chain : AreasNow = c.self.inside.areas in
     let a = g.B.Blocks.seen c.args.blocks.now in
     let b = g.B.Blocks.seen c.advance_over.new.blocks in
-    let same : chain.part ≡ now.part = ap (λ (keyed : Owned). keyed.part) c.self.view_is in
     let all : PartNo → Lengths = g.K.Kept.kept c.args.kept.now in
     let kept : Lengths = all (part_no (KeyedShape now.part)) in
-    let keeps : KeepsIn now.part kept a b =
-    subst (λ (part : KeyedChain). KeepsIn part (all (part_no (KeyedShape part))) a b) same
+    let keeps : KeepsIn now.part now.move kept a b =
+    subst (λ (keyed : Owned). KeepsIn keyed.part keyed.move
+    (all (part_no (KeyedShape keyed.part))) a b) c.self.view_is
     (c.advance_over.ensures.keeps told) in
     keeps.same
 
 pub returns-clause-due : goal.returns-clause-due
 returns-clause-due g c told =
     let now = c.args.self.now in
-    let chain : AreasNow = c.self.inside.areas in
     let a = g.B.Blocks.seen c.args.blocks.now in
     let b = g.B.Blocks.seen c.advance_over.new.blocks in
-    let same : chain.part ≡ now.part = ap (λ (keyed : Owned). keyed.part) c.self.view_is in
-    let known : Known = known_by chain
-    (split_at c.advance_over.new.splitting c.advance_over.new.split.split)
+    let known : Known = known_in c.advance_over.new.areas c.advance_over.new.splits
     (mets c.advance_over.new.slots) in
-    let done : OnOk c.advance_over.result (IsDoneIn now.part known a b) =
+    let done : OnOk c.advance_over.result (IsDoneIn now.part now.move known a b) =
     on_ok_weaker c.advance_over.result
-    (subst (λ (part : KeyedChain). IsDoneIn part known a b) same)
+    (subst (λ (keyed : Owned). IsDoneIn keyed.part keyed.move known a b) c.self.view_is)
     (c.advance_over.ensures.done told) in
     on_ok_weaker c.advance_over.result (λ is. is.due) done
 
 pub returns-clause-rests : goal.returns-clause-rests
-returns-clause-rests g c told owners grown grows still =
+returns-clause-rests g c told owners grown grows still claimed =
     let now = c.args.self.now in
-    let chain : AreasNow = c.self.inside.areas in
     let a = g.B.Blocks.seen c.args.blocks.now in
     let b = g.B.Blocks.seen c.advance_over.new.blocks in
-    let same : chain.part ≡ now.part = ap (λ (keyed : Owned). keyed.part) c.self.view_is in
-    let known : Known = known_by chain
-    (split_at c.advance_over.new.splitting c.advance_over.new.split.split)
+    let known : Known = known_in c.advance_over.new.areas c.advance_over.new.splits
     (mets c.advance_over.new.slots) in
-    let done : OnOk c.advance_over.result (IsDoneIn now.part known a b) =
+    let done : OnOk c.advance_over.result (IsDoneIn now.part now.move known a b) =
     on_ok_weaker c.advance_over.result
-    (subst (λ (part : KeyedChain). IsDoneIn part known a b) same)
+    (subst (λ (keyed : Owned). IsDoneIn keyed.part keyed.move known a b) c.self.view_is)
     (c.advance_over.ensures.done told) in
     let rests : IsChainAtRest now.part grown a =
     rest-grows owners grown a grows.kept (KeyedShape now.part) still in
-    on_ok_weaker c.advance_over.result (λ is. is.rests grown rests) done
+    let own : OwnsInto now.part grown now.move =
+    owns-grows (KeyedShape now.part) owners grown (known_of now) grows.kept claimed in
+    on_ok_weaker c.advance_over.result (λ is. is.rests grown rests own) done
 
 pub returns-clause-stays : goal.returns-clause-stays
-returns-clause-stays g c told owners space still =
+returns-clause-stays g c told owners space still claimed =
     let now = c.args.self.now in
-    let chain : AreasNow = c.self.inside.areas in
     let a = g.B.Blocks.seen c.args.blocks.now in
     let b = g.B.Blocks.seen c.advance_over.new.blocks in
-    let same : chain.part ≡ now.part = ap (λ (keyed : Owned). keyed.part) c.self.view_is in
-    let known : Known = known_by chain
-    (split_at c.advance_over.new.splitting c.advance_over.new.split.split)
+    let known : Known = known_in c.advance_over.new.areas c.advance_over.new.splits
     (mets c.advance_over.new.slots) in
-    let done : OnOk c.advance_over.result (IsDoneIn now.part known a b) =
+    let done : OnOk c.advance_over.result (IsDoneIn now.part now.move known a b) =
     on_ok_weaker c.advance_over.result
-    (subst (λ (part : KeyedChain). IsDoneIn part known a b) same)
+    (subst (λ (keyed : Owned). IsDoneIn keyed.part keyed.move known a b) c.self.view_is)
     (c.advance_over.ensures.done told) in
-    on_ok_weaker c.advance_over.result (λ is. is.rests owners still) done
+    on_ok_weaker c.advance_over.result (λ is. is.rests owners still claimed) done
 
 pub returns-clause-room : goal.returns-clause-room
 returns-clause-room g c told =
     let now = c.args.self.now in
-    let chain : AreasNow = c.self.inside.areas in
     let a = g.B.Blocks.seen c.args.blocks.now in
     let b = g.B.Blocks.seen c.advance_over.new.blocks in
-    let same : chain.part ≡ now.part = ap (λ (keyed : Owned). keyed.part) c.self.view_is in
     let all : PartNo → Lengths = g.K.Kept.kept c.args.kept.now in
     let kept : Lengths = all (part_no (KeyedShape now.part)) in
-    let keeps : KeepsIn now.part kept a b =
-    subst (λ (part : KeyedChain). KeepsIn part (all (part_no (KeyedShape part))) a b) same
+    let keeps : KeepsIn now.part now.move kept a b =
+    subst (λ (keyed : Owned). KeepsIn keyed.part keyed.move
+    (all (part_no (KeyedShape keyed.part))) a b) c.self.view_is
     (c.advance_over.ensures.keeps told) in
     keeps.room
 
 pub returns-clause-rooms : goal.returns-clause-rooms
-returns-clause-rooms g c told owners grown grows still =
+returns-clause-rooms g c told owners grown grows still claimed =
     let now = c.args.self.now in
-    let chain : AreasNow = c.self.inside.areas in
     let a = g.B.Blocks.seen c.args.blocks.now in
     let b = g.B.Blocks.seen c.advance_over.new.blocks in
-    let same : chain.part ≡ now.part = ap (λ (keyed : Owned). keyed.part) c.self.view_is in
     let all : PartNo → Lengths = g.K.Kept.kept c.args.kept.now in
     let kept : Lengths = all (part_no (KeyedShape now.part)) in
-    let keeps : KeepsIn now.part kept a b =
-    subst (λ (part : KeyedChain). KeepsIn part (all (part_no (KeyedShape part))) a b) same
+    let keeps : KeepsIn now.part now.move kept a b =
+    subst (λ (keyed : Owned). KeepsIn keyed.part keyed.move
+    (all (part_no (KeyedShape keyed.part))) a b) c.self.view_is
     (c.advance_over.ensures.keeps told) in
     let rests : IsChainAtRest now.part grown a =
     rest-grows owners grown a grows.kept (KeyedShape now.part) still in
-    keeps.rooms grown rests
+    let own : OwnsInto now.part grown now.move =
+    owns-grows (KeyedShape now.part) owners grown (known_of now) grows.kept claimed in
+    keeps.rooms grown rests own
 
 pub returns-clause-knows : goal.returns-clause-knows
 returns-clause-knows g c told =
     let now = c.args.self.now in
-    let chain : AreasNow = c.self.inside.areas in
     let a = g.B.Blocks.seen c.args.blocks.now in
     let b = g.B.Blocks.seen c.advance_over.new.blocks in
-    let same : chain.part ≡ now.part = ap (λ (keyed : Owned). keyed.part) c.self.view_is in
-    let known : Known = known_by chain
-    (split_at c.advance_over.new.splitting c.advance_over.new.split.split)
+    let known : Known = known_in c.advance_over.new.areas c.advance_over.new.splits
     (mets c.advance_over.new.slots) in
-    let done : OnOk c.advance_over.result (IsDoneIn now.part known a b) =
+    let done : OnOk c.advance_over.result (IsDoneIn now.part now.move known a b) =
     on_ok_weaker c.advance_over.result
-    (subst (λ (part : KeyedChain). IsDoneIn part known a b) same)
+    (subst (λ (keyed : Owned). IsDoneIn keyed.part keyed.move known a b) c.self.view_is)
     (c.advance_over.ensures.done told) in
     on_ok_weaker c.advance_over.result (λ is. is.knows) done
+
+pub returns-clause-more : goal.returns-clause-more
+returns-clause-more g c told many owners grown grows still claimed =
+    let now = c.args.self.now in
+    let a = g.B.Blocks.seen c.args.blocks.now in
+    let splits : Splitting = c.advance_over.new.splits in
+    let space : List (Option PartNo) = c.args.space.now in
+    let chain : AreasNow = record { part = now.part; areas = now.areas; ends = now.ends } in
+    let left : Left a a.cur = g.met.B.Blocks.cur_may c.args.blocks.now told in
+    let own : AreOwn now.part owners (areas_held (known_of now)) =
+    held-own now.part owners (known_of now) a (rest-sound (KeyedShape now.part) owners a still) left
+    (c.requires.knows told) claimed in
+    let aside : IsLeastAside c.self.inside.areas space =
+    subst (λ (keyed : Owned). IsLeastAside
+    (record { part = keyed.part; areas = keyed.areas; ends = keyed.ends }) space)
+    (sym c.self.view_is)
+    (least-aside chain space owners grown now.move many grows own) in
+    on_ok_weaker c.advance_over.result
+    (subst (λ (keyed : Owned). (splits.split ≢ keyed.split) ⊎ (splits.move ≢ keyed.move))
+    c.self.view_is)
+    (c.advance_over.ensures.further told aside)

@@ -1,20 +1,19 @@
-use Rattle.std.proofs.Common.{◌≡◌, IsTrue, List, ℕ, Option, All, rules, sym, ap, subst}
+use Rattle.std.proofs.Common.{◌≡◌, IsTrue, List, ℕ, All, rules, sym, ap, subst}
 use Rattle.std.specs.Prelude.{IfErr}
 use Rattle.std.proofs.lemmas.Result.{IfErr-weaker}
 use Rattle.vr_types.specs.Blocks.{Keeps}
 use Rattle.vr_types.specs.Seen.{Left}
 use Rattle.vr_types.specs.declared.fault.DeviceFault.TheVariants.{Read}
 use Rattle.vr_space.specs.Areas.{IsChainOn, KeyedChain}
-use Rattle.vr_space.specs.Part.{DueMoreAt, KeyedShape, Knows, Stands, given, part_no}
+use Rattle.vr_space.specs.Part.{DueMoreAt, InHeld, KeyedShape, Knows, Stands, given, part_no}
 use Rattle.vr_space.specs.Room.{Lengths}
-use Rattle.vr_space.specs.Split.{AreaSplit}
 use Rattle.vr_space.proofs.CallerLemmas.{resting-stands}
 use Rattle.vr_attach.specs.Areas.{AreasNow}
 use Rattle.vr_keyed.specs.Changed.{IsReadyIn, IsSetIn, MaySetIn}
-use Rattle.vr_keyed.specs.Owned.{InAreas, Owned, known_by, known_of, split_at}
+use Rattle.vr_keyed.specs.Owned.{InAreas, Owned, Splitting, known_in, known_of}
 use Rattle.vr_keyed.specs.Ready.{put_of}
 use Rattle.vr_keyed.specs.Slots.{mets}
-use Rattle.vr_keyed.proofs.Known.{under-still}
+use Rattle.vr_keyed.proofs.Known.{blocks-held, ways-still}
 use Rattle.vr_keyed.proofs.keyed.KeyedPart.set.Goals as goal
 
 pub returns-in_err-put-clause-adds : goal.returns-in_err-put-clause-adds
@@ -28,10 +27,10 @@ returns-in_err-put-clause-adds g c told owners still =
     let item = given c.args.bytes in
     let same : chain.part ≡ now.part = ap (λ (keyed : Owned). keyed.part) c.self.view_is in
     let kept : Lengths = g.K.Kept.kept c.args._kept.now (part_no (KeyedShape now.part)) in
-    let split : Option AreaSplit = split_at c.self.inside.splitting c.self.inside.split.split in
+    let splits : Splitting = c.self.inside.splits in
     let old = mets c.self.inside.slots in
-    let ready : IsReadyIn chain.part (known_by chain split old) kept at item a =
-    subst (λ (key : List ℕ). IsReadyIn chain.part (known_by chain split old) kept key item a)
+    let ready : IsReadyIn chain.part (known_in chain splits old) kept at item a =
+    subst (λ (key : List ℕ). IsReadyIn chain.part (known_in chain splits old) kept key item a)
     (sym c.as_slice.ensures)
     (subst (λ (keyed : Owned). IsReadyIn keyed.part (known_of keyed) kept place item a)
     (sym c.self.view_is)
@@ -45,7 +44,7 @@ returns-in_err-put-clause-adds g c told owners still =
     let may : MaySetIn now.part kept place item a b =
     subst (λ (part : KeyedChain). MaySetIn part kept place item a b) same
     (subst (λ (key : List ℕ). MaySetIn chain.part kept key item a b) c.as_slice.ensures
-    (c.set_over.ensures.may told kept split ready)) in
+    (c.set_over.ensures.may told kept splits ready)) in
     may.adds owners still
 
 pub returns-in_err-put-clause-room : goal.returns-in_err-put-clause-room
@@ -59,10 +58,10 @@ returns-in_err-put-clause-room g c told =
     let item = given c.args.bytes in
     let same : chain.part ≡ now.part = ap (λ (keyed : Owned). keyed.part) c.self.view_is in
     let kept : Lengths = g.K.Kept.kept c.args._kept.now (part_no (KeyedShape now.part)) in
-    let split : Option AreaSplit = split_at c.self.inside.splitting c.self.inside.split.split in
+    let splits : Splitting = c.self.inside.splits in
     let old = mets c.self.inside.slots in
-    let ready : IsReadyIn chain.part (known_by chain split old) kept at item a =
-    subst (λ (key : List ℕ). IsReadyIn chain.part (known_by chain split old) kept key item a)
+    let ready : IsReadyIn chain.part (known_in chain splits old) kept at item a =
+    subst (λ (key : List ℕ). IsReadyIn chain.part (known_in chain splits old) kept key item a)
     (sym c.as_slice.ensures)
     (subst (λ (keyed : Owned). IsReadyIn keyed.part (known_of keyed) kept place item a)
     (sym c.self.view_is)
@@ -76,7 +75,7 @@ returns-in_err-put-clause-room g c told =
     let may : MaySetIn now.part kept place item a b =
     subst (λ (part : KeyedChain). MaySetIn part kept place item a b) same
     (subst (λ (key : List ℕ). MaySetIn chain.part kept key item a b) c.as_slice.ensures
-    (c.set_over.ensures.may told kept split ready)) in
+    (c.set_over.ensures.may told kept splits ready)) in
     may.room
 
 pub returns-in_err-put-clause-rooms : goal.returns-in_err-put-clause-rooms
@@ -90,10 +89,10 @@ returns-in_err-put-clause-rooms g c told owners still =
     let item = given c.args.bytes in
     let same : chain.part ≡ now.part = ap (λ (keyed : Owned). keyed.part) c.self.view_is in
     let kept : Lengths = g.K.Kept.kept c.args._kept.now (part_no (KeyedShape now.part)) in
-    let split : Option AreaSplit = split_at c.self.inside.splitting c.self.inside.split.split in
+    let splits : Splitting = c.self.inside.splits in
     let old = mets c.self.inside.slots in
-    let ready : IsReadyIn chain.part (known_by chain split old) kept at item a =
-    subst (λ (key : List ℕ). IsReadyIn chain.part (known_by chain split old) kept key item a)
+    let ready : IsReadyIn chain.part (known_in chain splits old) kept at item a =
+    subst (λ (key : List ℕ). IsReadyIn chain.part (known_in chain splits old) kept key item a)
     (sym c.as_slice.ensures)
     (subst (λ (keyed : Owned). IsReadyIn keyed.part (known_of keyed) kept place item a)
     (sym c.self.view_is)
@@ -107,7 +106,7 @@ returns-in_err-put-clause-rooms g c told owners still =
     let may : MaySetIn now.part kept place item a b =
     subst (λ (part : KeyedChain). MaySetIn part kept place item a b) same
     (subst (λ (key : List ℕ). MaySetIn chain.part kept key item a b) c.as_slice.ensures
-    (c.set_over.ensures.may told kept split ready)) in
+    (c.set_over.ensures.may told kept splits ready)) in
     may.rooms owners still
 
 pub returns-clause-adds : goal.returns-clause-adds
@@ -121,10 +120,10 @@ returns-clause-adds g c told owners still =
     let item = given c.args.bytes in
     let same : chain.part ≡ now.part = ap (λ (keyed : Owned). keyed.part) c.self.view_is in
     let kept : Lengths = g.K.Kept.kept c.args._kept.now (part_no (KeyedShape now.part)) in
-    let split : Option AreaSplit = split_at c.self.inside.splitting c.self.inside.split.split in
+    let splits : Splitting = c.self.inside.splits in
     let old = mets c.self.inside.slots in
-    let ready : IsReadyIn chain.part (known_by chain split old) kept at item a =
-    subst (λ (key : List ℕ). IsReadyIn chain.part (known_by chain split old) kept key item a)
+    let ready : IsReadyIn chain.part (known_in chain splits old) kept at item a =
+    subst (λ (key : List ℕ). IsReadyIn chain.part (known_in chain splits old) kept key item a)
     (sym c.as_slice.ensures)
     (subst (λ (keyed : Owned). IsReadyIn keyed.part (known_of keyed) kept place item a)
     (sym c.self.view_is)
@@ -138,7 +137,7 @@ returns-clause-adds g c told owners still =
     let may : MaySetIn now.part kept place item a b =
     subst (λ (part : KeyedChain). MaySetIn part kept place item a b) same
     (subst (λ (key : List ℕ). MaySetIn chain.part kept key item a b) c.as_slice.ensures
-    (c.set_over.ensures.may told kept split ready)) in
+    (c.set_over.ensures.may told kept splits ready)) in
     may.adds owners still
 
 pub returns-clause-room : goal.returns-clause-room
@@ -152,10 +151,10 @@ returns-clause-room g c told =
     let item = given c.args.bytes in
     let same : chain.part ≡ now.part = ap (λ (keyed : Owned). keyed.part) c.self.view_is in
     let kept : Lengths = g.K.Kept.kept c.args._kept.now (part_no (KeyedShape now.part)) in
-    let split : Option AreaSplit = split_at c.self.inside.splitting c.self.inside.split.split in
+    let splits : Splitting = c.self.inside.splits in
     let old = mets c.self.inside.slots in
-    let ready : IsReadyIn chain.part (known_by chain split old) kept at item a =
-    subst (λ (key : List ℕ). IsReadyIn chain.part (known_by chain split old) kept key item a)
+    let ready : IsReadyIn chain.part (known_in chain splits old) kept at item a =
+    subst (λ (key : List ℕ). IsReadyIn chain.part (known_in chain splits old) kept key item a)
     (sym c.as_slice.ensures)
     (subst (λ (keyed : Owned). IsReadyIn keyed.part (known_of keyed) kept place item a)
     (sym c.self.view_is)
@@ -169,7 +168,7 @@ returns-clause-room g c told =
     let may : MaySetIn now.part kept place item a b =
     subst (λ (part : KeyedChain). MaySetIn part kept place item a b) same
     (subst (λ (key : List ℕ). MaySetIn chain.part kept key item a b) c.as_slice.ensures
-    (c.set_over.ensures.may told kept split ready)) in
+    (c.set_over.ensures.may told kept splits ready)) in
     may.room
 
 pub returns-clause-rooms : goal.returns-clause-rooms
@@ -183,10 +182,10 @@ returns-clause-rooms g c told owners still =
     let item = given c.args.bytes in
     let same : chain.part ≡ now.part = ap (λ (keyed : Owned). keyed.part) c.self.view_is in
     let kept : Lengths = g.K.Kept.kept c.args._kept.now (part_no (KeyedShape now.part)) in
-    let split : Option AreaSplit = split_at c.self.inside.splitting c.self.inside.split.split in
+    let splits : Splitting = c.self.inside.splits in
     let old = mets c.self.inside.slots in
-    let ready : IsReadyIn chain.part (known_by chain split old) kept at item a =
-    subst (λ (key : List ℕ). IsReadyIn chain.part (known_by chain split old) kept key item a)
+    let ready : IsReadyIn chain.part (known_in chain splits old) kept at item a =
+    subst (λ (key : List ℕ). IsReadyIn chain.part (known_in chain splits old) kept key item a)
     (sym c.as_slice.ensures)
     (subst (λ (keyed : Owned). IsReadyIn keyed.part (known_of keyed) kept place item a)
     (sym c.self.view_is)
@@ -200,7 +199,7 @@ returns-clause-rooms g c told owners still =
     let may : MaySetIn now.part kept place item a b =
     subst (λ (part : KeyedChain). MaySetIn part kept place item a b) same
     (subst (λ (key : List ℕ). MaySetIn chain.part kept key item a b) c.as_slice.ensures
-    (c.set_over.ensures.may told kept split ready)) in
+    (c.set_over.ensures.may told kept splits ready)) in
     may.rooms owners still
 
 pub returns-clause-set : goal.returns-clause-set
@@ -214,11 +213,11 @@ returns-clause-set g c told =
     let item = given c.args.bytes in
     let same : chain.part ≡ now.part = ap (λ (keyed : Owned). keyed.part) c.self.view_is in
     let kept : Lengths = g.K.Kept.kept c.args._kept.now (part_no (KeyedShape now.part)) in
-    let split : Option AreaSplit = split_at c.self.inside.splitting c.self.inside.split.split in
+    let splits : Splitting = c.self.inside.splits in
     let old = mets c.self.inside.slots in
     let new = mets c.set_over.new.slots in
-    let ready : IsReadyIn chain.part (known_by chain split old) kept at item a =
-    subst (λ (key : List ℕ). IsReadyIn chain.part (known_by chain split old) kept key item a)
+    let ready : IsReadyIn chain.part (known_in chain splits old) kept at item a =
+    subst (λ (key : List ℕ). IsReadyIn chain.part (known_in chain splits old) kept key item a)
     (sym c.as_slice.ensures)
     (subst (λ (keyed : Owned). IsReadyIn keyed.part (known_of keyed) kept place item a)
     (sym c.self.view_is)
@@ -230,10 +229,10 @@ returns-clause-set g c told =
       valid = c.requires.record;
     })) in
     let put : List ℕ = put_of c.in_ok-put.put in
-    let done : IsSetIn now.part (known_by chain split new) put place item a b =
-    subst (λ (part : KeyedChain). IsSetIn part (known_by chain split new) put place item a b) same
-    (subst (λ (key : List ℕ). IsSetIn chain.part (known_by chain split new) put key item a b)
-    c.as_slice.ensures (c.in_ok-put.ensures.done told kept split ready)) in
+    let done : IsSetIn now.part (known_in chain splits new) put place item a b =
+    subst (λ (part : KeyedChain). IsSetIn part (known_in chain splits new) put place item a b) same
+    (subst (λ (key : List ℕ). IsSetIn chain.part (known_in chain splits new) put key item a b)
+    c.as_slice.ensures (c.in_ok-put.ensures.done told kept splits ready)) in
     done.set
 
 pub returns-clause-due : goal.returns-clause-due
@@ -247,11 +246,11 @@ returns-clause-due g c told =
     let item = given c.args.bytes in
     let same : chain.part ≡ now.part = ap (λ (keyed : Owned). keyed.part) c.self.view_is in
     let kept : Lengths = g.K.Kept.kept c.args._kept.now (part_no (KeyedShape now.part)) in
-    let split : Option AreaSplit = split_at c.self.inside.splitting c.self.inside.split.split in
+    let splits : Splitting = c.self.inside.splits in
     let old = mets c.self.inside.slots in
     let new = mets c.set_over.new.slots in
-    let ready : IsReadyIn chain.part (known_by chain split old) kept at item a =
-    subst (λ (key : List ℕ). IsReadyIn chain.part (known_by chain split old) kept key item a)
+    let ready : IsReadyIn chain.part (known_in chain splits old) kept at item a =
+    subst (λ (key : List ℕ). IsReadyIn chain.part (known_in chain splits old) kept key item a)
     (sym c.as_slice.ensures)
     (subst (λ (keyed : Owned). IsReadyIn keyed.part (known_of keyed) kept place item a)
     (sym c.self.view_is)
@@ -263,10 +262,10 @@ returns-clause-due g c told =
       valid = c.requires.record;
     })) in
     let put : List ℕ = put_of c.in_ok-put.put in
-    let done : IsSetIn now.part (known_by chain split new) put place item a b =
-    subst (λ (part : KeyedChain). IsSetIn part (known_by chain split new) put place item a b) same
-    (subst (λ (key : List ℕ). IsSetIn chain.part (known_by chain split new) put key item a b)
-    c.as_slice.ensures (c.in_ok-put.ensures.done told kept split ready)) in
+    let done : IsSetIn now.part (known_in chain splits new) put place item a b =
+    subst (λ (part : KeyedChain). IsSetIn part (known_in chain splits new) put place item a b) same
+    (subst (λ (key : List ℕ). IsSetIn chain.part (known_in chain splits new) put key item a b)
+    c.as_slice.ensures (c.in_ok-put.ensures.done told kept splits ready)) in
     let noted : c.note_put.new.noted.items ≡ put = c.note_put.ensures.put in
     subst (λ (blocks : List ℕ). DueMoreAt (KeyedShape now.part) place blocks a b) (sym noted)
     done.due
@@ -282,11 +281,11 @@ returns-clause-rests g c told owners still =
     let item = given c.args.bytes in
     let same : chain.part ≡ now.part = ap (λ (keyed : Owned). keyed.part) c.self.view_is in
     let kept : Lengths = g.K.Kept.kept c.args._kept.now (part_no (KeyedShape now.part)) in
-    let split : Option AreaSplit = split_at c.self.inside.splitting c.self.inside.split.split in
+    let splits : Splitting = c.self.inside.splits in
     let old = mets c.self.inside.slots in
     let new = mets c.set_over.new.slots in
-    let ready : IsReadyIn chain.part (known_by chain split old) kept at item a =
-    subst (λ (key : List ℕ). IsReadyIn chain.part (known_by chain split old) kept key item a)
+    let ready : IsReadyIn chain.part (known_in chain splits old) kept at item a =
+    subst (λ (key : List ℕ). IsReadyIn chain.part (known_in chain splits old) kept key item a)
     (sym c.as_slice.ensures)
     (subst (λ (keyed : Owned). IsReadyIn keyed.part (known_of keyed) kept place item a)
     (sym c.self.view_is)
@@ -298,10 +297,10 @@ returns-clause-rests g c told owners still =
       valid = c.requires.record;
     })) in
     let put : List ℕ = put_of c.in_ok-put.put in
-    let done : IsSetIn now.part (known_by chain split new) put place item a b =
-    subst (λ (part : KeyedChain). IsSetIn part (known_by chain split new) put place item a b) same
-    (subst (λ (key : List ℕ). IsSetIn chain.part (known_by chain split new) put key item a b)
-    c.as_slice.ensures (c.in_ok-put.ensures.done told kept split ready)) in
+    let done : IsSetIn now.part (known_in chain splits new) put place item a b =
+    subst (λ (part : KeyedChain). IsSetIn part (known_in chain splits new) put place item a b) same
+    (subst (λ (key : List ℕ). IsSetIn chain.part (known_in chain splits new) put key item a b)
+    c.as_slice.ensures (c.in_ok-put.ensures.done told kept splits ready)) in
     done.rests owners still
 
 pub returns-clause-knows : goal.returns-clause-knows
@@ -315,11 +314,11 @@ returns-clause-knows g c told =
     let item = given c.args.bytes in
     let same : chain.part ≡ now.part = ap (λ (keyed : Owned). keyed.part) c.self.view_is in
     let kept : Lengths = g.K.Kept.kept c.args._kept.now (part_no (KeyedShape now.part)) in
-    let split : Option AreaSplit = split_at c.self.inside.splitting c.self.inside.split.split in
+    let splits : Splitting = c.self.inside.splits in
     let old = mets c.self.inside.slots in
     let new = mets c.set_over.new.slots in
-    let ready : IsReadyIn chain.part (known_by chain split old) kept at item a =
-    subst (λ (key : List ℕ). IsReadyIn chain.part (known_by chain split old) kept key item a)
+    let ready : IsReadyIn chain.part (known_in chain splits old) kept at item a =
+    subst (λ (key : List ℕ). IsReadyIn chain.part (known_in chain splits old) kept key item a)
     (sym c.as_slice.ensures)
     (subst (λ (keyed : Owned). IsReadyIn keyed.part (known_of keyed) kept place item a)
     (sym c.self.view_is)
@@ -331,23 +330,24 @@ returns-clause-knows g c told =
       valid = c.requires.record;
     })) in
     let put : List ℕ = put_of c.in_ok-put.put in
-    let done : IsSetIn now.part (known_by chain split new) put place item a b =
-    subst (λ (part : KeyedChain). IsSetIn part (known_by chain split new) put place item a b) same
-    (subst (λ (key : List ℕ). IsSetIn chain.part (known_by chain split new) put key item a b)
-    c.as_slice.ensures (c.in_ok-put.ensures.done told kept split ready)) in
+    let done : IsSetIn now.part (known_in chain splits new) put place item a b =
+    subst (λ (part : KeyedChain). IsSetIn part (known_in chain splits new) put place item a b) same
+    (subst (λ (key : List ℕ). IsSetIn chain.part (known_in chain splits new) put key item a b)
+    c.as_slice.ensures (c.in_ok-put.ensures.done told kept splits ready)) in
     done.knows
 
 pub returns-clause-put : goal.returns-clause-put
 returns-clause-put g c =
     let now = c.args.self.now in
     let chain : AreasNow = c.self.inside.areas in
+    let splits : Splitting = c.self.inside.splits in
+    let new = mets c.set_over.new.slots in
     let same : chain.part ≡ now.part = ap (λ (keyed : Owned). keyed.part) c.self.view_is in
     let noted : c.note_put.new.noted.items ≡ put_of c.in_ok-put.put = c.note_put.ensures.put in
-    subst
-    (λ (part : KeyedChain). All
-    (InAreas (record { part = part; areas = chain.areas; ends = chain.ends }))
+    subst (λ (part : KeyedChain). All (InHeld (KeyedShape part) (known_in chain splits new))
     c.note_put.new.noted.items) same
-    (subst (All (InAreas chain)) (sym noted) c.in_ok-put.ensures.put)
+    (blocks-held chain splits.split splits.move new c.note_put.new.noted.items
+    (subst (All (InAreas chain)) (sym noted) c.in_ok-put.ensures.put))
 
 pub returns-in_err-put-clause-unread : goal.returns-in_err-put-clause-unread
 returns-in_err-put-clause-unread g c =
@@ -357,27 +357,27 @@ returns-in_err-put-clause-unread g c =
     let a = g.B.Blocks.seen c.args.blocks.now in
     let b = g.B.Blocks.seen c.set_over.new.blocks in
     let same : chain.part ≡ now.part = ap (λ (keyed : Owned). keyed.part) c.self.view_is in
-    let split : Option AreaSplit = split_at c.self.inside.splitting c.self.inside.split.split in
+    let splits : Splitting = c.self.inside.splits in
     let old = mets c.self.inside.slots in
     let new = mets c.set_over.new.slots in
     let unread : IfErr c.set_over.result (λ fault. fault ≡ Read → Keeps tells a b
-    × (IsTrue tells → Knows (KeyedShape now.part) (known_by chain split new) b)) =
+    × (IsTrue tells → Knows (KeyedShape now.part) (known_in chain splits new) b)) =
     IfErr-weaker c.set_over.result _ _
     (λ fault still is. (
       (still is).0,
       λ told.
           let quiet = c.requires.rests told in
           let left : Left a a.cur = g.met.B.Blocks.cur_may c.args.blocks.now told in
-          let knows : Knows (KeyedShape chain.part) (known_by chain split old) a =
+          let knows : Knows (KeyedShape chain.part) (known_in chain splits old) a =
           subst (λ (keyed : Owned). Knows (KeyedShape keyed.part) (known_of keyed) a)
           (sym c.self.view_is) (c.requires.knows told) in
-          subst (λ (part : KeyedChain). Knows (KeyedShape part) (known_by chain split new) b) same
+          subst (λ (part : KeyedChain). Knows (KeyedShape part) (known_in chain splits new) b) same
           (record {
-            way = under-still chain tells told a b (still is).0
+            way = ways-still chain tells told a b (still is).0
                 (subst (λ (part : KeyedChain). IsChainOn part a) (sym same) c.requires.on)
                 (subst (λ (part : KeyedChain). Stands (KeyedShape part) a.cur) (sym same)
                 (resting-stands now.part quiet.0 a quiet.1 left))
-                split knows.way;
+                splits.split splits.move knows.way;
             blocks = (still is).1 told;
           }),
     ))

@@ -7,7 +7,8 @@ use Rattle.vr_types.specs.declared.unit.Unit.{Unit as UnitOfRecovery}
 use Rattle.vr_space.specs.Owners.{Owners}
 use Rattle.vr_attach.specs.Owning.{claimed_by, owner_of}
 use Rattle.vr_history.specs.State.{BeforeImage}
-use Rattle.vr_store.specs.LastImage.{HasAdvanced, OnLast, claimed_for, last_claimed, last_of_unit}
+use Rattle.vr_store.specs.LastImage.{HasAdvanced, IsDueAtLast, IsSplitDue, OnLast, claimed_for}
+use Rattle.vr_store.specs.LastImage.{last_claimed, last_of_unit}
 use Rattle.vr_types.specs.Moments.{Guards}
 use Rattle.vr_volume.specs.Committed.{committed_by}
 use Rattle.vr_volume.specs.Safe.{IsSafeImage}
@@ -16,8 +17,9 @@ use Rattle.vr_store.specs.Parts.{HasMoreAt}
 use Rattle.vr_store.specs.Store.{IsFitImage, IsSet, IsStored, StoreNow, part_now, shape_among}
 use Rattle.vr_store.specs.Store.{store_of}
 use Rattle.vr_store.proofs.Kept.{err-as}
-use Rattle.vr_store.proofs.LastImages.{last-has, last-lent}
+use Rattle.vr_store.proofs.LastImages.{last-has, last-lent, last-on, on-last}
 use Rattle.vr_store.proofs.PlacedParts.{shapes-same}
+use Rattle.vr_store.proofs.Rooms.{split-takes-none}
 use Rattle.vr_store.proofs.store.Store.advance_last.Goals as goal
 
 -- which part each block is of, where the part of the last image got the least free area
@@ -130,11 +132,6 @@ advanced part kind old new None stage owners = tt
 advanced part kind old new (Some shape) stage owners =
     record { kind = kind; stage = stage; owners = owners }
 
-on-last : (store : StoreNow) (unit : UnitOfRecovery) (last : BeforeImage)
-    (P : BeforeImage → Type 0) → last_of_unit store unit ≡ Some last → P last → OnLast store unit P
-on-last store unit last P is holds = subst (λ (found : Option BeforeImage). IfSome found P) (sym is)
-    holds
-
 pub returns-clause-owners : goal.returns-clause-owners
 returns-clause-owners g c told =
     let inside = c.self.inside in
@@ -148,13 +145,38 @@ returns-clause-owners g c told =
     IfSome (shape_among s.parts image.part)
     (λ (shape : Shape). HasAdvanced (record { 0 = image.part }) shape s.space new)))
     c.self.view_is
-    (on-last store c.args.unit last
+    (last-on
     (λ (image : BeforeImage). IfSome (shape_among store.parts image.part)
     (λ (shape : Shape). HasAdvanced (record { 0 = image.part }) shape store.space new))
+    (last_of_unit store c.args.unit) last
     (last-lent c.args.unit (befores_of inside.undo) c.last.result c.in-Some.before c.in-Some.is
     c.last.ensures)
     (advanced before.part done.kind store.space new (shape_among store.parts before.part.0)
     (done.ensures.kind told) done.ensures.owners))
+
+-- the stage that was done takes no area
+pub returns-clause-claims_none : goal.returns-clause-claims_none
+returns-clause-claims_none g c told =
+    let inside = c.self.inside in
+    let store : StoreNow = store_of g.P.Part.shape g.P.Part.known inside.log inside.undo
+    inside.parts.items inside.changed.items inside.space in
+    let a = g.B.Blocks.seen c.args.blocks.now in
+    let unit = c.args.unit in
+    let before = c.in-Some.before.now in
+    let last : BeforeImage = image_of unit before in
+    let is : last_of_unit store unit ≡ Some last = last-lent unit (befores_of inside.undo)
+    c.last.result c.in-Some.before c.in-Some.is c.last.ensures in
+    let set = subst (λ (s : StoreNow). IsSet s a) (sym c.self.view_is) c.requires.set in
+    let due = subst (λ (s : StoreNow). IsDueAtLast s a.cur unit c.args.length)
+    (sym c.self.view_is) (c.requires.due told) in
+    let done = c.in_ok-kind-in-Some in
+    split-takes-none store a.cur before.part.0 before.place c.args.length before.part done.kind
+    c.advance_at.new.space
+    (last-has (IsFitImage store.parts) unit (befores_of inside.undo) last set.kept is).part
+    (on-last (λ (image : BeforeImage). IsSplitDue store a.cur image.part image.place c.args.length)
+    (last_of_unit store unit) last is due)
+    (done.ensures.stage told) (done.ensures.kind told) done.ensures.owners
+    ∙ ap (λ (s : StoreNow). s.space) c.self.view_is
 
 pub returns-clause-more : goal.returns-clause-more
 returns-clause-more g c told =
@@ -164,8 +186,8 @@ returns-clause-more g c told =
     let new = map (part_now g.P.Part.shape g.P.Part.known) c.advance_at.new.parts.items in
     subst (λ (s : StoreNow). OnLast s c.args.unit (λ (image : BeforeImage).
     HasMoreAt image.part s.parts new)) c.self.view_is
-    (on-last store c.args.unit (image_of c.args.unit c.in-Some.before.now)
-    (λ (image : BeforeImage). HasMoreAt image.part store.parts new)
+    (last-on (λ (image : BeforeImage). HasMoreAt image.part store.parts new)
+    (last_of_unit store c.args.unit) (image_of c.args.unit c.in-Some.before.now)
     (last-lent c.args.unit (befores_of inside.undo) c.last.result c.in-Some.before c.in-Some.is
     c.last.ensures)
     (c.in_ok-kind-in-Some.ensures.more told))

@@ -1,11 +1,12 @@
 use Rattle.std.proofs.Common.{◌≡◌, ◌≢◌, ◌<◌, ℕ, Option, None, Result, Ok, Err, IfErr, IsTrue}
-use Rattle.std.proofs.Common.{refl, sym, ap, subst, inl, ◌∙◌, map, set}
+use Rattle.std.proofs.Common.{refl, sym, ap, subst, ◌∙◌, map, set}
 use Rattle.std.specs.Prelude.{All, IfSome}
 use Rattle.std.specs.Result.{IsErrAnd}
 use Rattle.vr_types.specs.Content.{Item}
 use Rattle.vr_types.specs.Moments.{Guards}
 use Rattle.vr_space.specs.Known.{HasMet}
 use Rattle.vr_space.specs.Part.{CanSet, IsGiven, IsPlaceOf, Shape, given}
+use Rattle.vr_space.proofs.CallerLemmas.{held-same}
 use Rattle.vr_attach.proofs.CallerLemmas.{owner-past-log}
 use Rattle.vr_log.specs.Live.{live_in}
 use Rattle.vr_log.specs.declared.no.LogNo.{LogNo}
@@ -76,6 +77,7 @@ set_at-requires g c =
         owners_of v,
         owner-past-log v.log.geometry v.space,
         (mine told).rests,
+        (mine told).claimed,
       );
       room = λ told. room-to v.log.geometry (some told).number (owners_of v) v.log
           (kept (some told).number v unit c.args.number place prepared (some told).was (some told).state a (some told).ready
@@ -289,7 +291,8 @@ returns-clause-set g c =
     (sym ensured.count) (c.set_at.ensures.each is-set.changed))
     (set-unclaimed v number before now parts v.space at
     (ap (λ (s : Shape). part-split laid.number s None) ensured.part)
-    a b ensured.count ensured.size ensured.areas refl is-set)
+    a b ensured.count ensured.size
+    (held-same before.shape before.known now.known ensured.areas ensured.moves) refl is-set)
 
 pub returns-clause-parts : goal.returns-clause-parts
 returns-clause-parts g c =
@@ -332,7 +335,7 @@ returns-clause-parts g c =
     subst (λ (s : StoreNow). OnlyMet number s.parts parts) c.self.view_is
     (only-met number before now v.parts parts at refl
     (same-met laid.number before.shape now.shape before.known now.known ensured.part ensured.split
-    ensured.areas))
+    ensured.moves ensured.areas))
 
 err-as : (result : Result (Unit {0}) LogNo) (cause : LogNo) (P : LogNo → Type 0)
     → IsErrAnd result (λ answer. answer ≡ cause) → P cause → IfErr result P

@@ -1,10 +1,10 @@
 use Rattle.std.proofs.Common.{◌<◌, ℕ, Option, None, IsTrue, refl, sym, ap, subst, map, set}
-use Rattle.std.proofs.Common.{inl}
 use Rattle.std.specs.Prelude.{All, IfSome}
 use Rattle.std.proofs.lemmas.Result.{on_ok_weaker}
 use Rattle.vr_types.specs.Moments.{Guards}
 use Rattle.vr_space.specs.Known.{HasMet}
 use Rattle.vr_space.specs.Part.{CanSet, IsGiven, IsPlaceOf, Shape, given}
+use Rattle.vr_space.proofs.CallerLemmas.{held-same}
 use Rattle.vr_undo.specs.Records.{images_in}
 use Rattle.vr_volume.specs.Committed.{committed_by}
 use Rattle.vr_volume.specs.PutBack.{lengths_kept}
@@ -355,7 +355,9 @@ returns-clause-set g c =
     (subst (λ (count : ℕ). All (λ (by : ChangedBy). All (λ n. n < count) by.blocks) changed)
     (sym c.set_back.ensures.count) (c.set_back.ensures.each is-set.changed))
     (set-unclaimed v number before now parts v.space at same a b c.set_back.ensures.count
-    c.set_back.ensures.size c.set_back.ensures.areas refl is-set)
+    c.set_back.ensures.size
+    (held-same before.shape before.known now.known c.set_back.ensures.areas
+    c.set_back.ensures.moves) refl is-set)
 
 pub returns-clause-parts : goal.returns-clause-parts
 returns-clause-parts g c =
@@ -395,7 +397,7 @@ returns-clause-parts g c =
     subst (λ (s : StoreNow). OnlyMet number s.parts parts) c.self.view_is
     (only-met number before now v.parts parts at refl
     (same-met laid.number before.shape now.shape before.known now.known c.set_back.ensures.part
-    c.set_back.ensures.split c.set_back.ensures.areas))
+    c.set_back.ensures.split c.set_back.ensures.moves c.set_back.ensures.areas))
 
 pub returns-clause-reads : goal.returns-clause-reads
 returns-clause-reads g c asked =
