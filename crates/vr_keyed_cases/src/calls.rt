@@ -55,8 +55,8 @@ fn numbered_call(
     }
 }
 
-/// Sets a record of each key from one to another, or of one of so many: `fill KEY KEY LENGTH` or
-/// `fill KEY KEY LENGTH STEP`.
+/// Sets a record of each key from one to another, or of each STEP-th of them: `fill KEY KEY LENGTH`
+/// or `fill KEY KEY LENGTH STEP`.
 pub fn fill(alloc: Global, held: &mut Held, rest: &str, out: &mut String) -> Answer {
     let (first, rest) = parted(rest);
     let (last, rest) = parted(rest);

@@ -21,7 +21,7 @@ pub fn small_volume() -> Result<Geometry, Stop>
     volume(3, 3)
 }
 
-/// A wide one: four areas of so many intervals, two to five.
+/// A wide one: four areas of this many intervals, two to five.
 pub fn wide_volume(intervals: u32) -> Result<Geometry, Stop>
     ensures { IfOk result IsVolume }
 {
@@ -31,7 +31,7 @@ pub fn wide_volume(intervals: u32) -> Result<Geometry, Stop>
     volume(4, intervals)
 }
 
-/// A volume of a header, a log block, and so many areas of so many intervals.
+/// A volume of a header, a log block, and this many areas, each of this many intervals.
 fn volume(areas: u32, intervals: u32) -> Result<Geometry, Stop>
     requires areas { areas ≤ 4 }
     requires intervals { intervals ≤ 5 }
