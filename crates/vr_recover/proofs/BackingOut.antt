@@ -182,11 +182,11 @@ module _ (number : ℕ) (owners : Owners) (log : LogNow) (contents : ℕ → Con
       }
 
       -- What has to hold before the end is written.
-      pub end-undone : IsEndOf log.geometry log (alike contents) unit kind a
+      pub end-undone : IsEndOf log.geometry owners log (alike contents) unit kind a
       end-undone = record {
         forced = most;
         contents = committed-end;
-        laid = λ part shape is. is;
+        laid = λ part shape is. inl is;
         items = λ part shape laid place found may none. undone.all part shape laid place found may;
       }
 

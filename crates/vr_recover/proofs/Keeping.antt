@@ -1,12 +1,10 @@
 -- The before-images of a log: none of a place, the only one of each, and all of them kept.
-use Rattle.std.proofs.Common.{◌≡◌, ℕ, zero, suc, ◌+◌, ◌<◌, ◌≤◌, Bool, true, false, cond, List, [], ◌∷◌}
+use Rattle.std.proofs.Common.{◌≡◌, ℕ, ◌+◌, ◌<◌, ◌≤◌, Bool, true, false, cond, List, [], ◌∷◌}
 use Rattle.std.proofs.Common.{◌++◌, Option, Some, None, length, refl, sym, ap, subst, ◌∙◌, take, drop}
-use Rattle.std.proofs.Common.{get_or, arith, add-one, ◌&&◌}
-use Rattle.std.specs.Prelude.{All, IfSome, find, slice_get, ◌||◌}
+use Rattle.std.proofs.Common.{get_or, arith, ◌&&◌}
+use Rattle.std.specs.Prelude.{All, IfSome, find, ◌||◌}
 use Rattle.std.specs.List.{cons_option, filter_map}
-use Rattle.std.proofs.lemmas.Bool.{cases_lt, true≢false}
-use Rattle.std.proofs.lemmas.Option.{slice_get-get_or}
-use Rattle.std.proofs.Common.{⊎_elim}
+use Rattle.std.proofs.lemmas.Bool.{true≢false}
 use Rattle.std.proofs.Common.{set}
 use Rattle.std.proofs.lemmas.List.{drop_more, set-get_or, take_all, take-append-drop, take_more}
 use Rattle.std.proofs.lemmas.List.Elements.{All-cons, All-head, All-nil, All-push, All-tail}
@@ -16,9 +14,8 @@ use Rattle.vr_types.specs.declared.unit.Unit.{Unit as UnitOfRecovery}
 use Rattle.vr_history.specs.State.{BeforeImage}
 use Rattle.vr_log.specs.declared.record.LogRecord.{LogRecord}
 use Rattle.vr_undo.specs.Records.{has_at, is_at}
-use Rattle.vr_volume.specs.PutBack.{AreAlone, is_image_of, oldest}
+use Rattle.vr_volume.specs.PutBack.{AreAlone, is_image_of}
 use Rattle.vr_volume.proofs.Alone.{is-own, is-there}
-use Rattle.vr_recover.specs.Found.{IsAloneIn}
 
 some-none : {X : Type 0} {x : X} → Some x ≡ None → ⊥
 some-none same = cc
@@ -62,74 +59,6 @@ module _ (test : BeforeImage → Bool) where
           → (find test images ≡ None → All Fails images) → All Fails (image ∷ images)
       by false is rest further = All-cons Fails image images is (further rest)
       by true is rest further = absurd (some-none rest)
-
--- ---- the only one of each place
-
-module _ (f : LogRecord → Option BeforeImage) where
-  abbrev EachAlone : List LogRecord → Type 0
-  EachAlone records = (i : ℕ) (rec : LogRecord) → slice_get records i ≡ Some rec
-      → IsAloneIn f rec (drop (suc i) records)
-
-  pub all-alone : (records : List LogRecord) → EachAlone records → AreAlone (filter_map f records)
-  all-alone [] each = tt
-  all-alone (rec ∷ records) each = by (f rec) (each 0 rec refl)
-      (all-alone records (λ i other is. each (suc i) other is))
-    where
-      by : (o : Option BeforeImage)
-          → IfSome o (λ image. oldest (filter_map f records) image.part image.place ≡ None)
-          → AreAlone (filter_map f records)
-          → AreAlone (cons_option o (filter_map f records))
-      by None here rest = rest
-      by (Some image) here rest = (here, rest)
-
-  pub alone-each : (records : List LogRecord) → AreAlone (filter_map f records)
-      → EachAlone records
-  alone-each [] alone i rec is = absurd cc
-  alone-each (first ∷ records) alone i rec is = by_index i is (alone-each records)
-    where
-      rest : (o : Option BeforeImage) → AreAlone (cons_option o (filter_map f records))
-          → AreAlone (filter_map f records)
-      rest None all = all
-      rest (Some image) all = all.1
-
-      head : (o : Option BeforeImage) → AreAlone (cons_option o (filter_map f records))
-          → IfSome o (λ image. oldest (filter_map f records) image.part image.place ≡ None)
-      head None all = tt
-      head (Some image) all = all.0
-
-      first-is : first ≡ rec → IsAloneIn f rec records
-      first-is same = subst (λ (r : LogRecord). IsAloneIn f r records) same (head (f first) alone)
-
-      some-is : (x y : LogRecord) → Some x ≡ Some y → x ≡ y
-      some-is x y same = cc
-
-      by_index : (i : ℕ) → slice_get (first ∷ records) i ≡ Some rec
-          → (AreAlone (filter_map f records) → EachAlone records)
-          → IsAloneIn f rec (drop (suc i) (first ∷ records))
-      by_index zero is further = first-is (some-is first rec is)
-      by_index (suc i) is further = further (rest (f first) alone) i rec is
-
-  -- one record more
-  pub alone-more : (records : List LogRecord) (n : ℕ) (rec : LogRecord) (rest : List LogRecord)
-      → n < length records → rec ≡ get_or records n rec → rest ≡ drop (n + 1) records
-      → IsAloneIn f rec rest
-      → ((i : ℕ) → i < n → (other : LogRecord) → slice_get records i ≡ Some other
-      → IsAloneIn f other (drop (suc i) records))
-      → (i : ℕ) → i < n + 1 → (other : LogRecord) → slice_get records i ≡ Some other
-      → IsAloneIn f other (drop (suc i) records)
-  alone-more records n rec rest below is after here so_far i less other there = ⊎_elim
-      (λ (before : i < n). so_far i before other there)
-      (λ (last : n ≤ i). let same : i ≡ n = omega (arith, last, less) in
-      let both : rec ≡ other = some-rec rec other (ap Some is
-      ∙ sym (slice_get-get_or records n rec below)
-      ∙ ap (slice_get records) (sym same) ∙ there) in
-      subst (λ (r : LogRecord). IsAloneIn f r (drop (suc i) records)) both
-      (subst (IsAloneIn f rec) (after ∙ ap (λ (k : ℕ). drop k records)
-      (ap (λ (k : ℕ). k + 1) (sym same) ∙ add-one i)) here))
-      (cases_lt i n)
-    where
-      some-rec : (x y : LogRecord) → Some x ≡ Some y → x ≡ y
-      some-rec x y same = cc
 
 -- ---- kept
 
@@ -181,14 +110,18 @@ new-among unit (first ∷ xs) image ys alone =
 
 module _ (f : LogRecord → Option BeforeImage) (records : List LogRecord) (i : ℕ)
     (rec : LogRecord) (below : i < length records) (here : get_or records i rec ≡ rec) where
+  pub images-next : filter_map f (take i records) ++ filter_map f (rec ∷ [])
+      ≡ filter_map f (take (i + 1) records)
+  images-next = sym (filter_map-append f (take i records) (rec ∷ []))
+      ∙ ap (filter_map f) (ap (λ (r : LogRecord). take i records ++ r ∷ []) (sym here)
+      ∙ sym (take_more records i rec below))
+
   pub image-next : (images kept : List BeforeImage) → images ≡ filter_map f (take i records)
       → kept ≡ images ++ filter_map f (rec ∷ [])
       → kept ≡ filter_map f (take (i + 1) records)
   image-next images kept so_far added =
       added ∙ ap (λ (s : List BeforeImage). s ++ filter_map f (rec ∷ [])) so_far
-      ∙ sym (filter_map-append f (take i records) (rec ∷ []))
-      ∙ ap (filter_map f) (ap (λ (r : LogRecord). take i records ++ r ∷ []) (sym here)
-      ∙ sym (take_more records i rec below))
+      ∙ images-next
 
   cut : records ≡ take i records ++ rec ∷ drop (i + 1) records
   cut = sym (take-append-drop i records)

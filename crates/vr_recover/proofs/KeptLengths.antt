@@ -11,6 +11,8 @@ use Rattle.std.proofs.lemmas.List.Elements.{All-cons, All-head, All-nil, All-wea
 use Rattle.vr_types.specs.Content.{place_cmp, record_of}
 use Rattle.vr_types.proofs.CallerLemmas.{same_place}
 use Rattle.vr_space.specs.Part.{Shape, part_no}
+use Rattle.vr_space.specs.Whence.{first_allowed, places_kept}
+use Rattle.vr_space.specs.declared.whence.Whence.TheVariants.{Start}
 use Rattle.vr_space.specs.Room.{Lengths, length_at, length_by, with_length, with_lengths}
 use Rattle.vr_space.proofs.CallerLemmas.{Rise, rise-with, same_is_equal}
 use Rattle.vr_space.proofs.Fewer.{AllPast}
@@ -108,3 +110,13 @@ all-kept shape kept part images alone same is =
     (λ image some mine. subst (λ (lengths : Lengths). IsKeptAt lengths image.place
     (option_and_then record_of image.old)) (sym is)
     (image-kept part images alone image some (mine ∙ same))) images (each-some images)
+
+-- ---- of no place
+
+-- where a search from the start finds no place, nothing is kept
+pub none-kept : (kept : Lengths) → first_allowed Start (places_kept kept) ≡ None → kept ≡ []
+none-kept [] none = refl
+none-kept (entry ∷ kept) none = absurd (some-none none)
+  where
+    some-none : {X : Type 0} {x : X} → Some x ≡ None → ⊥
+    some-none same = cc

@@ -27,3 +27,4 @@ pub mod OpenLemmas
 pub mod Outliving
 pub mod Addressed
 pub mod Logs
+pub mod Differing

@@ -10,6 +10,7 @@ use Rattle.std.proofs.lemmas.Bool.Decides.{Decides-eqb, eqb_tells}
 use Rattle.std.proofs.lemmas.List.{get_or-take, length-take}
 use Rattle.std.proofs.lemmas.Option.{get_or_from_slice_get, slice_get-get_or, slice_get-map}
 use Rattle.std.proofs.lemmas.Option.{slice_get_within}
+use Rattle.vr_types.specs.Blocks.{AllForced}
 use Rattle.vr_types.specs.Content.{Content, item_at}
 use Rattle.vr_types.specs.Image.{Block}
 use Rattle.vr_types.specs.Seen.{Left, Seen}
@@ -17,7 +18,7 @@ use Rattle.vr_types.specs.declared.geometry.Geometry.{Geometry}
 use Rattle.vr_types.specs.declared.unit.PartNo.{PartNo}
 use Rattle.vr_space.specs.Known.{Known}
 use Rattle.vr_space.specs.Owners.{Owners}
-use Rattle.vr_space.specs.Part.{IsSound, MayHold, Shape, held_by, item_of, part_no}
+use Rattle.vr_space.specs.Part.{IsSound, Shape, held_by, item_of, part_no}
 use Rattle.vr_space.specs.Room.{Lengths}
 use Rattle.vr_space.proofs.CallerLemmas.{IsPartBlock, StaysPart, held-same, holds-less}
 use Rattle.vr_space.proofs.CallerLemmas.{knows-stays, owns-none, rest-sound, rest-stays}
@@ -31,9 +32,11 @@ use Rattle.vr_volume.specs.PutBack.{images_of, is_image_of, lengths_kept, oldest
 use Rattle.vr_recover.specs.Recovered.{item_back}
 use Rattle.vr_volume.specs.Safe.{IsSafe, IsSafeBy}
 use Rattle.vr_volume.proofs.Alone.{is-there}
-use Rattle.vr_recover.specs.Undone.{AreOpened, HasAll, HasAllRecords, HasContent, HasPart}
-use Rattle.vr_recover.specs.Undone.{IsAllFirm, IsCovered, IsKeptOf, IsReady, IsSettledPart, alike}
+use Rattle.vr_recover.specs.Undone.{AreOpened, AreSettled, HasAll, HasAllRecords, HasPart}
+use Rattle.vr_recover.specs.Undone.{IsAllFirm, IsCovered, IsKeptOf, IsReady, IsSettledPart}
+use Rattle.vr_recover.specs.Undone.{ReadsAll, ReadsContent, alike}
 use Rattle.vr_recover.proofs.PuttingBack.{found-passes}
+use Rattle.vr_recover.proofs.Settled.{item-here}
 
 -- ---- another part
 
@@ -72,10 +75,11 @@ module _ (shape : Shape) (owners : Owners) (a b : Seen) (stays : StaysPart shape
           (sym (same-stays a b shape owners stays sound left place));
     }
 
-    pub content-stays : (content : Content) → HasContent shape content a
-        → HasContent shape content b
-    content-stays content has place found held =
-        has place found (holds-less shape owners a b.may sound fewer place found held)
+    -- and one that reads as a content does so still
+    pub reads-stay : Left a a.cur → (content : Content) → ReadsContent shape content a.cur
+        → ReadsContent shape content b.cur
+    reads-stay left content reads place =
+        same-stays a b shape owners stays sound left place ∙ reads place
 
 -- ---- what a part holds
 
@@ -243,32 +247,57 @@ no-image shapes images part covered none place = by_image (oldest images part pl
         found-passes (IsCovered shapes) (is_image_of part place) images image covered is in
         absurd (none (subst (HasPart shapes) (is-there part place image has.0).0 has.1))
 
--- Once each of these parts has its content, and each other is as a crash left it, all that are laid
--- have theirs: one that isn't among them has no before-image.
+-- Once each of these parts reads as its content, and each other is as a crash left it, all that are
+-- laid read as theirs: one that isn't among them has no before-image.
 pub all-parts : (geometry : Geometry) (owners : Owners) (log : LogNow) (contents : ℕ → Content)
     (shapes : List Shape) (a : Seen) → AreOpened geometry log contents shapes
     → All (IsCovered shapes) (images_of log.records)
-    → All (λ (shape : Shape). HasContent shape (contents (part_no shape).0) a) shapes
+    → All (λ (shape : Shape). ReadsContent shape (contents (part_no shape).0) a.cur) shapes
     → ((part : ℕ) (shape : Shape) → shape_by geometry (contents 0) part ≡ Some shape
     → (HasPart shapes part → ⊥)
     → IsSettledPart shape owners part (images_of log.records) (contents part) a)
-    → HasAll geometry contents a
-all-parts geometry owners log contents shapes a opened covered all others part shape laid place
-    found held = ⊎_elim
+    → ReadsAll geometry contents a.cur
+all-parts geometry owners log contents shapes a opened covered all others part shape laid place =
+    ⊎_elim
     (λ has. let other : Shape = has.1 in
     let there : shape_by geometry (contents 0) (part_no other).0 ≡ Some other =
     all-at (λ (s : Shape). shape_by geometry (contents 0) (part_no s).0 ≡ Some s) shapes
     has.0 other has.2 opened.laid in
     let one : shape ≡ other = shape-is shape other
     (sym laid ∙ ap (shape_by geometry (contents 0)) has.3 ∙ there) in
-    let content : HasContent other (contents (part_no other).0) a =
-    all-at (λ (s : Shape). HasContent s (contents (part_no s).0) a) shapes has.0 other has.2 all in
-    content place found (subst (λ (s : Shape). MayHold s a.may place found) one held)
+    let reads : ReadsContent other (contents (part_no other).0) a.cur =
+    all-at (λ (s : Shape). ReadsContent s (contents (part_no s).0) a.cur) shapes has.0 other has.2
+    all in
+    ap (λ (s : Shape). item_of s a.cur place) one ∙ reads place
     ∙ sym (ap (λ (p : ℕ). item_at (contents p) place) has.3))
     (λ none. let images = images_of log.records in
     let settled = others part shape laid none in
-    settled.firm place found held
-    ∙ sym (settled.back place
+    sym (settled.back place
     ∙ ap (λ (o : Option BeforeImage). item_back shape o (item_of shape a.cur place))
     (no-image shapes images part covered none place)))
     (part-or-not shapes part)
+
+-- ---- once that is forced
+
+-- where a crash leaves what is read alone, whatever it leaves of a safe volume has the items that
+-- its parts read
+pub forced-all : (geometry : Geometry) (member : ℕ) (owners : Owners) (log : LogNow)
+    (contents : ℕ → Content) (a : Seen) → IsSafe geometry member owners log (alike contents) a
+    → Left a a.cur → HasAllRecords log → AllForced a.count a.cur a.may
+    → ReadsAll geometry contents a.cur → HasAll geometry contents a
+forced-all geometry member owners log contents a safe left records forced reads part shape laid
+    place found held =
+    let by = all-safe geometry member owners log contents a safe left records in
+    item-here shape owners a forced (by.parts part shape laid).sound place found held
+    ∙ reads part shape laid place
+
+-- where no before-image is to be put back, whatever a crash leaves has the items of the contents
+pub settled-all : (geometry : Geometry) (owners : Owners) (images : List BeforeImage)
+    (contents : ℕ → Content) (a : Seen) → images ≡ []
+    → AreSettled geometry owners images contents a → HasAll geometry contents a
+settled-all geometry owners images contents a none settled part shape laid place found held =
+    let here = settled part shape laid in
+    here.firm place found held
+    ∙ sym (here.back place
+    ∙ ap (λ (is : List BeforeImage). item_back shape (oldest is part place)
+    (item_of shape a.cur place)) none)

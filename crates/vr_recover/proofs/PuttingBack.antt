@@ -1,5 +1,5 @@
 -- What putting before-images back into a part leaves.
-use Rattle.std.proofs.Common.{◌≡◌, ◌≢◌, ℕ, Bool, true, false, cond, IsTrue, List, [], ◌∷◌, ◌++◌}
+use Rattle.std.proofs.Common.{◌≡◌, ◌≢◌, ℕ, Bool, true, false, cond, List, [], ◌∷◌, ◌++◌}
 use Rattle.std.proofs.Common.{Option, Some, None, refl, sym, ap, subst, ◌∙◌, ◌<◌, ◌+◌, get_or, length}
 use Rattle.std.proofs.Common.{take}
 use Rattle.std.specs.Prelude.{All, IfSome, bytes_eq, find}
@@ -10,7 +10,6 @@ use Rattle.std.proofs.lemmas.List.Elements.{All-append, All-cons, All-head, All-
 use Rattle.std.proofs.lemmas.List.{take_more}
 use Rattle.std.proofs.lemmas.List.Elements.{All-weaker, filter_map-append}
 use Rattle.std.proofs.lemmas.Slice.Eq.{bytes_eq-Decides}
-use Rattle.vr_types.specs.Blocks.{Forced, Keeps}
 use Rattle.vr_types.specs.Content.{Content, Item, Standing, item_at, record_of}
 use Rattle.vr_types.specs.Image.{Image}
 use Rattle.vr_types.specs.Seen.{Seen}
@@ -24,9 +23,9 @@ use Rattle.vr_space.specs.Known.{Known}
 use Rattle.vr_space.specs.Numbered.{left_in}
 use Rattle.vr_space.specs.Room.{Lengths, Range}
 use Rattle.vr_space.specs.Split.{AreaSplit, MoveNow, keyed_stage, stage_by, stage_in}
-use Rattle.vr_space.specs.Part.{CanSet, DueMore, IsFirm, IsSound, KeyedShape, NumberedShape}
-use Rattle.vr_space.specs.Part.{SetsOne, Shape, item_of, left_by, part_no, stage_of}
-use Rattle.vr_space.proofs.CallerLemmas.{can-set-kept, firm-due, forced-firm, left-none}
+use Rattle.vr_space.specs.Part.{CanSet, KeyedShape, NumberedShape, SetsOne, Shape, item_of, left_by}
+use Rattle.vr_space.specs.Part.{part_no, stage_of}
+use Rattle.vr_space.proofs.CallerLemmas.{can-set-kept, left-none}
 use Rattle.vr_history.specs.State.{BeforeImage}
 use Rattle.vr_log.specs.Live.{is_in, live_in}
 use Rattle.vr_log.specs.LogNow.{LogNow}
@@ -38,18 +37,8 @@ use Rattle.vr_volume.proofs.Alone.{is-own, is-there}
 use Rattle.vr_volume.proofs.CallerLemmas.{goes-back}
 use Rattle.vr_volume.proofs.Images.{image_of}
 use Rattle.vr_recover.specs.Recovered.{item_back}
-use Rattle.vr_recover.specs.Undone.{ArePutBack, HasAllRecords, HasContent, IsBackIn, IsKeptAt}
-use Rattle.vr_recover.specs.Undone.{IsLeftIn, IsSettledPart, ReadsAs}
-
--- what was firm is firm once what was put is forced
-pub firm-forced : (shape : Shape) (owners : Owners) (put : List ℕ) (tells : Bool)
-    (told : IsTrue tells) (a b c : Seen) → DueMore shape put a b → Keeps tells b c
-    → Forced put b.cur c.may
-    → IsSound shape owners a → IsSound shape owners b → (place : List ℕ)
-    → IsFirm shape a place → IsFirm shape c place
-firm-forced shape owners put tells told a b c due call forced sound after place firm =
-    forced-firm tells told shape owners put place b c call forced after
-    (due put place (firm-due shape owners put place a sound firm) (λ n there. there))
+use Rattle.vr_recover.specs.Undone.{ArePutBack, HasAllRecords, IsBackIn, IsKeptAt, IsLeftIn}
+use Rattle.vr_recover.specs.Undone.{IsSettledPart, ReadsAs, ReadsContent}
 
 -- ---- room for one
 
@@ -151,15 +140,13 @@ module _ (shape : Shape) (content : Content) (image : BeforeImage) (old : Option
       ∙ ap (λ (item : Option Item). left_by shape item bytes) (sym (set.others place apart)))
       leaves
 
-  pub one-back : ((place : List ℕ) → IsFirm shape a place → IsFirm shape c place)
-      → ArePutBack shape content (image ∷ []) a c
-  one-back firm = record {
+  pub one-back : ArePutBack shape content (image ∷ []) a c
+  one-back = record {
     back = All-cons (IsBackIn shape content c.cur) image [] (λ here. at-place)
         (All-nil (IsBackIn shape content c.cur));
     stays = stays-read;
     left = λ other leaves here.
         stays-left other.place (option_and_then record_of other.old) (leaves here);
-    firm = firm;
   }
 
 -- ---- several
@@ -174,7 +161,6 @@ module _ (shape : Shape) (content : Content) where
         (IsBackIn shape content a.cur) (λ image apart here. absurd (apart here)) images others;
     stays = λ place reads. reads;
     left = λ image leaves. leaves;
-    firm = λ place firm. firm;
   }
 
   -- some, and then others
@@ -188,7 +174,6 @@ module _ (shape : Shape) (content : Content) where
         second.back;
     stays = λ place reads. second.stays place (first.stays place reads);
     left = λ image leaves. second.left image (first.left image leaves);
-    firm = λ place firm. second.firm place (first.firm place firm);
   }
 
 -- ---- record by record
@@ -346,14 +331,13 @@ found-passes P test (first ∷ images) image all is =
         (ap test (sym it) ∙ passes, subst P it (All-head P first images all))
     by_test false passes same further = further same
 
--- whatever a crash leaves of it is the content, of which the images are left
+-- it reads as the content, of which the images are left
 pub part-back : (shape : Shape) (owners : Owners) (part : ℕ) (content : Content)
     (images : List BeforeImage) (a b : Seen) → part ≡ (part_no shape).0
     → ArePutBack shape content images a b → IsSettledPart shape owners part images content a
-    → HasContent shape content b
-part-back shape owners part content images a b mine put settled place found held =
-    put.firm place (settled.firm place) found held
-    ∙ by_image (oldest images part place) refl
+    → ReadsContent shape content b.cur
+part-back shape owners part content images a b mine put settled place =
+    by_image (oldest images part place) refl
   where
     by_image : (image : Option BeforeImage) → oldest images part place ≡ image
         → item_of shape b.cur place ≡ item_at content place

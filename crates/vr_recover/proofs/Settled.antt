@@ -194,7 +194,7 @@ found-here now region there forced found (Reads n next) within is =
     ∙ ap (λ (b : Block). found_on now.cur (next b)) (forced n is.0 (there n within.0) is.1)
 
 -- so is the item at each place of a part that is sound
-item-here : (shape : Shape) (owners : Owners) (now : Seen)
+pub item-here : (shape : Shape) (owners : Owners) (now : Seen)
     → AllForced now.count now.cur now.may → IsSound shape owners now → (place : List ℕ)
     → (found : Option Item) → MayHold shape now.may place found
     → found ≡ item_of shape now.cur place

@@ -3,7 +3,7 @@
 use Rattle.std.specs.Prelude.{◌≡◌, ◌<◌, ◌≤◌, ◌^◌, ℕ, List, [], All, None, Option, Some, length}
 use Rattle.std.specs.Prelude.{◌⊎◌, ◌∷◌, nat_eq, map, slice_index_or, take, false, IfSome}
 use Rattle.std.specs.Borrow.{Bor}
-use Rattle.std.specs.List.{IsDistinct, filter_map}
+use Rattle.std.specs.List.{IsDistinct}
 use Rattle.vr_types.specs.Content.{Content}
 use Rattle.vr_types.specs.Geometry.{area_count, head_block}
 use Rattle.vr_types.specs.Image.{Image, block_at}
@@ -38,7 +38,7 @@ use Rattle.vr_part.specs.Any.{known_any, shape_any}
 use Rattle.vr_part.specs.Attached.{IsAttachedWith}
 use Rattle.vr_part.specs.declared.any.AnyPart.{AnyPart}
 use Rattle.vr_part.specs.declared.any.AnyPart.TheVariants.{Keyed}
-use Rattle.vr_volume.specs.PutBack.{AreAlone, images_of, lengths_kept, oldest, put_back}
+use Rattle.vr_volume.specs.PutBack.{AreAlone, images_of, lengths_kept, put_back}
 pub use Rattle.vr_recover.specs.Images.{CannotGoBack, HasRoomOf, IsNamed, MayGoBack, catalog_by}
 pub use Rattle.vr_recover.specs.Images.{name_in, named}
 use Rattle.vr_recover.specs.Opening.{AreOwnersBy, HasNoSplit, IsCatalogPartShown, IsCatalogShown}
@@ -318,9 +318,3 @@ held_any part = held_by (shape_any part) (known_any part)
 -- those of each of these parts
 abbrev pub areas_kept : List AnyPart → List (List ℕ)
 areas_kept parts = map held_any parts
-
--- a record of the log, where it is a before-image by f, is the only one of its place among it and
--- these
-abbrev pub IsAloneIn : (LogRecord → Option BeforeImage) → LogRecord → List LogRecord → Type 0
-IsAloneIn f rec rest = IfSome (f rec)
-    (λ (image : BeforeImage). oldest (filter_map f rest) image.part image.place ≡ None)

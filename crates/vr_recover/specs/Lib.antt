@@ -6,3 +6,4 @@ pub mod Unserved
 pub mod Opening
 pub mod Found
 pub mod Addresses
+pub mod Keys

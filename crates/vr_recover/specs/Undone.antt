@@ -71,9 +71,8 @@ abbrev pub IsBackIn : Shape → Content → Image → BeforeImage → Type 0
 IsBackIn shape content now image =
     image.part ≡ (part_no shape).0 → ReadsAs shape content now image.place
 
--- Calls put these before-images back into the part, and force them: what a crash left alone at a
--- place it leaves alone, no place that had its item lost it, and what putting others back leaves is
--- what it was.
+-- Calls put these before-images back into the part: no place that had its item lost it, and what
+-- putting others back leaves is what it was.
 pub record ArePutBack (shape : Shape) (content : Content) (images : List BeforeImage)
     (old new : Seen) : Type 0 where
   pub back : All (IsBackIn shape content new.cur) images
@@ -81,7 +80,10 @@ pub record ArePutBack (shape : Shape) (content : Content) (images : List BeforeI
       → ReadsAs shape content new.cur place
   pub left : (image : BeforeImage) → IsLeftIn shape content old.cur image
       → IsLeftIn shape content new.cur image
-  pub firm : (place : List ℕ) → IsFirm shape old place → IsFirm shape new place
+
+-- each place of the part reads its item in the content
+abbrev pub ReadsContent : Shape → Content → Image → Type 0
+ReadsContent shape content now = (place : List ℕ) → ReadsAs shape content now place
 
 -- each image has all records of the log
 abbrev pub HasAllRecords : LogNow → Type 0
@@ -133,6 +135,11 @@ abbrev pub IsAllFirm : Shape → Seen → Type 0
 IsAllFirm shape now = (place : List ℕ) → IsFirm shape now place
 
 -- ---- the volume
+
+-- each place of the parts reads its item in these contents
+abbrev pub ReadsAll : Geometry → (ℕ → Content) → Image → Type 0
+ReadsAll geometry contents now = (part : ℕ) (shape : Shape)
+    → shape_by geometry (contents 0) part ≡ Some shape → ReadsContent shape (contents part) now
 
 -- Whatever a crash leaves of the parts, each place has the item of these contents.
 abbrev pub HasAll : Geometry → (ℕ → Content) → Seen → Type 0

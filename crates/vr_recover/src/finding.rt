@@ -119,7 +119,8 @@ fn images_to_undo<B: Blocks>(
     ensures cause { HasOpenCause (B.faults blocks.old) (B.faults blocks.new) result }
 {
     let records = begun.content.records();
-    if !may_go_back(parts, &begun.log, records) {
+    let may = may_go_back(alloc, parts, &begun.log, records)?;
+    if !may {
         return Err(cannot_go_back());
     }
     let undo = kept_of(alloc, &begun.log, records)?;

@@ -9,6 +9,7 @@
 //! committed, in every image of every moment.
 #![tactic(auto)]
 
+mod alone;
 mod backing_out;
 mod begun;
 mod catalog_back;

@@ -73,11 +73,14 @@ fn clear<B: Blocks>(
 /// Puts the before-images of live units back, ends these units, and begins the next generation of
 /// the log. The log is that of the content.
 fn undo<B: Blocks>(
+    alloc: Global,
     blocks: &mut B,
+    count: u32,
     begun: &mut Begun,
     parts: &mut Vec<AnyPart>,
     undo: &Undo,
 ) -> Result<(), OpenNo>
+    requires blocks { (B.seen blocks.old).count ≡ count }
     requires undoable { IsUndoable begun.old.log begun.old.content.records parts.old.items
         (images_in undo.now) (B.seen blocks.old) }
     requires stands { IsTrue B.tells → LogStands begun.old.log (B.seen blocks.old) }
@@ -116,7 +119,9 @@ fn undo<B: Blocks>(
     ensures cause { HasOpenCause (B.faults blocks.old) (B.faults blocks.new) result }
 {
     undo_units(
+        alloc,
         blocks,
+        count,
         parts.as_mut_slice(),
         undo,
         &mut begun.log,
@@ -179,5 +184,5 @@ pub(crate) fn restore<B: Blocks>(
     ensures cause { HasOpenCause (B.faults blocks.old) (B.faults blocks.new) result }
 {
     clear(alloc, blocks, geometry, &begun.content)?;
-    undo(blocks, begun, parts, &found.undo)
+    undo(alloc, blocks, geometry.blocks, begun, parts, &found.undo)
 }

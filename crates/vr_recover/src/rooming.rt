@@ -9,10 +9,11 @@ ghost use Rattle.vr_recover.specs.OpenNo.{HasOpenCause, IsSilentNo};
 
 use crate::open_no::OpenNo;
 use vr_part::AnyPart;
+use vr_space::{Kept, Whence};
 use vr_types::Blocks;
 use vr_undo::Undo;
 
-/// Whether a part has room for what is kept of it.
+/// Whether a part has room for what is kept of it. A part of which no record is kept isn't read.
 fn has_room<B: Blocks>(blocks: &mut B, part: &mut AnyPart, undo: &Undo) -> Result<bool, OpenNo>
     requires on { IsOn (shape_any part.old) (B.seen blocks.old) }
     requires places { AreItsPlaces (images_in undo.now) (shape_any part.old) }
@@ -26,6 +27,9 @@ fn has_room<B: Blocks>(blocks: &mut B, part: &mut AnyPart, undo: &Undo) -> Resul
     ensures keeps { Keeps B.tells (B.seen blocks.old) (B.seen blocks.new) }
     ensures cause { HasOpenCause (B.faults blocks.old) (B.faults blocks.new) result }
 {
+    let Some(_) = undo.next_kept(part.number(), Whence::Start) else {
+        return Ok(true);
+    };
     let has = part.has_rooms(blocks, undo)?;
     Ok(has)
 }

@@ -1,7 +1,7 @@
 //! Undoing what units of recovery changed that a crash left without an end.
-ghost use Rattle.std.specs.Prelude.{◌≡◌, ◌<◌, ◌+◌, ◌^◌, [], ℕ, IsTrue, OnOk, All, false, map};
+ghost use Rattle.std.specs.Prelude.{◌≡◌, ◌<◌, ◌+◌, ◌^◌, [], ℕ, IsTrue, IfErr, OnOk, All, false};
+ghost use Rattle.std.specs.Prelude.{map};
 ghost use Rattle.vr_types.specs.Content.{Content};
-ghost use Rattle.vr_types.specs.Faults.{HasCause};
 ghost use Rattle.vr_types.specs.Moments.{Guards};
 ghost use Rattle.vr_space.specs.Owners.{Owners};
 ghost use Rattle.vr_part.specs.Any.{known_any, shape_any};
@@ -12,6 +12,7 @@ ghost use Rattle.vr_log.specs.Standing.{LogStands};
 ghost use Rattle.vr_volume.specs.PutBack.{AreAlone, images_of};
 ghost use Rattle.vr_recover.specs.Recovered.{KeepsAll};
 ghost use Rattle.vr_recover.specs.Found.{areas_kept};
+ghost use Rattle.vr_recover.specs.OpenNo.{HasOpenCause, IsSilentNo};
 ghost use Rattle.vr_recover.specs.Opening.{HasNoSplit};
 ghost use Rattle.vr_recover.specs.Undone.{
   FitsPart,
@@ -23,11 +24,13 @@ ghost use Rattle.vr_recover.specs.Undone.{
 };
 
 use crate::backing_out::end_all;
+use crate::open_no::OpenNo;
 use crate::undone_parts::put_back_all;
+use std::alloc::Global;
 use vr_log::{LogRecord, UndoLog};
 use vr_part::AnyPart;
 use vr_space::Kept;
-use vr_types::{Blocks, DeviceFault};
+use vr_types::Blocks;
 
 /// Puts the before-images that the log has of live units back into the parts, forces that, ends
 /// each unit as backed out, and begins the next generation of the log. `records` are those of the
@@ -35,12 +38,15 @@ use vr_types::{Blocks, DeviceFault};
 /// what was committed, and what was withdrawn stays so; once it is done the volume is safe, with a
 /// log of no records, and whatever a crash leaves of its parts has their items.
 pub(crate) fn undo_units<B: Blocks, K: Kept>(
+    alloc: Global,
     blocks: &mut B,
+    count: u32,
     parts: &mut [AnyPart],
     kept: &K,
     log: &mut UndoLog,
     records: &[LogRecord],
-) -> Result<(), DeviceFault>
+) -> Result<(), OpenNo>
+    requires blocks { (B.seen blocks.old).count ≡ count }
     requires on { All (λ shape. IsOn shape (B.seen blocks.old)) (map shape_any parts.old) }
     requires apart { HaveOwnNumbers (map shape_any parts.old) }
     requires split { All HasNoSplit parts.old }
@@ -83,9 +89,10 @@ pub(crate) fn undo_units<B: Blocks, K: Kept>(
     ensures shape { OnOk result (IsOf log.new.geometry (B.seen blocks.new)) }
     ensures stands { IsTrue B.tells → log.old.generation + 1 < 2 ^ 64
         → OnOk result (LogStands log.new (B.seen blocks.new)) }
-    ensures cause { HasCause (B.faults blocks.old) (B.faults blocks.new) result }
+    ensures silent { IfErr result IsSilentNo }
+    ensures cause { HasOpenCause (B.faults blocks.old) (B.faults blocks.new) result }
 {
-    put_back_all(blocks, parts, kept, log, records)?;
+    put_back_all(alloc, blocks, count, parts, kept, log, records)?;
     end_all(blocks, log, records)?;
     Ok(())
 }

@@ -7,23 +7,8 @@ ghost use Rattle.vr_types.specs.Moments.{Guards};
 ghost use Rattle.vr_types.specs.Regions.{Touches};
 ghost use Rattle.vr_types.specs.declared.geometry.Geometry.{Geometry};
 ghost use Rattle.vr_space.specs.Owners.{Owners};
-ghost use Rattle.vr_space.specs.Part.{
-  CanSet,
-  InPart,
-  IsAtRest,
-  IsFirm,
-  IsGiven,
-  IsOn,
-  IsPlaceOf,
-  IsQuiet,
-  HasKeptRoom,
-  Knows,
-  SetsOne,
-  given,
-  part_no,
-};
+ghost use Rattle.vr_space.specs.Part.{InPart, IsOn, part_no};
 ghost use Rattle.vr_log.specs.Live.{live_in};
-ghost use Rattle.vr_log.specs.LogNow.{LogNow};
 ghost use Rattle.vr_log.specs.declared.record.LogRecord.{LogRecord as Rec};
 ghost use Rattle.vr_volume.specs.Laying.{IsFreeIn, IsLaidSo};
 ghost use Rattle.vr_volume.specs.PutBack.{AreAlone, image_in, images_of, lengths_kept};
@@ -42,69 +27,11 @@ ghost use Rattle.vr_recover.specs.Undone.{
 use crate::fitting::bytes_of;
 use vr_log::{LogRecord, UndoLog};
 use vr_space::{Kept, Part};
-use vr_types::{Blocks, DeviceFault, PartNo, Place};
-use vr_volume::{force_blocks, set_free};
+use vr_types::{Blocks, DeviceFault, PartNo};
+use vr_volume::set_free;
 
-/// Makes these bytes the record at a place, or takes the record there away, and forces the blocks
-/// that were put. At each moment of it, whether it fails or not, each image is a safe one.
-fn set_forced<B: Blocks, P: Part, K: Kept>(
-    blocks: &mut B,
-    part: &mut P,
-    kept: &K,
-    place: &Place,
-    bytes: Option<&[u8]>,
-) -> Result<(), DeviceFault>
-    requires on { IsOn (P.shape part.old) (B.seen blocks.old) }
-    requires place { IsPlaceOf (P.shape part.old) place.now }
-    requires record { IsGiven (P.shape part.old) place.now bytes }
-    requires rests { IsTrue B.tells → IsQuiet (P.shape part.old) (B.seen blocks.old) }
-    requires room { IsTrue B.tells → HasKeptRoom (P.shape part.old)
-        (K.kept kept.now (part_no (P.shape part.old))) (B.seen blocks.old) }
-    requires knows { IsTrue B.tells → Knows (P.shape part.old) (P.known part.old)
-        (B.seen blocks.old) }
-    requires can { IsTrue B.tells → CanSet (P.shape part.old) (P.known part.old)
-        (B.seen blocks.old).cur (K.kept kept.now (part_no (P.shape part.old))) place.now
-        (given bytes) }
-    ensures safe { IsTrue B.tells → (geometry : Geometry) (number : ℕ) (owners : Owners)
-        (log : LogNow) (committed : List Rec → ℕ → Content)
-        → IsSafe geometry number owners log committed (B.seen blocks.old)
-        → IsLaidSo geometry log committed (part_no (P.shape part.old)).0 (P.shape part.old)
-        (K.kept kept.now (part_no (P.shape part.old)))
-        → IsFreeIn log (part_no (P.shape part.old)).0 place.now
-        → Guards (B.seen blocks.old) (B.seen blocks.new)
-        (IsSafeImage geometry number owners log committed)
-        × IsSafe geometry number owners log committed (B.seen blocks.new) }
-    ensures set { IsTrue B.tells → OnOk result (SetsOne (P.shape part.old) place.now
-        (given bytes.entry) (B.seen blocks.old).cur (B.seen blocks.new).cur) }
-    ensures firm { IsTrue B.tells → OnOk result ((at : List ℕ)
-        → IsFirm (P.shape part.old) (B.seen blocks.old) at
-        → IsFirm (P.shape part.old) (B.seen blocks.new) at) }
-    ensures rests { IsTrue B.tells → (owners : Owners)
-        → IsAtRest (P.shape part.old) owners (B.seen blocks.old)
-        → OnOk result (IsAtRest (P.shape part.old) owners (B.seen blocks.new)) }
-    ensures room { IsTrue B.tells → HasKeptRoom (P.shape part.old)
-        (K.kept kept.now (part_no (P.shape part.old))) (B.seen blocks.new) }
-    ensures knows { IsTrue B.tells → OnOk result (Knows (P.shape part.old) (P.known part.new)
-        (B.seen blocks.new)) }
-    ensures touches { IsTrue B.tells → (owners : Owners)
-        → IsAtRest (P.shape part.old) owners (B.seen blocks.old)
-        → Touches (InPart (P.shape part.old) owners) Anything
-        (B.seen blocks.old) (B.seen blocks.new) }
-    ensures count { (B.seen blocks.new).count ≡ (B.seen blocks.old).count }
-    ensures size { (B.seen blocks.new).size ≡ (B.seen blocks.old).size }
-    ensures cause { HasCause (B.faults blocks.old) (B.faults blocks.new) result }
-    ensures shape { P.shape part.new ≡ P.shape part.old }
-    ensures split { (P.known part.new).split ≡ (P.known part.old).split }
-    ensures moves { (P.known part.new).move ≡ (P.known part.old).move }
-    ensures areas { (P.known part.new).areas ≡ (P.known part.old).areas }
-{
-    set_free(blocks, part, kept, place, bytes)?;
-    force_blocks(blocks, part.put_blocks())?;
-    Ok(())
-}
-
-/// Puts a record of the log back, where it is a before-image of this part, of a unit that is live,
-/// and forces it. At each moment of it, whether it fails or not, each image is a safe one.
+/// Puts a record of the log back, where it is a before-image of this part, of a unit that is live.
+/// Nothing is forced. At each moment of it, whether it fails or not, each image is a safe one.
 fn put_record<B: Blocks, P: Part, K: Kept>(
     blocks: &mut B,
     part: &mut P,
@@ -166,16 +93,16 @@ fn put_record<B: Blocks, P: Part, K: Kept>(
     } = rec
     {
         if *owner == number && log.is_live(*unit) {
-            set_forced(blocks, part, kept, place, bytes_of(old))?;
+            set_free(blocks, part, kept, place, bytes_of(old))?;
         }
     }
     Ok(())
 }
 
 /// Puts the before-images of a part that the log has of live units back, one after another, and
-/// forces each. `records` are those of the log. At each moment of it, whether it fails or not, each
-/// image is a safe one; once it is done each of these places reads its item in the content that has
-/// there what putting them back leaves.
+/// forces nothing. `records` are those of the log. At each moment of it, whether it fails or not,
+/// each image is a safe one; once it is done each of these places reads its item in the content
+/// that has there what putting them back leaves.
 pub(crate) fn put_back<B: Blocks, P: Part, K: Kept>(
     blocks: &mut B,
     part: &mut P,

@@ -1,4 +1,4 @@
-use Rattle.std.proofs.Common.{List, map, refl, sym, ap, subst, ◌∙◌}
+use Rattle.std.proofs.Common.{List, map, sym, ap, subst, ◌∙◌}
 use Rattle.std.specs.Prelude.{All}
 use Rattle.vr_types.proofs.CallerLemmas.{keeps-none}
 use Rattle.vr_history.specs.State.{BeforeImage}
@@ -13,8 +13,13 @@ use Rattle.vr_recover.proofs.Keeping.{all-more}
 use Rattle.vr_recover.proofs.Refusals.{kept-places}
 use Rattle.vr_recover.proofs.finding.images_to_undo.Goals as goal
 
-pub returns-then-not-may_go_back-clause-keeps : goal.returns-then-not-may_go_back-clause-keeps
-returns-then-not-may_go_back-clause-keeps g c =
+pub returns-then-not-may-clause-keeps : goal.returns-then-not-may-clause-keeps
+returns-then-not-may-clause-keeps g c =
+    keeps-none g.B.Blocks.tells (g.B.Blocks.seen c.args.blocks.now)
+    (λ told image now. g.met.B.Blocks.images_may c.args.blocks.now image told now)
+
+pub returns-in_err-may-clause-keeps : goal.returns-in_err-may-clause-keeps
+returns-in_err-may-clause-keeps g c =
     keeps-none g.B.Blocks.tells (g.B.Blocks.seen c.args.blocks.now)
     (λ told image now. g.met.B.Blocks.images_may c.args.blocks.now image told now)
 
@@ -27,7 +32,7 @@ pub has_rooms-requires-clause-places : goal.has_rooms-requires-clause-places
 has_rooms-requires-clause-places g c =
     let images = images_of c.args.begun.now.log.records in
     let shapes = map shape_any c.args.parts.now in
-    let back : MayGoBack images shapes = c.if-not-may_go_back.ensures.0 refl in
+    let back : MayGoBack images shapes = c.in_ok-may.ensures.0 c.if-not-may.false in
     subst (λ (is : List BeforeImage). All (AreItsPlaces is) shapes)
     (sym (ap images_in c.deref.ensures ∙ c.in_ok-undo.ensures.kept))
     (all-more (λ (shape : Shape). All (FitsPart shape) images) (AreItsPlaces images)
@@ -36,4 +41,4 @@ has_rooms-requires-clause-places g c =
 pub returns-clause-back : goal.returns-clause-back
 returns-clause-back g c =
     subst (λ (rs : List LogRecord). MayGoBack (images_of rs) (map shape_any c.args.parts.now))
-    (sym c.requires.records) (c.if-not-may_go_back.ensures.0 refl)
+    (sym c.requires.records) (c.in_ok-may.ensures.0 c.if-not-may.false)

@@ -13,9 +13,9 @@ use Rattle.vr_volume.specs.PutBack.{images_of}
 use Rattle.vr_volume.specs.Safe.{IsSafe, IsSafeImage}
 use Rattle.vr_recover.specs.Found.{areas_kept}
 use Rattle.vr_recover.specs.Opening.{HasNoSplit}
-use Rattle.vr_recover.specs.Undone.{AreOpened, AreSettled, HasContent, HasPart, IsReady}
-use Rattle.vr_recover.specs.Undone.{IsSettledPart, alike}
-use Rattle.vr_recover.proofs.undone_parts.put_back_all.Given as goal
+use Rattle.vr_recover.specs.Undone.{AreOpened, AreSettled, HasPart, IsReady, IsSettledPart}
+use Rattle.vr_recover.specs.Undone.{ReadsContent, alike}
+use Rattle.vr_recover.proofs.undone_parts.put_parts.Given as goal
 
 abbrev pub invariant-loop-part : goal.invariant-loop-part
 invariant-loop-part g l = record {
@@ -43,12 +43,12 @@ invariant-loop-part g l = record {
   stands : IsTrue g.B.Blocks.tells → IsForced l.log
       → LogStands l.log (g.B.Blocks.seen l.fn.blocks)
       → LogStands l.log (g.B.Blocks.seen l.blocks);
-  all : IsTrue g.B.Blocks.tells → (geometry : Geometry) (owners : Owners)
+  reads : IsTrue g.B.Blocks.tells → (geometry : Geometry) (owners : Owners)
       (contents : ℕ → Content) → AreOpened geometry l.log contents (map shape_any l.fn.parts)
       → AreSettled geometry owners (images_of l.log.records) contents
       (g.B.Blocks.seen l.fn.blocks)
-      → All (λ (shape : Shape). HasContent shape (contents (part_no shape).0)
-      (g.B.Blocks.seen l.blocks)) (take l.part-index (map shape_any l.fn.parts))
+      → All (λ (shape : Shape). ReadsContent shape (contents (part_no shape).0)
+      (g.B.Blocks.seen l.blocks).cur) (take l.part-index (map shape_any l.fn.parts))
       × ((part : ℕ) (shape : Shape) → shape_by geometry (contents 0) part ≡ Some shape
       → (HasPart (take l.part-index (map shape_any l.fn.parts)) part → ⊥)
       → IsSettledPart shape owners part (images_of l.log.records) (contents part)
