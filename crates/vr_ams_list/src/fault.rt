@@ -11,9 +11,9 @@ const STOPPED_CODE: u8 = 12;
 
 /// Why a command is refused: the number of the fault, and the code of the command.
 #[derive(Clone, Copy)]
-pub(crate) struct Failure {
-    pub(crate) fault: u16,
-    pub(crate) code: u8,
+pub struct Failure {
+    pub fault: u16,
+    pub code: u8,
 }
 
 fn not_found() -> Failure
@@ -42,8 +42,8 @@ fn has_name<V: ShownVolume>(volume: &V, name: &Name) -> bool
     volume.catalog().find(name).is_some()
 }
 
-/// Whether some volume has it.
-fn is_known<V: ShownVolume>(volumes: &[V], name: &Name) -> bool
+/// Whether the catalog of some volume has the name.
+pub fn is_known<V: ShownVolume>(volumes: &[V], name: &Name) -> bool
     ensures { result ≡ stated.is_known (map V.shown volumes.now) name.now }
 {
     for volume in volumes {

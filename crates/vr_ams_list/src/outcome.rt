@@ -13,14 +13,14 @@ use vr_types::{Bytes, OutOfMemory};
 /// What a command leaves: its detail lines, its condition code, and the number of its fault where
 /// it has one.
 #[derive(Drop)]
-pub(crate) struct Outcome {
-    pub(crate) lines: Bytes,
-    pub(crate) code: u8,
-    pub(crate) fault: Option<u16>,
+pub struct Outcome {
+    pub lines: Bytes,
+    pub code: u8,
+    pub fault: Option<u16>,
 }
 
-/// The outcome of a command that is refused.
-fn refused(alloc: Global, failure: Failure) -> Outcome
+/// The outcome of a command that is refused: it has no detail line.
+pub fn refused(alloc: Global, failure: Failure) -> Outcome
     ensures { result ≡ stated.refused failure }
 {
     Outcome {
@@ -78,8 +78,9 @@ fn write_line(
     out.push(NEW_LINE)
 }
 
-/// Writes the detail lines of a command, and its line.
-pub(crate) fn write_outcome(
+/// Writes the detail lines of a command, and its line: `LINE l NAME CODE c`, with ` FAULT f` where
+/// it was refused. Its first word is on line `line` of the job.
+pub fn write_outcome(
     alloc: Global,
     out: &mut Bytes,
     line: u32,

@@ -1,0 +1,4 @@
+mod Choosing
+mod Entering
+mod NewEntries
+mod OnVolume

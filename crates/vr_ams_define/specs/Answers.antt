@@ -1,0 +1,46 @@
+-- What a volume answers to a DEFINE of a cluster, and what it shows then. The rules are this
+-- project's own.
+use Rattle.std.specs.Prelude.{◌≡◌, ◌≢◌, ℕ, true}
+use Rattle.vr_types.specs.declared.fault.DeviceFault.TheVariants.{Read, Write}
+use Rattle.vr_catalog.specs.declared.entry.CatEntry.{CatEntry}
+use Rattle.vr_ams_list.specs.Listing.{entered}
+use Rattle.vr_ams_list.specs.Shown.{Shown}
+use Rattle.vr_ams_define.specs.declared.answer.Defined.{Defined}
+use Rattle.vr_ams_define.specs.declared.answer.Defined.TheVariants.{Done, Again, NoArea, NoRoom}
+use Rattle.vr_ams_define.specs.declared.answer.Defined.TheVariants.{Full, Fault}
+use Rattle.vr_ams_define.specs.NewCluster.{with_area}
+
+-- its catalog has one entry more, at its place by name
+abbrev pub with_entry : CatEntry → Shown → Shown
+with_entry entry volume = record volume { catalog = entered entry volume.catalog }
+
+-- The cluster is in the catalog with its first area, or nothing of it is. A write that failed stops
+-- the volume: whether its catalog has the entry is known once it is opened again.
+abbrev pub IsShownAfter : Defined → CatEntry → Shown → Shown → Type 0
+IsShownAfter (Done area) entry old new = new ≡ with_entry (with_area area entry) old
+IsShownAfter Again entry old new = new ≡ old
+IsShownAfter NoArea entry old new = new ≡ old
+IsShownAfter NoRoom entry old new = new ≡ old
+IsShownAfter Full entry old new = new ≡ old
+IsShownAfter (Fault Read) entry old new = new ≡ old
+IsShownAfter (Fault Write) entry old new = new.stopped ≡ true
+
+-- how a volume may answer to a DEFINE on a line for an entry, and be then
+abbrev pub Answering : Type 0 → Type 1
+Answering V = V → ℕ → CatEntry → Defined → V → Type 0
+
+-- It was asked, and did stages one after another.
+pub data HasStaged {V : Type 0} (answers : Answering V) (line : ℕ) (entry : CatEntry) (old : V)
+    : V → Type 0 where
+  Unstaged : HasStaged answers line entry old old
+  Staged : (before after : V) → HasStaged answers line entry old before
+      → answers before line entry Again after → HasStaged answers line entry old after
+
+-- It was asked again until it gave another answer, and shows what that leaves.
+pub record HasAnswered {V : Type 0} (shown : V → Shown) (answers : Answering V) (line : ℕ)
+    (entry : CatEntry) (old new : V) (answer : Defined) : Type 0 where
+  pub before : V
+  pub stages : HasStaged answers line entry old before
+  pub answered : answers before line entry answer new
+  pub last : answer ≢ Again
+  pub left : IsShownAfter answer entry (shown old) (shown new)

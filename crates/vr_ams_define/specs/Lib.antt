@@ -1,0 +1,7 @@
+pub mod NewCluster
+pub mod Answers
+pub mod Chosen
+pub mod Failures
+pub mod Outcomes
+pub mod Steps
+pub mod Runs

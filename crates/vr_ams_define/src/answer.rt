@@ -1,0 +1,20 @@
+//! What a volume answers to a DEFINE of a cluster.
+
+use vr_types::{AreaNo, DeviceFault};
+
+/// What one event of a DEFINE of a cluster came to.
+#[derive(Clone, Copy)]
+pub enum Defined {
+    /// The cluster is in the catalog, without records, from this area on.
+    Done { area: AreaNo },
+    /// A stage was done that has to come first: ask again.
+    Again,
+    /// No area is free for the cluster.
+    NoArea,
+    /// The catalog has no room for the record, and no area is free for it.
+    NoRoom,
+    /// The log has no room for the change.
+    Full,
+    /// The device failed. A write that fails stops the volume.
+    Fault(DeviceFault),
+}

@@ -1,0 +1,3 @@
+mod EachByte
+mod Numbered
+mod Worked
