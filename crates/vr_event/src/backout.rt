@@ -181,6 +181,7 @@ impl<B: Blocks, P: Part> Volume<B, P> {
         ensures leaves { self.new.file ≡ with_event after unit line
             (whats.Undone before.part before.place) self.old.file }
         ensures state { (opening : State) → IsStateOf opening self.old.file
+            → self.old.file.stopped ≡ None
             → IsLastKept (state_now opening self.old.file) unit before.part.0 before.place
             → IsStateOf opening self.new.file }
         ensures blocks { self.new.blocks ≡ self.old.blocks }

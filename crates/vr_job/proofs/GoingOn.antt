@@ -1,7 +1,7 @@
 -- What one event leaves of a volume, and what goes on from it.
 use Rattle.std.proofs.Common.{◌≡◌, ◌≢◌, inl, inr, ⊎_elim, ◌∙◌, ℕ, Bool, true, List, [], ◌∷◌, ◌++◌}
 use Rattle.std.proofs.Common.{Option, Some, None, refl, sym, ap, subst, ◌≤◌, ◌⊎◌, append_assoc, arith}
-use Rattle.std.proofs.Common.{length, max}
+use Rattle.std.proofs.Common.{◌==◌, false, length, max}
 use Rattle.std.specs.Prelude.{is_some}
 use Rattle.std.specs.List.{AllByRecursion}
 use Rattle.std.proofs.lemmas.List.{append-nil, append_cancel_left}
@@ -25,7 +25,7 @@ use Rattle.vr_history.specs.declared.entry.Entry.{Entry}
 use Rattle.vr_history.specs.declared.entry.What.{What}
 use Rattle.vr_history.specs.declared.entry.What.TheVariants.{Asked, Faulted}
 use Rattle.vr_record_file.specs.Now.{FileNow, asked_failing, entry_next, failed, has_deck, number_of}
-use Rattle.vr_record_file.specs.Now.{IsOfCluster, state_now}
+use Rattle.vr_record_file.specs.Now.{IsOfClusterByDeck, state_now}
 use Rattle.vr_record_file.specs.declared.numbers.DeckNumber.{DeckNumber}
 use Rattle.vr_event.specs.Acting.{IsActed, IsLeftIn}
 use Rattle.vr_event.specs.Made.{HasMade, MadeBy}
@@ -237,7 +237,8 @@ module _ {B : Type 0} (seen : B → Seen) (faults : B → Faults) (old new : Vol
         commit.1) is
 
     module _ (first : B) (run : HasRun seen faults opening first old)
-        (number : new.number ≡ old.number) (whole : IsWhole seen old)
+        (number : new.number ≡ old.number) (own : (unit.deck == 0) ≡ false)
+        (whole : IsWhole seen old)
         (moments : old.file.stopped ≡ None → Guards (seen old.blocks) (seen new.blocks)
         (IsLeftIn old.store.log.geometry old.number (state_now opening old.file) after unit line
         request old.file new.file))
@@ -393,13 +394,13 @@ module _ {B : Type 0} (seen : B → Seen) (faults : B → Faults) (old new : Vol
           → KeepTheCatalog old.file.geometry opening new.file.entries
       keeps-on held = subst (KeepTheCatalog old.file.geometry opening) (sym made-in.entries)
           (event-keeps old.file.geometry opening old.file.entries act unit line request made-in.made
-          made-in.by run.held.file.now.of_clusters
+          made-in.by own run.held.file.now.deck_clusters
           (subst (λ (es : List Entry).
-          AllByRecursion IsOfCluster (state_of old.file.geometry opening es).befores)
+          AllByRecursion IsOfClusterByDeck (state_of old.file.geometry opening es).befores)
           made-in.entries
           (subst (λ (g : Geometry).
-          AllByRecursion IsOfCluster (state_of g opening new.file.entries).befores)
-          made-in.geometry held.file.now.of_clusters)) run.keeps_catalog)
+          AllByRecursion IsOfClusterByDeck (state_of g opening new.file.entries).befores)
+          made-in.geometry held.file.now.deck_clusters)) run.keeps_catalog)
 
       -- and where it does: what a crash leaves at each moment, event by event
       pub event-run : IsWhole seen new → IsHeld seen opening new

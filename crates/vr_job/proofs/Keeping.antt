@@ -1,7 +1,8 @@
--- That no event changes the catalog: the before-images that it leaves are of clusters alone.
+-- That no event of a deck changes the catalog: the before-images that units of decks keep are of
+-- clusters alone.
 use Rattle.std.proofs.Common.{◌≡◌, ◌∙◌, ◌==◌, ◌&&◌, ◌||◌, ⊎_elim, ℕ, Bool, true, false, cond, List}
-use Rattle.std.proofs.Common.{[]}
-use Rattle.std.proofs.Common.{◌∷◌, ◌++◌, Option, Some, None, ap, bytes_eq, refl, subst, sym}
+use Rattle.std.proofs.Common.{[], ◌∷◌, ◌++◌, Option, Some, None, ap, bytes_eq, filter, refl, subst}
+use Rattle.std.proofs.Common.{sym}
 use Rattle.std.specs.Prelude.{option_map, option_to_list}
 use Rattle.std.specs.List.{AllByRecursion, list_any}
 use Rattle.std.proofs.lemmas.Bool.{false≢true}
@@ -21,26 +22,31 @@ use Rattle.vr_history.specs.Step.{after_what, case_of, change_back, place_change
 use Rattle.vr_history.specs.declared.entry.Entry.{Entry}
 use Rattle.vr_history.specs.declared.entry.What.{What}
 use Rattle.vr_history.specs.declared.entry.What.TheVariants.{Asked, Undone, Claimed, Split, Faulted}
-use Rattle.vr_history.proofs.Same.{first_holds, nat_same, second_holds}
-use Rattle.vr_record_file.specs.Now.{IsOfCluster}
+use Rattle.vr_history.proofs.Same.{first_holds, nat_same, second_holds, unit_same}
+use Rattle.vr_record_file.specs.Now.{IsOfCluster, IsOfClusterByDeck}
 use Rattle.vr_event.specs.Made.{MadeBy}
 use Rattle.vr_event.specs.declared.act.Act.{Act}
 use Rattle.vr_event.specs.declared.act.Act.TheVariants.{Again, Done}
 use Rattle.vr_job.specs.Committed.{IsOffCatalog, KeepTheCatalog}
-use Rattle.vr_job.proofs.Committed.{all-left}
 use Rattle.vr_job.proofs.Effects.{IsMade, MadeOr, make-or}
 use Rattle.vr_job.proofs.Effects.MadeOr.{NoChange, OneChange}
 
+-- a before-image that a deck's unit keeps is of a cluster
+own-off : (unit : UnitOfRecovery) → (unit.deck == 0) ≡ false → (image : BeforeImage)
+    → IsOfClusterByDeck image → same_unit unit image.unit ≡ true → IsOfCluster image
+own-off unit own image is same = is
+    (subst (λ (u : UnitOfRecovery). (u.deck == 0) ≡ false) (unit_same unit image.unit same) own)
+
 -- an image of a place is of the place's part
-image-off : (unit : UnitOfRecovery) (part : ℕ) (place : List ℕ) (befores : List BeforeImage)
-    → AllByRecursion IsOfCluster befores
+image-off : (unit : UnitOfRecovery) → (unit.deck == 0) ≡ false → (part : ℕ) (place : List ℕ)
+    (befores : List BeforeImage) → AllByRecursion IsOfClusterByDeck befores
     → list_any (λ (kept : BeforeImage). same_unit unit kept.unit
     && (kept.part == part && bytes_eq place kept.place)) befores ≡ true
     → (part == 0) ≡ false
-image-off unit part place [] are kept = absurd (false≢true kept)
-image-off unit part place (image ∷ befores) are kept =
+image-off unit own part place [] are kept = absurd (false≢true kept)
+image-off unit own part place (image ∷ befores) are kept =
     by_test (same_unit unit image.unit && (image.part == part && bytes_eq place image.place)) refl
-    kept (image-off unit part place befores are.1)
+    kept (image-off unit own part place befores are.1)
   where
     by_test : (b : Bool)
         → (same_unit unit image.unit && (image.part == part && bytes_eq place image.place)) ≡ b
@@ -52,28 +58,30 @@ image-off unit part place (image ∷ befores) are kept =
         → (part == 0) ≡ false
     by_test true is any further = subst (λ (p : ℕ). (p == 0) ≡ false)
         (nat_same image.part part (first_holds (image.part == part) (bytes_eq place image.place)
-        (second_holds (same_unit unit image.unit) _ is))) are.0
+        (second_holds (same_unit unit image.unit) _ is)))
+        (own-off unit own image are.0 (first_holds (same_unit unit image.unit) _ is))
     by_test false is any further = further any
 
 last-pushed : (befores : List BeforeImage) (image : BeforeImage)
-    → AllByRecursion IsOfCluster (befores ++ image ∷ []) → IsOfCluster image
+    → AllByRecursion IsOfClusterByDeck (befores ++ image ∷ []) → IsOfClusterByDeck image
 last-pushed [] image are = are.0
 last-pushed (kept ∷ befores) image are = last-pushed befores image are.1
 
--- a change that is made leaves an image of its part
-made-off : (unit : UnitOfRecovery) (change : Change) (old new : State) → IsMade unit change old new
-    → AllByRecursion IsOfCluster old.befores → AllByRecursion IsOfCluster new.befores
-    → IsOffCatalog change
-made-off unit change old new made before after =
+-- a change that a deck's unit makes leaves an image of its part
+made-off : (unit : UnitOfRecovery) → (unit.deck == 0) ≡ false → (change : Change)
+    (old new : State) → IsMade unit change old new → AllByRecursion IsOfClusterByDeck old.befores
+    → AllByRecursion IsOfClusterByDeck new.befores → IsOffCatalog change
+made-off unit own change old new made before after =
     by_test (is_kept old unit change.part change.place) refl
-    (subst (AllByRecursion IsOfCluster) made.befores after)
+    (subst (AllByRecursion IsOfClusterByDeck) made.befores after)
   where
     by_test : (b : Bool) → is_kept old unit change.part change.place ≡ b
-        → AllByRecursion IsOfCluster (cond b old.befores (old.befores ++ made.image ∷ []))
+        → AllByRecursion IsOfClusterByDeck (cond b old.befores (old.befores ++ made.image ∷ []))
         → IsOffCatalog change
-    by_test true kept are = image-off unit change.part change.place old.befores before kept
+    by_test true kept are = image-off unit own change.part change.place old.befores before kept
     by_test false kept are = subst (λ (p : ℕ). (p == 0) ≡ false) made.image_part
-        (last-pushed old.befores made.image are)
+        (last-pushed old.befores made.image are
+        (subst (λ (u : UnitOfRecovery). (u.deck == 0) ≡ false) (sym made.image_unit) own))
 
 last-of : (befores : List BeforeImage) → AllByRecursion IsOfCluster befores
     → (kept : BeforeImage) → last_of befores ≡ Some kept → IsOfCluster kept
@@ -84,29 +92,42 @@ last-of (one ∷ []) are kept last = subst IsOfCluster (some-same one kept last)
     some-same one kept same = cc
 last-of (one ∷ next ∷ rest) are kept last = last-of (next ∷ rest) are.1 kept last
 
+-- those that a unit keeps
+abbrev kept-by : UnitOfRecovery → List BeforeImage → List BeforeImage
+kept-by unit befores = filter (λ (one : BeforeImage). same_unit unit one.unit) befores
+
+-- those of a deck's unit are of clusters
+own-left : (unit : UnitOfRecovery) → (unit.deck == 0) ≡ false → (befores : List BeforeImage)
+    → AllByRecursion IsOfClusterByDeck befores → AllByRecursion IsOfCluster (kept-by unit befores)
+own-left unit own [] are = tt
+own-left unit own (image ∷ befores) are =
+    by_test (same_unit unit image.unit) refl (own-left unit own befores are.1)
+  where
+    by_test : (b : Bool) → same_unit unit image.unit ≡ b
+        → AllByRecursion IsOfCluster (kept-by unit befores)
+        → AllByRecursion IsOfCluster (cond b (image ∷ kept-by unit befores) (kept-by unit befores))
+    by_test true same rest = (own-off unit own image are.0 same, rest)
+    by_test false same rest = rest
+
 module _ (geometry : Geometry) (state : State) (unit : UnitOfRecovery)
-    (before : AllByRecursion IsOfCluster state.befores) where
+    (own : (unit.deck == 0) ≡ false) (before : AllByRecursion IsOfClusterByDeck state.befores) where
   changed-off : (request : Request) (new : State) → MadeOr geometry state unit request new
-      → AllByRecursion IsOfCluster new.befores
+      → AllByRecursion IsOfClusterByDeck new.befores
       → AllByRecursion IsOffCatalog
       (option_to_list (change_of (case_of geometry state unit request)))
   changed-off request new (NoChange none stays) after = subst
       (λ (it : Option Change). AllByRecursion IsOffCatalog (option_to_list it)) (sym none) tt
   changed-off request new (OneChange change is made) after = subst
       (λ (it : Option Change). AllByRecursion IsOffCatalog (option_to_list it)) (sym is)
-      (made-off unit change state new made before after, tt)
+      (made-off unit own change state new made before after, tt)
 
   back-off : (kept : Option BeforeImage) → last_kept state unit ≡ kept
       → AllByRecursion IsOffCatalog (option_to_list (option_map (change_back state) kept))
   back-off None last = tt
-  back-off (Some kept) last = (
-    last-of _ (all-left IsOfCluster (λ (one : BeforeImage). same_unit unit one.unit) state.befores
-        before) kept last,
-    tt,
-  )
+  back-off (Some kept) last = (last-of _ (own-left unit own state.befores before) kept last, tt)
 
   done-off : (request : Request) (feedback stamp : ℕ) (place bytes : Option (List ℕ))
-      → AllByRecursion IsOfCluster (after_what geometry state unit stamp
+      → AllByRecursion IsOfClusterByDeck (after_what geometry state unit stamp
       (Asked request (DoneReply feedback place bytes))).befores
       → AllByRecursion IsOffCatalog
       (place_changes geometry state unit (Asked request (DoneReply feedback place bytes)))
@@ -125,9 +146,10 @@ module _ (geometry : Geometry) (state : State) (unit : UnitOfRecovery)
   done-off Commit feedback stamp place bytes after = tt
   done-off Backout feedback stamp place bytes after = tt
 
-  -- an entry changes clusters alone, where the before-images are of such before it and after
+  -- an entry of a deck's unit changes clusters alone, where the before-images of decks are of such
+  -- before it and after
   entry-off : (stamp : ℕ) (what : What)
-      → AllByRecursion IsOfCluster (after_what geometry state unit stamp what).befores
+      → AllByRecursion IsOfClusterByDeck (after_what geometry state unit stamp what).befores
       → AllByRecursion IsOffCatalog (place_changes geometry state unit what)
   entry-off stamp (Asked request (DoneReply feedback place bytes)) after =
       done-off request feedback stamp place bytes after
@@ -160,13 +182,13 @@ state-both geometry state [] more = refl
 state-both geometry state (entry ∷ entries) more =
     state-both geometry (state_after geometry state entry) entries more
 
--- what an event enters
+-- what an event of a deck enters
 made-keep : (geometry : Geometry) (state : State) (act : Act) (unit : UnitOfRecovery) (line : ℕ)
     (request : Request) (made : List Entry) → MadeBy act unit line request made
-    → AllByRecursion IsOfCluster state.befores
-    → AllByRecursion IsOfCluster (state_of geometry state made).befores
+    → (unit.deck == 0) ≡ false → AllByRecursion IsOfClusterByDeck state.befores
+    → AllByRecursion IsOfClusterByDeck (state_of geometry state made).befores
     → KeepTheCatalog geometry state made
-made-keep geometry state Done unit line request made is before after =
+made-keep geometry state Done unit line request made is own before after =
     subst (KeepTheCatalog geometry state) (sym is.is) (⊎_elim (λ none. alone none)
     (λ fault. (
       subst (λ (what : What). AllByRecursion IsOffCatalog
@@ -182,30 +204,34 @@ made-keep geometry state Done unit line request made is before after =
     alone : is.rest ≡ [] → KeepTheCatalog geometry state (is.entry ∷ is.rest)
     alone none = subst (λ (rest : List Entry). KeepTheCatalog geometry state (is.entry ∷ rest))
         (sym none) (
-          entry-off geometry state is.entry.unit before is.entry.stamp is.entry.what
+          entry-off geometry state is.entry.unit
+              (subst (λ (u : UnitOfRecovery). (u.deck == 0) ≡ false) (sym is.unit_is) own) before
+              is.entry.stamp is.entry.what
               (subst (λ (them : List Entry).
-              AllByRecursion IsOfCluster (state_of geometry state them).befores)
+              AllByRecursion IsOfClusterByDeck (state_of geometry state them).befores)
               (is.is ∙ ap (λ (rest : List Entry). is.entry ∷ rest) none) after),
           tt,
         )
-made-keep geometry state (Again given) unit line request made is before after = ⊎_elim
+made-keep geometry state (Again given) unit line request made is own before after = ⊎_elim
     (λ none. subst (KeepTheCatalog geometry state) (sym none) tt)
     (λ one. subst (KeepTheCatalog geometry state) (sym one.1) (
-      entry-off geometry state one.0.unit before one.0.stamp one.0.what
+      entry-off geometry state one.0.unit
+          (subst (λ (u : UnitOfRecovery). (u.deck == 0) ≡ false) (sym one.2.0) own) before
+          one.0.stamp one.0.what
           (subst (λ (them : List Entry).
-          AllByRecursion IsOfCluster (state_of geometry state them).befores) one.1 after),
+          AllByRecursion IsOfClusterByDeck (state_of geometry state them).befores) one.1 after),
       tt,
     )) is
 
--- so no event changes the catalog
+-- so no event of a deck changes the catalog
 pub event-keeps : (geometry : Geometry) (opening : State) (entries : List Entry) (act : Act)
     (unit : UnitOfRecovery) (line : ℕ) (request : Request) (made : List Entry)
-    → MadeBy act unit line request made
-    → AllByRecursion IsOfCluster (state_of geometry opening entries).befores
-    → AllByRecursion IsOfCluster (state_of geometry opening (entries ++ made)).befores
+    → MadeBy act unit line request made → (unit.deck == 0) ≡ false
+    → AllByRecursion IsOfClusterByDeck (state_of geometry opening entries).befores
+    → AllByRecursion IsOfClusterByDeck (state_of geometry opening (entries ++ made)).befores
     → KeepTheCatalog geometry opening entries → KeepTheCatalog geometry opening (entries ++ made)
-event-keeps geometry opening entries act unit line request made is before after keep =
+event-keeps geometry opening entries act unit line request made is own before after keep =
     keep-then geometry opening entries made keep
-    (made-keep geometry (state_of geometry opening entries) act unit line request made is before
-    (subst (λ (state : State). AllByRecursion IsOfCluster state.befores)
+    (made-keep geometry (state_of geometry opening entries) act unit line request made is own before
+    (subst (λ (state : State). AllByRecursion IsOfClusterByDeck state.befores)
     (state-both geometry opening entries made) after))

@@ -204,4 +204,4 @@ held-kept seen opening volume whole held sized none image left =
     subst (λ (g : Geometry). KeepsItems g volume.number (state_now opening volume.file) image)
     (whole.geometry stops)
     (stored-kept volume.number volume.store (state_now opening volume.file) (seen volume.blocks)
-    (whole.set stops) (held.stored stops) held.file.now.of_decks sized image left)
+    (whole.set stops) (held.stored stops) (held.file.now.of_decks stops) sized image left)

@@ -24,7 +24,7 @@ pub record IsAhead (geometry : Geometry) (entries : List CatEntry) (image : Imag
     pub apart : IsReachedIn geometry entries image part area → ⊥
 
 -- Each area that a part of these entries reaches in the image is owned by that part, and each other
--- is free, but for one at most that is ahead of a key-sequenced part, which that part owns.
+-- is free, but for one at most of each key-sequenced part, which is ahead of it and which it owns.
 pub record AreOwnersWithAhead (geometry : Geometry) (entries : List CatEntry) (image : Image)
     (owners : List (Option PartNo)) : Type 0
   where

@@ -7,6 +7,9 @@
 
 mod any;
 mod attach;
+mod first_area;
+mod first_roster;
+mod start;
 
 pub use any::AnyPart;
 pub use attach::attach_part;

@@ -1,7 +1,8 @@
 -- What changes of records leave of what is in memory.
 use Rattle.std.proofs.Common.{◌≡◌, ℕ, ◌==◌, Bool, true, false, cond, if◌then◌else◌, List, []}
 use Rattle.std.proofs.Common.{◌∷◌, ◌++◌}
-use Rattle.std.proofs.Common.{◌&&◌, not, filter, Option, Some, refl, sym, ap, ◌∙◌, subst, arith}
+use Rattle.std.proofs.Common.{◌&&◌, not, filter, Option, Some, None, refl, sym, ap, ◌∙◌, subst}
+use Rattle.std.proofs.Common.{arith}
 use Rattle.std.proofs.lemmas.Bool.Decides.{nat_tests}
 use Rattle.std.proofs.lemmas.Option.{none-some, same_Some}
 use Rattle.std.specs.List.{AllByRecursion}
@@ -31,12 +32,14 @@ use Rattle.vr_history.specs.Names.{change_names, lock_names, record_name, with_l
 use Rattle.vr_history.specs.Opened.{base_of, catalog_of}
 use Rattle.vr_history.specs.State.{BeforeImage, Logged, Owned, State}
 use Rattle.vr_history.specs.Step.{IsLastKept, IsLeastFree, after_asked, case_of, change_back}
+use Rattle.vr_history.proofs.Same.{unit_same}
 use Rattle.vr_answer.specs.After.{IsChanged, change_at}
 use Rattle.vr_answer.specs.Scope.{AreClusters}
 use Rattle.vr_answer.proofs.CallerLemmas.{after_change, kept_with, names_at, taken}
 use Rattle.vr_record_file.specs.Now.{FileNow, IsLockedIn, IsOf, IsOfCluster, IsOfDeck, IsStateOf}
-use Rattle.vr_record_file.specs.Now.{MayBeAsked}
+use Rattle.vr_record_file.specs.Now.{IsKeptByDeck, IsOfClusterByDeck, MayBeAsked}
 use Rattle.vr_record_file.specs.Now.{lets_go, state_now, with_event}
+use Rattle.vr_record_file.proofs.Ends.{all_left}
 use Rattle.vr_record_file.proofs.Legal.{is_no_fault}
 use Rattle.vr_record_file.proofs.Steps.{entered, let_go_is}
 
@@ -60,7 +63,7 @@ locked_with unit mode names locks (one ∷ logged) are = (
   locked_with unit mode names locks logged are.1,
 )
 
-all_append : {X : Type 0} (P : X → Type 0) (xs : List X) (x : X) → AllByRecursion P xs → P x
+pub all_append : {X : Type 0} (P : X → Type 0) (xs : List X) (x : X) → AllByRecursion P xs → P x
     → AllByRecursion P (xs ++ x ∷ [])
 all_append P [] x are is = (is, tt)
 all_append P (first ∷ xs) x are is = (are.0, all_append P xs x are.1 is)
@@ -119,11 +122,18 @@ module _ (file : FileNow) (before : List Lock) (state : State) (unit : UnitOfRec
             (sym made.logged) (all_unless (IsLockedIn now_locks) state.logged one _
             (locked_with unit Exclusive (name ∷ []) state.locks state.logged is.locked)
             (taken unit name state.locks)));
-        of_decks = subst (λ (l : List Logged). AllByRecursion IsOfDeck l) (sym made.logged)
-            (all_unless IsOfDeck state.logged one _ is.of_decks (of_deck, other));
-        of_clusters = subst (λ (l : List BeforeImage). AllByRecursion IsOfCluster l)
+        of_decks = λ going. subst (λ (l : List Logged). AllByRecursion IsOfDeck l)
+            (sym made.logged)
+            (all_unless IsOfDeck state.logged one _ (is.of_decks going) (of_deck, other));
+        of_clusters = λ going. subst (λ (l : List BeforeImage). AllByRecursion IsOfCluster l)
             (sym made.befores) (all_kept IsOfCluster state.befores
-            (image_kept state unit (change_at case place)) _ is.of_clusters other);
+            (image_kept state unit (change_at case place)) _ (is.of_clusters going) other);
+        kept_by_decks = λ going. subst (λ (l : List BeforeImage). AllByRecursion IsKeptByDeck l)
+            (sym made.befores) (all_kept IsKeptByDeck state.befores
+            (image_kept state unit (change_at case place)) _ (is.kept_by_decks going) of_deck);
+        deck_clusters = subst (λ (l : List BeforeImage). AllByRecursion IsOfClusterByDeck l)
+            (sym made.befores) (all_kept IsOfClusterByDeck state.befores
+            (image_kept state unit (change_at case place)) _ is.deck_clusters (λ deck. other));
       }
 
 -- the names of a change
@@ -173,39 +183,53 @@ changed_state opening file after line unit request reply before place feedback s
     no_refusal reply done = ap (λ (r : Reply). is_no_fault (Asked request r)) done
 
 -- a before-image is put back
-less_if : (b : Bool) (kept : BeforeImage) (rest less : List BeforeImage) → IsOfCluster kept
-    → AllByRecursion IsOfCluster rest → AllByRecursion IsOfCluster less
-    → AllByRecursion IsOfCluster (cond b rest (kept ∷ less))
-less_if true kept rest less is are are_less = are
-less_if false kept rest less is are are_less = (is, are_less)
+module _ (P : BeforeImage → Type 0) where
+  less_if : (b : Bool) (kept : BeforeImage) (rest less : List BeforeImage) → P kept
+      → AllByRecursion P rest → AllByRecursion P less → AllByRecursion P (cond b rest (kept ∷ less))
+  less_if true kept rest less is are are_less = are
+  less_if false kept rest less is are are_less = (is, are_less)
 
-all_less : (unit : UnitOfRecovery) (befores : List BeforeImage)
-    → AllByRecursion IsOfCluster befores
-    → AllByRecursion IsOfCluster (without_last unit befores)
-all_less unit [] are = tt
-all_less unit (kept ∷ befores) are =
-    less_if (same_unit unit kept.unit && not (keeps_other unit befores)) kept befores
-    (without_last unit befores) are.0 are.1 (all_less unit befores are.1)
+  all_less : (unit : UnitOfRecovery) (befores : List BeforeImage) → AllByRecursion P befores
+      → AllByRecursion P (without_last unit befores)
+  all_less unit [] are = tt
+  all_less unit (kept ∷ befores) are =
+      less_if (same_unit unit kept.unit && not (keeps_other unit befores)) kept befores
+      (without_last unit befores) are.0 are.1 (all_less unit befores are.1)
 
--- the last kept before-image of a unit is one of those that are kept
-last_one : (befores : List BeforeImage) → AllByRecursion IsOfCluster befores
-    → (kept : BeforeImage) → last_of befores ≡ Some kept → IsOfCluster kept
-last_one [] are kept last = absurd (none-some kept last)
-last_one (one ∷ []) are kept last = subst IsOfCluster (same_Some one kept last) are.0
-last_one (one ∷ next ∷ rest) are kept last = last_one (next ∷ rest) are.1 kept last
+  -- the last of some before-images is one of them
+  last_one : (befores : List BeforeImage) → AllByRecursion P befores → (kept : BeforeImage)
+      → last_of befores ≡ Some kept → P kept
+  last_one [] are kept last = absurd (none-some kept last)
+  last_one (one ∷ []) are kept last = subst P (same_Some one kept last) are.0
+  last_one (one ∷ next ∷ rest) are kept last = last_one (next ∷ rest) are.1 kept last
 
-one_if : (b : Bool) (one : BeforeImage) (rest : List BeforeImage) → IsOfCluster one
-    → AllByRecursion IsOfCluster rest → AllByRecursion IsOfCluster (cond b (one ∷ rest) rest)
-one_if true one rest is are = (is, are)
-one_if false one rest is are = are
+  -- and of those that a unit keeps, one of that unit
+  last_own : (unit : UnitOfRecovery) (befores : List BeforeImage) → AllByRecursion P befores
+      → (kept : BeforeImage)
+      → last_of (filter (λ kept. same_unit unit kept.unit) befores) ≡ Some kept → P kept
+  last_own unit befores are =
+      last_one (filter (λ kept. same_unit unit kept.unit) befores)
+      (all_left P (λ kept. same_unit unit kept.unit) befores are)
 
-all_own : (unit : UnitOfRecovery) (befores : List BeforeImage)
-    → AllByRecursion IsOfCluster befores
-    → AllByRecursion IsOfCluster (filter (λ kept. same_unit unit kept.unit) befores)
-all_own unit [] are = tt
-all_own unit (one ∷ befores) are =
-    one_if (same_unit unit one.unit) one (filter (λ kept. same_unit unit kept.unit) befores) are.0
-    (all_own unit befores are.1)
+-- a unit that keeps a before-image of a deck is of that deck
+owned_if : (unit : UnitOfRecovery) (one : BeforeImage) (rest : List BeforeImage)
+    → IsKeptByDeck one → AllByRecursion (λ kept. (unit.deck == 0) ≡ false) rest → (b : Bool)
+    → same_unit unit one.unit ≡ b
+    → AllByRecursion (λ (kept : BeforeImage). (unit.deck == 0) ≡ false) (cond b (one ∷ rest) rest)
+owned_if unit one rest is are true same = (
+  ap (λ (u : UnitOfRecovery). u.deck == 0) (unit_same unit one.unit same) ∙ is,
+  are,
+)
+owned_if unit one rest is are false other = are
+
+owned_by : (unit : UnitOfRecovery) (befores : List BeforeImage)
+    → AllByRecursion IsKeptByDeck befores
+    → AllByRecursion (λ (kept : BeforeImage). (unit.deck == 0) ≡ false)
+    (filter (λ kept. same_unit unit kept.unit) befores)
+owned_by unit [] are = tt
+owned_by unit (one ∷ befores) are =
+    owned_if unit one (filter (λ kept. same_unit unit kept.unit) befores) are.0
+    (owned_by unit befores are.1) (same_unit unit one.unit) refl
 
 module _ (file : FileNow) (state : State) (unit : UnitOfRecovery) (kept : BeforeImage)
     (is : IsOf file state) (other : (kept.part == 0) ≡ false) where
@@ -226,21 +250,25 @@ module _ (file : FileNow) (state : State) (unit : UnitOfRecovery) (kept : Before
         owned = is.owned;
         locked = is.locked;
         of_decks = is.of_decks;
-        of_clusters = all_less unit state.befores is.of_clusters;
+        of_clusters = λ going. all_less IsOfCluster unit state.befores (is.of_clusters going);
+        kept_by_decks = λ going. all_less IsKeptByDeck unit state.befores (is.kept_by_decks going);
+        deck_clusters = all_less IsOfClusterByDeck unit state.befores is.deck_clusters;
       }
 
 pub undone_state : (opening : State) (file : FileNow) (after : ℕ) (unit : UnitOfRecovery)
-    (line : ℕ) (part : PartNo) (place : List ℕ) → IsStateOf opening file
+    (line : ℕ) (part : PartNo) (place : List ℕ) → IsStateOf opening file → file.stopped ≡ None
     → IsLastKept (state_now opening file) unit part.0 place
     → IsStateOf opening (with_event after unit line (Undone part place) file)
-undone_state opening file after unit line part place is last =
+undone_state opening file after unit line part place is going last =
     let state : State = state_now opening file in
-    entered opening file file after line unit (Undone part place) is last tt refl
+    let of_deck : (unit.deck == 0) ≡ false = last_one (λ (kept : BeforeImage).
+    (unit.deck == 0) ≡ false) (filter (λ kept. same_unit unit kept.unit) state.befores)
+    (owned_by unit state.befores (is.now.kept_by_decks going)) last.0 last.1 in
+    entered opening file file after line unit (Undone part place) is last of_deck refl
     (subst (λ (o : Option BeforeImage). IsOf file (option_map_or
     (λ this. takes_out unit (changes (change_back state this) state)) o state)) (sym last.1)
     (put_is file state unit last.0 is.now
-    (last_one (filter (λ kept. same_unit unit kept.unit) state.befores)
-    (all_own unit state.befores is.now.of_clusters) last.0 last.1)))
+    (last_own IsOfCluster unit state.befores (is.now.of_clusters going) last.0 last.1)))
 
 -- a split moves nothing
 pub split_state : (opening : State) (file : FileNow) (after : ℕ) (unit : UnitOfRecovery)
@@ -269,4 +297,6 @@ claimed_state opening file after unit line part area is free laid =
       locked = now.locked;
       of_decks = now.of_decks;
       of_clusters = now.of_clusters;
+      kept_by_decks = now.kept_by_decks;
+      deck_clusters = now.deck_clusters;
     })

@@ -1,7 +1,8 @@
 -- Legal histories that grow at their end.
 use Rattle.std.proofs.Common.{◌≡◌, ℕ, ◌+◌, Bool, true, false, cond, not, ◌||◌, List, [], ◌∷◌, ◌++◌}
-use Rattle.std.proofs.Common.{refl, sym, ap, ◌∙◌, ◌⊎◌, inl, inr}
+use Rattle.std.proofs.Common.{refl, sym, ap, ◌∙◌, ◌⊎◌, inl, inr, arith, ◌==◌}
 use Rattle.std.proofs.lemmas.Bool.{true≢false}
+use Rattle.std.proofs.lemmas.Bool.Decides.{nat_tests}
 use Rattle.vr_types.specs.Locks.{same_unit}
 use Rattle.vr_types.specs.declared.fault.DeviceFault.TheVariants.{Write}
 use Rattle.vr_types.specs.declared.geometry.Geometry.{Geometry}
@@ -129,11 +130,12 @@ begun-append before (entry ∷ entries) tail begun further goes = (
 
 -- ---- entries that may come next
 
--- It is no request, or one of a unit that hasn't begun to undo, or a BACKOUT.
+-- It is no request, or one of a unit that hasn't begun to undo, or a BACKOUT; and no unit of the
+-- utilities undoes.
 abbrev pub MayCome : List Entry → UnitOfRecovery → What → Type 0
 MayCome entries unit (Asked request reply) =
     (is_undoing unit entries ≡ false) ⊎ (is_backout request ≡ true)
-MayCome entries unit (Undone part place) = Unit {0}
+MayCome entries unit (Undone part place) = (unit.deck == 0) ≡ false
 MayCome entries unit (Claimed part area) = Unit {0}
 MayCome entries unit (Split part) = Unit {0}
 MayCome entries unit (Faulted fault) = Unit {0}
@@ -185,6 +187,43 @@ module _ (entries : List Entry) (entry : Entry) (rest : List Entry)
         backs_quiet entry.what,
         further,
       ) (λ unit undoing. what_goes unit entry.what may undoing)
+
+-- ---- no unit of the utilities undoes
+
+abbrev pub NoUtilityUndoes : List Entry → Type 0
+NoUtilityUndoes entries =
+    (unit : UnitOfRecovery) → unit.deck ≡ 0 → is_undoing unit entries ≡ false
+
+-- where a unit is in undoing after one entry more
+undoing-append : (unit : UnitOfRecovery) (before : Bool) (entries : List Entry) (entry : Entry)
+    → is_undoing_from unit before (entries ++ entry ∷ [])
+    ≡ undoing_after unit (is_undoing_from unit before entries) entry entry.what
+undoing-append unit before [] entry = refl
+undoing-append unit before (first ∷ entries) entry =
+    undoing-append unit (undoing_after unit before first first.what) entries entry
+
+-- a unit of the utilities is no unit of a deck
+pub utility_other : (unit other : UnitOfRecovery) → unit.deck ≡ 0 → (other.deck == 0) ≡ false
+    → same_unit unit other ≡ false
+utility_other unit other utility deck = grind (arith, nat_tests, utility, deck)
+
+quiet_after : (entries : List Entry) (entry : Entry) (what : What)
+    → MayCome entries entry.unit what → (unit : UnitOfRecovery) → unit.deck ≡ 0
+    → undoing_after unit false entry what ≡ false
+quiet_after entries entry (Undone part place) may unit utility =
+    utility_other unit entry.unit utility may
+quiet_after entries entry (Asked request reply) may unit utility = refl
+quiet_after entries entry (Claimed part area) may unit utility = refl
+quiet_after entries entry (Split part) may unit utility = refl
+quiet_after entries entry (Faulted fault) may unit utility = refl
+
+pub utilities-append : (entries : List Entry) (entry : Entry)
+    → MayCome entries entry.unit entry.what → NoUtilityUndoes entries
+    → NoUtilityUndoes (entries ++ entry ∷ [])
+utilities-append entries entry may quiet = λ unit utility.
+    undoing-append unit false entries entry
+    ∙ ap (λ (b : Bool). undoing_after unit b entry entry.what) (quiet unit utility)
+    ∙ quiet_after entries entry entry.what may unit utility
 
 -- One entry more, that is no reply of a write fault.
 abbrev pub is_no_fault : What → Bool

@@ -1,6 +1,11 @@
+pub mod Added
 pub mod Changes
+pub mod Defined
+pub mod Definitions
 pub mod Ends
+pub mod Left
 pub mod Legal
+pub mod MoreEntries
 pub mod Moved
 pub mod Placed
 pub mod Resting

@@ -64,6 +64,8 @@ module _ (file : FileNow) (state : State) (deck slot : ℕ) (to : Position) (new
     locked = is.locked;
     of_decks = is.of_decks;
     of_clusters = is.of_clusters;
+    kept_by_decks = is.kept_by_decks;
+    deck_clusters = is.deck_clusters;
   }
 
 -- what a file holds is dropped, where it is this one

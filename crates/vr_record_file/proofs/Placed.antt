@@ -54,6 +54,8 @@ locks_is file state unit mode names is = record {
   locked = locked_with unit mode names state.locks state.logged is.locked;
   of_decks = is.of_decks;
   of_clusters = is.of_clusters;
+  kept_by_decks = is.kept_by_decks;
+  deck_clusters = is.deck_clusters;
 }
 
 roomy_is : (file : FileNow) (state : State) (room : ℕ) → IsOf file state
@@ -69,6 +71,8 @@ roomy_is file state room is = record {
   locked = is.locked;
   of_decks = is.of_decks;
   of_clusters = is.of_clusters;
+  kept_by_decks = is.kept_by_decks;
+  deck_clusters = is.deck_clusters;
 }
 
 abbrev the-position : Stand → Option (List ℕ) → Position

@@ -29,6 +29,7 @@ use Rattle.vr_answer.specs.declared.case.Case.{Case as CaseInHand}
 use Rattle.vr_record_file.specs.Now.{FileNow, IsOf, IsOfDeck, IsStateOf, has_deck, held_in}
 use Rattle.vr_record_file.specs.Now.{is_of_deck, number_of, stand_in, state_now}
 use Rattle.vr_record_file.specs.declared.numbers.DeckNumber.{DeckNumber}
+use Rattle.vr_record_file.proofs.Legal.{NoUtilityUndoes}
 
 -- the opening
 pub new_state : (file : FileNow) → file.locks ≡ [] → file.files ≡ [] → file.numbers ≡ []
@@ -49,13 +50,16 @@ new_state file locks files numbers stopped entries contents owned catalog alone 
       alone = subst AreClusters catalog alone;
       owned = laid;
       locked = tt;
-      of_decks = tt;
-      of_clusters = tt;
+      of_decks = λ going. tt;
+      of_clusters = λ going. tt;
+      kept_by_decks = λ going. tt;
+      deck_clusters = tt;
     } in
     record {
       legal = subst (λ (l : List Entry). IsLegal file.geometry opening l) (sym entries) none;
       now = subst (λ (l : List Entry). IsOf file (state_of file.geometry opening l)) (sym entries)
           now;
+      utilities = subst NoUtilityUndoes (sym entries) (λ unit utility. refl);
     }
 
 -- more room
@@ -75,7 +79,10 @@ roomy_state opening file room files_room is = let now = is.now in record {
     locked = now.locked;
     of_decks = now.of_decks;
     of_clusters = now.of_clusters;
+    kept_by_decks = now.kept_by_decks;
+    deck_clusters = now.deck_clusters;
   };
+  utilities = is.utilities;
 }
 
 -- other numbers that say the same
@@ -95,7 +102,10 @@ numbered_state opening file numbers same is = let now = is.now in record {
     locked = now.locked;
     of_decks = now.of_decks;
     of_clusters = now.of_clusters;
+    kept_by_decks = now.kept_by_decks;
+    deck_clusters = now.deck_clusters;
   };
+  utilities = is.utilities;
 }
 
 -- a deck more
@@ -122,7 +132,7 @@ number_of_more (number ∷ numbers) deck other =
     number_by (number.deck == other) number (find (is_of_deck other) numbers)
     (find (is_of_deck other) (numbers ++ first_unit deck ∷ [])) (number_of_more numbers deck other)
 
-or_later : (a b c : Bool) → (b ≡ true → c ≡ true) → (a || b) ≡ true → (a || c) ≡ true
+pub or_later : (a b c : Bool) → (b ≡ true → c ≡ true) → (a || b) ≡ true → (a || c) ≡ true
 or_later true b c so is = refl
 or_later false b c so is = so is
 
@@ -133,7 +143,7 @@ has_deck_more (number ∷ numbers) deck other is =
     or_later (number.deck == other) (has_deck other numbers)
     (has_deck other (numbers ++ first_unit deck ∷ [])) (has_deck_more numbers deck other) is
 
--- no unit of the utilities changes the catalog
+-- no unit of the utilities changes the catalog, as long as the volume goes on
 none_of_two : (a b c : Bool) → a ≡ false → c ≡ false → (a && b || c) ≡ false
 none_of_two true b c first second = absurd (cc)
 none_of_two false b c first second = second
@@ -145,10 +155,15 @@ none_changes (one ∷ logged) are =
     none_of_two (one.unit.deck == 0) (one.part == 0) (list_any changed_catalog logged) are.0.0
     (none_changes logged are.1)
 
-and_false : (a b : Bool) → (a && (b && false)) ≡ false
-and_false true true = refl
-and_false true false = refl
-and_false false b = refl
+and_false : (a b : Bool) → b ≡ false → (a && b) ≡ false
+and_false true b is = is
+and_false false b is = refl
+
+changing_none : (logged : List Logged) (stopped : Option ℕ)
+    → (stopped ≡ None → AllByRecursion IsOfDeck logged)
+    → (is_none stopped && list_any changed_catalog logged) ≡ false
+changing_none logged None are = none_changes logged (are refl)
+changing_none logged (Some stamp) are = refl
 
 -- a file that was never set stands at its start
 start_unset : (o : Option Position)
@@ -188,9 +203,9 @@ module _ (opening : State) (file : FileNow) (is : IsStateOf opening file) (case 
     held = held ∙ held_is case.unit.deck (file_of case.request.now);
     stand = stand_is case.unit.deck (file_of case.request.now) (option_copied case.stand) stand;
     stopped = stopped ∙ is.now.stopped;
-    changing = changing ∙ sym (ap (λ (b : Bool). not (case.unit.deck == 0)
-        && (is_none state.stopped && b)) (none_changes state.logged is.now.of_decks)
-        ∙ and_false (not (case.unit.deck == 0)) (is_none state.stopped));
+    changing = changing ∙ sym (and_false (not (case.unit.deck == 0)) _
+        (changing_none state.logged state.stopped
+        (λ going. is.now.of_decks (is.now.stopped ∙ going))));
     alone = is.now.alone;
   }
 

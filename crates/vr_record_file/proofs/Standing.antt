@@ -33,11 +33,11 @@ logged_in_the_way locks logged unit mode is apart none =
     }) unit mode is apart none
 
 -- the first refusal of a volume that has stopped
-abbrev first_or : Option Refusal → ℕ → Refusal
+abbrev pub first_or : Option Refusal → ℕ → Refusal
 first_or None stamp = Stopped stamp
 first_or (Some refusal) stamp = refusal
 
-first_stopped : (o : Option Refusal) (stopped : Option ℕ) (stamp : ℕ)
+pub first_stopped : (o : Option Refusal) (stopped : Option ℕ) (stamp : ℕ)
     (rest : List (Option Refusal)) → stopped ≡ Some stamp
     → first_of (o ∷ option_map Stopped stopped ∷ rest) ≡ Some (first_or o stamp)
 first_stopped None stopped stamp rest is =

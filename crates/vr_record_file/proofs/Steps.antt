@@ -10,6 +10,7 @@ use Rattle.vr_types.specs.declared.position.Position.{Position}
 use Rattle.std.proofs.lemmas.Option.{none-some}
 use Rattle.vr_types.specs.Locks.{Lock, same_unit}
 use Rattle.vr_types.specs.declared.fault.DeviceFault.TheVariants.{Write}
+use Rattle.vr_types.specs.declared.geometry.Geometry.{Geometry}
 use Rattle.vr_types.specs.declared.reply.Refusal.TheVariants.{WriteFault}
 use Rattle.vr_types.specs.declared.reply.Reply.TheVariants.{Refused}
 use Rattle.vr_types.specs.declared.request.FileRef.{FileRef}
@@ -30,8 +31,9 @@ use Rattle.vr_answer.proofs.CallerLemmas.{after_refused}
 use Rattle.vr_record_file.specs.Now.{FileNow, IsOf, IsStateOf, MayBeAsked, entry_next, files_let_go}
 use Rattle.vr_record_file.specs.Now.{failed, next_stamp, state_now, with_event}
 use Rattle.vr_record_file.specs.Now.{with_memory}
-use Rattle.vr_record_file.proofs.Legal.{MayCome, begun_more, if_true, is_no_fault, legal-append}
-use Rattle.vr_record_file.proofs.Legal.{stops-append}
+use Rattle.vr_record_file.proofs.Legal.{MayCome, NoUtilityUndoes, begun_more, if_true}
+use Rattle.vr_record_file.proofs.Legal.{is_no_fault, legal-append}
+use Rattle.vr_record_file.proofs.Legal.{stops-append, utilities-append}
 
 -- what a file, or a deck, holds is dropped among the positions that were set
 pub without_held-of : (deck slot : ℕ) (files : List FilePosition) (d s : ℕ)
@@ -63,6 +65,8 @@ let_go_is file state deck (Some on) is = record {
   locked = is.locked;
   of_decks = is.of_decks;
   of_clusters = is.of_clusters;
+  kept_by_decks = is.kept_by_decks;
+  deck_clusters = is.deck_clusters;
 }
 
 -- An event is entered: what is in memory is then what the state after it has.
@@ -87,15 +91,87 @@ entered opening file to after line unit what is enters may none now =
       locked = now.locked;
       of_decks = now.of_decks;
       of_clusters = now.of_clusters;
+      kept_by_decks = now.kept_by_decks;
+      deck_clusters = now.deck_clusters;
     } in
     record {
       legal = legal-append file.geometry opening file.entries entry is.legal enters may none;
       now = subst (λ (s : State). IsOf (with_event after unit line what (with_memory file to)) s)
           (sym (state_of-append file.geometry opening file.entries entry)) whole;
+      utilities = utilities-append file.entries entry may is.utilities;
     }
 
 max_zero : (n : ℕ) → max n 0 ≡ n
 max_zero n = omega arith
+
+-- a request that a fault of a write refused, and the fault that stops the volume
+module _ (geometry : Geometry) (opening : State) (entries : List Entry) (after line : ℕ)
+    (unit : UnitOfRecovery) (request : Request) where
+  abbrev was : State
+  was = state_of geometry opening entries
+
+  abbrev pub asked : Entry
+  asked = entry_next entries after unit line (Asked request (Refused WriteFault))
+
+  abbrev pub fault : Entry
+  fault = entry_next (entries ++ asked ∷ []) 0 unit line (Faulted Write)
+
+  abbrev dropped_state : State
+  dropped_state = drops_held unit.deck (file_of request) was
+
+  after_asking : state_of geometry opening (entries ++ asked ∷ []) ≡ dropped_state
+  after_asking = state_of-append geometry opening entries asked
+      ∙ after_refused (case_of geometry was unit request) WriteFault refl
+
+  pub after_both : state_of geometry opening ((entries ++ asked ∷ []) ++ fault ∷ [])
+      ≡ stops fault.stamp dropped_state
+  after_both = state_of-append geometry opening (entries ++ asked ∷ []) fault
+      ∙ ap (stops fault.stamp) after_asking
+
+  still_going : (deck : ℕ) (o : Option FileRef) → was.stopped ≡ None
+      → (drops_held deck o was).stopped ≡ None
+  still_going deck None going = going
+  still_going deck (Some on) going = going
+
+  at_next : fault.stamp ≡ asked.stamp + 1
+  at_next = ap (λ n. n + 1) (max_zero (last_stamp 0 (entries ++ asked ∷ []))
+      ∙ last_stamp-append 0 entries asked)
+
+  module _ (going : was.stopped ≡ None) (legal : IsLegal geometry opening entries)
+      (enters : MayEnter geometry was unit asked.what)
+      (may : MayCome entries unit asked.what) where
+    may_fault : Step geometry (state_of geometry opening (entries ++ asked ∷ [])) fault
+    may_fault = (
+      refl,
+      ap (λ (s : State). s.stopped) after_asking
+          ∙ still_going unit.deck (file_of request) going,
+    )
+
+    pub faulted_legal : IsLegal geometry opening ((entries ++ asked ∷ []) ++ fault ∷ [])
+    faulted_legal = record {
+      steps = steps-append geometry opening (entries ++ asked ∷ []) fault
+          (steps-append geometry opening entries asked legal.steps enters) may_fault;
+      backs_out = subst BackOutOnceBegun (sym (append_assoc entries (asked ∷ []) (fault ∷ [])))
+          (begun_more entries asked (fault ∷ []) (λ other. if_true (same_unit other unit))
+          legal.backs_out (
+            tt,
+            tt,
+          ) may);
+      stops = subst StopAtWriteFaults (sym (append_assoc entries (asked ∷ []) (fault ∷ [])))
+          (stops-append entries (asked ∷ fault ∷ []) legal.stops (
+            λ met. (
+              at_next,
+              refl,
+            ),
+            (tt, tt),
+          ));
+    }
+
+  pub faulted_utilities : MayCome entries unit asked.what → NoUtilityUndoes entries
+      → NoUtilityUndoes ((entries ++ asked ∷ []) ++ fault ∷ [])
+  faulted_utilities may utilities =
+      utilities-append (entries ++ asked ∷ []) fault tt
+      (utilities-append entries asked may utilities)
 
 -- a fault of a write
 module _ (opening : State) (file : FileNow) (after line : ℕ) (unit : UnitOfRecovery)
@@ -103,86 +179,38 @@ module _ (opening : State) (file : FileNow) (after line : ℕ) (unit : UnitOfRec
     (is : IsStateOf opening (record file { locks = before }))
     (may : MayBeAsked opening (record file { locks = before }) unit request
     (Refused WriteFault)) where
-  abbrev was : State
-  was = state_now opening (record file { locks = before })
+  abbrev state_then : State
+  state_then = state_now opening (record file { locks = before })
 
-  abbrev asked : Entry
-  asked = entry_next file.entries after unit line (Asked request (Refused WriteFault))
-
-  abbrev fault : Entry
-  fault = entry_next (file.entries ++ asked ∷ []) 0 unit line (Faulted Write)
-
-  abbrev dropped_state : State
-  dropped_state = drops_held unit.deck (file_of request) was
-
-  after_both : state_of file.geometry opening ((file.entries ++ asked ∷ []) ++ fault ∷ [])
-      ≡ stops fault.stamp dropped_state
-  after_both =
-      state_of-append file.geometry opening (file.entries ++ asked ∷ []) fault
-      ∙ ap (stops fault.stamp) (state_of-append file.geometry opening file.entries asked
-      ∙ after_refused (case_of file.geometry was unit request) WriteFault refl)
-
-  still_going : (deck : ℕ) (o : Option FileRef) → (drops_held deck o was).stopped ≡ None
-  still_going deck None = sym is.now.stopped ∙ going
-  still_going deck (Some on) = sym is.now.stopped ∙ going
-
-  may_fault : Step file.geometry (state_of file.geometry opening (file.entries ++ asked ∷ []))
-      fault
-  may_fault = (
-    refl,
-    ap (λ (s : State). s.stopped) (state_of-append file.geometry opening file.entries asked
-        ∙ after_refused (case_of file.geometry was unit request) WriteFault refl)
-        ∙ still_going unit.deck (file_of request),
-  )
-
-  at_next : fault.stamp ≡ asked.stamp + 1
-  at_next = ap (λ n. n + 1) (max_zero (last_stamp 0 (file.entries ++ asked ∷ []))
-      ∙ last_stamp-append 0 file.entries asked)
-
-  faulted_legal : IsLegal file.geometry opening ((file.entries ++ asked ∷ []) ++ fault ∷ [])
-  faulted_legal = record {
-    steps = steps-append file.geometry opening (file.entries ++ asked ∷ []) fault
-        (steps-append file.geometry opening file.entries asked is.legal.steps (
-          may.current,
-          may.reply_is,
-        )) may_fault;
-    backs_out = subst BackOutOnceBegun (sym (append_assoc file.entries (asked ∷ []) (fault ∷ [])))
-        (begun_more file.entries asked (fault ∷ []) (λ other. if_true (same_unit other unit))
-        is.legal.backs_out (
-          tt,
-          tt,
-        ) may.goes_on);
-    stops = subst StopAtWriteFaults (sym (append_assoc file.entries (asked ∷ []) (fault ∷ [])))
-        (stops-append file.entries (asked ∷ fault ∷ []) is.legal.stops (
-          λ met. (
-            at_next,
-            refl,
-          ),
-          (tt, tt),
-        ));
-  }
+  abbrev stamp : ℕ
+  stamp = (fault file.geometry opening file.entries after line unit request).stamp
 
   pub failed_state : IsStateOf opening (failed after unit line request file)
   failed_state =
-      let now = let_go_is (record file { locks = before }) was unit.deck (file_of request)
+      let now = let_go_is (record file { locks = before }) state_then unit.deck (file_of request)
       is.now in
-      let stopped : IsOf (failed after unit line request file) (stops fault.stamp
-      dropped_state) = record {
+      let stopped : IsOf (failed after unit line request file) (stops stamp
+      (drops_held unit.deck (file_of request) state_then)) = record {
         catalog = now.catalog;
-        locks = λ none. absurd (none-some fault.stamp (sym none));
+        locks = λ none. absurd (none-some stamp (sym none));
         positions = now.positions;
         numbers = now.numbers;
         stopped = refl;
         alone = now.alone;
         owned = now.owned;
         locked = now.locked;
-        of_decks = now.of_decks;
-        of_clusters = now.of_clusters;
+        of_decks = λ none. absurd (none-some stamp (sym none));
+        of_clusters = λ none. absurd (none-some stamp (sym none));
+        kept_by_decks = λ none. absurd (none-some stamp (sym none));
+        deck_clusters = now.deck_clusters;
       } in
       record {
-        legal = faulted_legal;
+        legal = faulted_legal file.geometry opening file.entries after line unit request
+            (sym is.now.stopped ∙ going) is.legal (may.current, may.reply_is) may.goes_on;
         now = subst (λ (s : State). IsOf (failed after unit line request file) s)
-            (sym after_both) stopped;
+            (sym (after_both file.geometry opening file.entries after line unit request)) stopped;
+        utilities = faulted_utilities file.geometry opening file.entries after line unit request
+            may.goes_on is.utilities;
       }
 
 -- the last stamp once an event is entered

@@ -105,6 +105,13 @@ IsOfDeck logged = ((logged.unit.deck == 0) ≡ false) × ((logged.part == 0) ≡
 abbrev pub IsOfCluster : BeforeImage → Type 0
 IsOfCluster kept = (kept.part == 0) ≡ false
 
+-- a before-image is of a deck; and the before-images of decks are of clusters
+abbrev pub IsKeptByDeck : BeforeImage → Type 0
+IsKeptByDeck kept = (kept.unit.deck == 0) ≡ false
+
+abbrev pub IsOfClusterByDeck : BeforeImage → Type 0
+IsOfClusterByDeck kept = IsKeptByDeck kept → IsOfCluster kept
+
 -- A unit that has put a before-image back asks for BACKOUT next: it has begun to undo until its
 -- next request.
 abbrev pub undoing_after : UnitOfRecovery → Bool → Entry → What → Bool
@@ -125,8 +132,9 @@ is_undoing unit entries = is_undoing_from unit false entries
 
 -- ---- the record file in memory
 
--- What is in memory is what this state has, and the state is one that only decks have changed. Once
--- the volume has stopped, no answer looks at locks.
+-- What is in memory is what this state has. Once the volume has stopped, no answer looks at locks;
+-- and until then only decks have part in what live units logged and keep. A definition that meets a
+-- fault of a write leaves its unit, of the utilities, in doubt.
 pub record IsOf (file : FileNow) (state : State) : Type 0 where
   pub catalog : file.catalog ≡ catalog_of state
   pub locks : file.stopped ≡ None → file.locks ≡ state.locks
@@ -138,13 +146,17 @@ pub record IsOf (file : FileNow) (state : State) : Type 0 where
   pub owned : AllByRecursion (λ owned. has_part (parts_laid file.catalog) owned.part ≡ true)
       state.owned
   pub locked : AllByRecursion (IsLockedIn state.locks) state.logged
-  pub of_decks : AllByRecursion IsOfDeck state.logged
-  pub of_clusters : AllByRecursion IsOfCluster state.befores
+  pub of_decks : file.stopped ≡ None → AllByRecursion IsOfDeck state.logged
+  pub of_clusters : file.stopped ≡ None → AllByRecursion IsOfCluster state.befores
+  pub kept_by_decks : file.stopped ≡ None → AllByRecursion IsKeptByDeck state.befores
+  pub deck_clusters : AllByRecursion IsOfClusterByDeck state.befores
 
--- Its history is legal from this opening, and what is in memory is what it gives.
+-- Its history is legal from this opening, what is in memory is what it gives, and no unit of the
+-- utilities has begun to undo.
 pub record IsStateOf (opening : State) (file : FileNow) : Type 0 where
   pub legal : IsLegal file.geometry opening file.entries
   pub now : IsOf file (state_now opening file)
+  pub utilities : (unit : UnitOfRecovery) → unit.deck ≡ 0 → is_undoing unit file.entries ≡ false
 
 -- A request may be entered with this reply: it is of its deck's current unit, which asks for
 -- BACKOUT where it has begun to undo.

@@ -1,7 +1,7 @@
 //! Changes of records, and their locks.
 ghost use Rattle.std.specs.Prelude.{◌≡◌, ◌<◌, ◌-◌, ◌^◌, ◌==◌, ℕ, false, IfErr, List, None, OnErr};
-ghost use Rattle.std.specs.Prelude.{OnOk, Option, Some, true};
-ghost use Rattle.vr_types.specs.Locks.{Lock, conflict_on};
+ghost use Rattle.std.specs.Prelude.{OnOk, Option, Some, is_some, true};
+ghost use Rattle.vr_types.specs.Locks.{Lock, conflict_on, first_conflict};
 ghost use Rattle.vr_types.specs.declared.reply.Reply.TheVariants.{Done};
 ghost use Rattle.vr_types.specs.declared.unit.Mode.TheVariants.{Exclusive};
 ghost use Rattle.vr_locks.specs.Answer.{CauseOf};
@@ -18,7 +18,7 @@ ghost use Rattle.vr_record_file.specs.Now.{IsStateOf, MayBeAsked, lets_go, state
 use crate::file::RecordFile;
 use vr_history::What;
 use vr_locks::LockNo;
-use vr_types::{AreaNo, LockNames, Mode, PartNo, Place, Reply, SharedRequest, Unit};
+use vr_types::{AreaNo, LockName, LockNames, Mode, PartNo, Place, Reply, SharedRequest, Unit};
 
 impl RecordFile {
     /// A unit takes locks, all or none.
@@ -33,6 +33,14 @@ impl RecordFile {
         ensures unchanged { OnErr result (self.new ≡ self.old) }
     {
         self.locks.ask(unit, names, mode)
+    }
+
+    /// Whether a lock of another unit is in the way of a unit that asks for a name. It takes no
+    /// memory.
+    pub fn is_in_the_way(&self, unit: Unit, name: &LockName, mode: Mode) -> bool
+        ensures { result ≡ is_some (first_conflict self.now.locks unit mode name.now) }
+    {
+        self.locks.test(unit, name, mode).is_some()
     }
 
     /// Takes the locks of a change for its unit, before it is made: all of them, or none where a
@@ -79,14 +87,16 @@ impl RecordFile {
         self.enter_asked(unit, line, request, reply, after);
     }
 
-    /// Enters that the last before-image that a unit keeps was put back, for the request on this line. It
-    /// takes no memory.
+    /// Enters that the last before-image that a unit keeps was put back, for the request on this
+    /// line. It takes no memory. On a volume that stopped it says nothing (`state`): the catalog in
+    /// memory stays, and a unit of the utilities that is in doubt keeps a before-image of one.
     pub fn undone(&mut self, unit: Unit, line: u32, part: PartNo, place: Place, after: u64)
         requires room { 0 < self.old.room }
         requires last { last_stamp 0 self.old.entries < 2 ^ 64 - 2 }
         requires after { after < 2 ^ 64 - 2 }
         ensures leaves { self.new ≡ with_event after unit line (whats.Undone part place) self.old }
         ensures state { (opening : State) → IsStateOf opening self.old
+            → self.old.stopped ≡ None
             → IsLastKept (state_now opening self.old) unit part.0 place
             → IsStateOf opening self.new }
     {

@@ -11,7 +11,13 @@ ghost use Rattle.vr_types.specs.declared.unit.Unit as units;
 ghost use Rattle.vr_history.specs.Replies.{IsAnswered};
 ghost use Rattle.vr_history.specs.State.{Logged, State};
 ghost use Rattle.vr_history.specs.Step.{case_of};
-ghost use Rattle.vr_record_file.specs.Now.{IsLockedIn};
+ghost use Rattle.vr_catalog.specs.declared.entry.CatEntry.{CatEntry};
+ghost use Rattle.vr_types.specs.declared.unit.AreaNo.{AreaNo};
+ghost use Rattle.vr_types.specs.declared.unit.PartNo.{PartNo};
+ghost use Rattle.vr_history.specs.Merged.{last_stamp};
+ghost use Rattle.vr_record_file.specs.Defining.{IsDefined, IsInDoubt, MayDefine, defined};
+ghost use Rattle.vr_record_file.specs.Defining.{failed_to_define};
+ghost use Rattle.vr_record_file.specs.Now.{FileNow, IsLockedIn, IsStateOf, state_now};
 
 /// A place that the log has is under its unit's exclusive lock, which is in the way of every other
 /// unit.
@@ -32,4 +38,28 @@ pub fn stopped_volumes_look_at_no_lock()
         → IsAnswered (case_of geometry (record state { locks = locks }) unit request)
         (Refused refusal)
         → IsAnswered (case_of geometry state unit request) (Refused refusal) }
+{}
+
+/// What the entries of a definition leave of the state, field by field: the record stands in the
+/// catalog, the area is the part's, the space of the log is taken, or all of it is free again where
+/// no unit is live, the number of its deck rises, and nothing else is left of its unit.
+pub fn defined_state()
+    ensures { (opening : State) (file : FileNow) (after line : ℕ) (unit : units.Unit)
+        (part : PartNo) (area : AreaNo) (add : Request) (place bytes : List ℕ) (commit : Request)
+        (catalog : List CatEntry) → IsStateOf opening file
+        → MayDefine opening file unit part area add place bytes commit catalog
+        → IsDefined unit part area place bytes (state_now opening file) (state_now opening
+        (defined after unit line part area add place commit catalog file)) }
+{}
+
+/// And what they leave where a write failed: the record stands in the catalog, the unit is in
+/// doubt, with its before-image, and the volume stopped at the last stamp.
+pub fn definition_in_doubt()
+    ensures { (opening : State) (file : FileNow) (after line : ℕ) (unit : units.Unit)
+        (part : PartNo) (area : AreaNo) (add : Request) (place bytes : List ℕ) (commit : Request)
+        (catalog : List CatEntry) → IsStateOf opening file
+        → MayDefine opening file unit part area add place bytes commit catalog
+        → let to = failed_to_define after unit line part area add place commit catalog file in
+        IsInDoubt unit part area add place bytes (last_stamp 0 to.entries)
+        (state_now opening file) (state_now opening to) }
 {}

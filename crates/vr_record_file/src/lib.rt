@@ -6,6 +6,7 @@
 
 mod asked;
 mod changing;
+mod defining;
 mod ending;
 mod file;
 mod laws;
@@ -15,4 +16,6 @@ mod reading;
 mod refusing;
 
 pub use file::RecordFile;
-pub use laws::{logged_places_are_locked, stopped_volumes_look_at_no_lock};
+pub use laws::{
+    defined_state, definition_in_doubt, logged_places_are_locked, stopped_volumes_look_at_no_lock,
+};

@@ -5,7 +5,13 @@ pub mod PlacedParts
 pub mod Fits
 pub mod PartsAt
 pub mod Claims
+pub mod NewAreas
 pub mod Worked
+pub mod AddedParts
+pub mod DefinedEntry
+pub mod CatalogParts
+pub mod NobodysBlocks
+pub mod Definitions
 pub mod Recorded
 pub mod Rooms
 pub mod Kept

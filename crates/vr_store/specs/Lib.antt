@@ -6,3 +6,4 @@ pub mod Cause
 pub mod Change
 pub mod PutBack
 pub mod LastImage
+pub mod Define

@@ -1,7 +1,10 @@
-//! What a read of a record fails with.
+//! What a read of a record, and a definition, fail with.
 ghost use Rattle.std.specs.Prelude.{◌≡◌};
+ghost use Rattle.vr_store.specs.Cause.{refused_by};
+ghost use Rattle.vr_store.specs.declared.no.DefineNo.TheVariants as refusals;
 ghost use Rattle.vr_store.specs.declared.no.LookNo.TheVariants.{Fault, Memory};
 
+use vr_start::StartNo;
 use vr_types::{DeviceFault, OutOfMemory};
 
 /// Why a record could not be copied.
@@ -26,5 +29,35 @@ impl From<OutOfMemory> for LookNo {
 
     fn from(_error: OutOfMemory) -> LookNo {
         LookNo::Memory
+    }
+}
+
+/// Why a part could not be defined.
+#[derive(Clone, Copy, PartialEq, Eq)]
+pub enum DefineNo {
+    /// Out of memory; it is taken before anything is logged.
+    Memory,
+    /// The log has no room for the before-image.
+    Full,
+    /// A fault of the device.
+    Fault(DeviceFault),
+}
+
+impl From<OutOfMemory> for DefineNo {
+    ghost from_gives = { λ _ no. no ≡ refusals.Memory };
+
+    fn from(_error: OutOfMemory) -> DefineNo {
+        DefineNo::Memory
+    }
+}
+
+impl From<StartNo> for DefineNo {
+    ghost from_gives = { λ no it. it ≡ refused_by no };
+
+    fn from(no: StartNo) -> DefineNo {
+        match no {
+            StartNo::Fault(fault) => DefineNo::Fault(fault),
+            StartNo::Memory => DefineNo::Memory,
+        }
     }
 }

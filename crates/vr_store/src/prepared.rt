@@ -29,7 +29,7 @@ pub struct Prepared {
 }
 
 /// The record of a before-image. Fails only if memory runs out.
-fn before_record(
+pub(crate) fn before_record(
     alloc: Global,
     unit: Unit,
     part: PartNo,

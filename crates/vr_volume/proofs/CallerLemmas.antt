@@ -19,5 +19,10 @@ pub use Rattle.vr_volume.proofs.PuttingBack.{left-stands}
 pub use Rattle.vr_volume.proofs.Among.{AreSome, keep-less, kept-among, some-skip}
 -- a record may go back where one of its length is kept
 pub use Rattle.vr_volume.proofs.Befores.{goes-back}
+-- a volume at rest stays so as blocks that are nobody's are given to a part, and as those of a part
+-- that isn't laid change
+pub use Rattle.vr_volume.proofs.Calls.{Anything}
+pub use Rattle.vr_volume.proofs.Nobodys.{OwnedBy, beside-due, beside-part}
+pub use Rattle.vr_volume.proofs.Nobodys.{beside-recovers, beside-rests, given-part, given-volume}
 -- what the blocks of an entry-sequenced part stand for is in the order of addresses
 pub use Rattle.vr_volume.proofs.Addressed.{stands-addressed}

@@ -9,14 +9,15 @@ use Rattle.vr_types.specs.Moments.{Guards}
 use Rattle.vr_types.specs.Regions.{IsImageOn, Outside, Touches}
 use Rattle.vr_types.specs.Seen.{Left, Seen}
 use Rattle.vr_types.specs.declared.geometry.Geometry.{Geometry}
-use Rattle.vr_types.proofs.CallerLemmas.{during-weaken}
+use Rattle.vr_types.proofs.CallerLemmas.{during-weaken, touches-then}
 use Rattle.vr_space.specs.Owners.{Owners}
 use Rattle.vr_space.specs.Part.{AddsTo, HasKeptRoom, HasOnly, HasRoom, InPart}
 use Rattle.vr_space.specs.Part.{IsAtRest, IsQuiet, Just, MayAlsoHold, Nothing, Shape, part_no}
 use Rattle.vr_attach.specs.Owning.{IsPastLog}
 use Rattle.vr_space.specs.Room.{Lengths}
 use Rattle.vr_space.proofs.CallerLemmas.{IsPartBlock, StaysPart, holds-less, only-weaken}
-use Rattle.vr_space.proofs.CallerLemmas.{rest-of-quiet, room-less, sound-grows, sound-less}
+use Rattle.vr_space.proofs.CallerLemmas.{one-owner, rest-of-quiet, rest-stays, room-less}
+use Rattle.vr_space.proofs.CallerLemmas.{sound-grows, sound-less}
 use Rattle.vr_history.specs.State.{BeforeImage}
 use Rattle.vr_log.specs.Content.{Content as LogContent}
 use Rattle.vr_log.specs.LogNow.{HasLog, IsLogOf, LogNow}
@@ -24,7 +25,7 @@ use Rattle.vr_log.specs.Spells.{Spells}
 use Rattle.vr_log.specs.Standing.{InLog}
 use Rattle.vr_log.specs.declared.record.LogRecord.{LogRecord}
 use Rattle.vr_volume.specs.Laid.{shape_by}
-use Rattle.vr_volume.specs.Laying.{IsFreeIn, IsLaidSo}
+use Rattle.vr_volume.specs.Laying.{InLogOr, IsFreeIn, IsLaidSo}
 use Rattle.vr_volume.specs.PutBack.{images_of, lengths_kept, oldest}
 use Rattle.vr_volume.specs.Safe.{IsItemOf, IsPartIn, IsPartSafe, IsSafe}
 use Rattle.vr_volume.specs.Safe.{IsSafeImage}
@@ -296,6 +297,30 @@ free-safe geometry log committed part shape at new free content is place found h
     ≡ None)
     here.0 none))
 
+-- ---- calls that touch a region
+
+abbrev pub Anything : Image → Type 0
+Anything image = Unit {0}
+
+-- a call that touches a region touches a wider one
+pub touches-wider : (region wider : ℕ → Type 0) (Q : Image → Type 0) (a b : Seen)
+    → ((n : ℕ) → region n → wider n) → Touches region Q a b → Touches wider Anything a b
+touches-wider region wider Q a b within call = record {
+  count_same = call.count_same;
+  size_same = call.size_same;
+  content = λ n out. call.content n (λ inside. out (within n inside));
+  adds_none = λ n block below out may. call.adds_none n block below
+      (λ inside. out (within n inside)) may;
+  moments = during-weaken a b
+      (λ image. IsImageOn (Outside region) a.count a.may image × Q image)
+      (λ image. IsImageOn (Outside wider) a.count a.may image × Anything image) call.moments
+      (λ image has. (
+        record { each = λ n below out. has.0.each n below (λ inside. out (within n inside)) },
+        tt,
+      ));
+  rest = λ image left. tt;
+}
+
 -- ---- a part while the log is put
 
 -- a part past the log stays as it is
@@ -310,6 +335,37 @@ stays-part geometry shape owners Q a b past call = record {
   fewer = λ n block below inside may. call.adds_none n block below
       (λ there. omega (arith, there.1, past n (part_no shape).0 inside)) may;
 }
+
+-- a call of the log, and then one of a part
+pub log-or-part : (geometry : Geometry) (shape : Shape) (owners : Owners) (P Q : Image → Type 0)
+    (a b d : Seen) → IsPastLog geometry owners → IsAtRest shape owners a
+    → Touches (InLog geometry) P a b
+    → (IsAtRest shape owners b → Touches (InPart shape owners) Q b d)
+    → Touches (InLogOr geometry shape owners) Anything a d
+log-or-part geometry shape owners P Q a b d past rests first second =
+    touches-then (InLogOr geometry shape owners) Anything a b d
+    (touches-wider (InLog geometry) (InLogOr geometry shape owners) P a b (λ n inside. inl inside)
+    first)
+    (touches-wider (InPart shape owners) (InLogOr geometry shape owners) Q b d
+    (λ n inside. inr inside)
+    (second (rest-stays a b shape owners (stays-part geometry shape owners P a b past first)
+    rests)))
+
+-- another part stays as it is in both
+pub stays-both : (geometry : Geometry) (shape other : Shape) (owners : Owners) (a b : Seen)
+    → IsPastLog geometry owners → (part_no other).0 ≢ (part_no shape).0
+    → Touches (InLogOr geometry shape owners) Anything a b → StaysPart other owners a b
+stays-both geometry shape other owners a b past apart call = record {
+  count = call.count_same;
+  size = call.size_same;
+  same = λ n inside. call.content n (outside n inside);
+  fewer = λ n block below inside may. call.adds_none n block below (outside n inside) may;
+}
+  where
+    outside : (n : ℕ) → InPart other owners n → InLogOr geometry shape owners n → ⊥
+    outside n inside = ⊎_elim
+        (λ there. omega (arith, there.1, past n (part_no other).0 inside))
+        (λ there. apart (one-owner other shape owners n inside there))
 
 -- ---- owners
 

@@ -86,7 +86,7 @@ counted-end records rec counted befores is none = kept-counted (records ++ rec �
 -- ---- what was withdrawn
 
 -- a place that no unit has logged has no before-image
-unlogged-none : (images : List BeforeImage) (part : ℕ) (place : List ℕ)
+pub unlogged-none : (images : List BeforeImage) (part : ℕ) (place : List ℕ)
     → All (λ (logged : Logged). logged.part ≡ part → logged.place ≢ place) (map logged_of images)
     → oldest images part place ≡ None
 unlogged-none [] part place free = refl
@@ -113,7 +113,7 @@ none-withdrawn (Some bytes) n is = cc
 
 -- At each place that no unit has logged where something was withdrawn, these records of a log have
 -- no before-image, and these contents have what was withdrawn.
-abbrev HasWithdrawn : State → List LogRecord → (ℕ → Content) → Type 0
+abbrev pub HasWithdrawn : State → List LogRecord → (ℕ → Content) → Type 0
 HasWithdrawn state records committed = (part : ℕ) (place : List ℕ) (n : ℕ)
     → IsUnlogged state part place → item_at (state.contents part) place ≡ Some (Withdrawn n)
     → (oldest (images_of records) part place ≡ None)
@@ -121,7 +121,7 @@ HasWithdrawn state records committed = (part : ℕ) (place : List ℕ) (n : ℕ)
 
 -- Where the committed contents have the records of the state and what was withdrawn, an image that
 -- recovers to them recovers to what is committed in the state.
-recovers-to : (geometry : Geometry) (number : ℕ) (image : Image) (log : LogContent)
+pub recovers-to : (geometry : Geometry) (number : ℕ) (image : Image) (log : LogContent)
     (committed : ℕ → Content) (state : State) (counted : List UnitOfRecovery)
     → RecoversItems geometry number log committed image
     → ((part : ℕ) → standing (committed part) ≡ committed_with counted state part)

@@ -47,7 +47,7 @@ some-none same = cc
 
 -- ---- images of other units
 
-logged-filter : (unit : UnitOfRecovery) (images : List BeforeImage)
+pub logged-filter : (unit : UnitOfRecovery) (images : List BeforeImage)
     → map logged_of (filter (λ (image : BeforeImage). is_other unit image.unit) images)
     ≡ filter (λ (logged : Logged). is_other unit logged.unit) (map logged_of images)
 logged-filter unit [] = refl

@@ -14,6 +14,7 @@ use Rattle.vr_types.specs.Seen.{Seen}
 use Rattle.vr_types.specs.declared.geometry.Geometry.{Geometry}
 use Rattle.vr_types.specs.declared.unit.Unit.{Unit as UnitOfRecovery}
 use Rattle.vr_space.specs.Owners.{Owners}
+use Rattle.vr_space.specs.Part.{Shape}
 use Rattle.vr_space.specs.Room.{Lengths, with_length, with_lengths}
 use Rattle.vr_space.proofs.CallerLemmas.{Rise, Under, fewer-room, rise-with, under-both, under-more}
 use Rattle.vr_history.specs.State.{BeforeImage}
@@ -26,7 +27,8 @@ use Rattle.vr_log.specs.declared.record.LogRecord.TheVariants.{Before, End}
 use Rattle.vr_log.proofs.Growing.{has_more}
 use Rattle.vr_volume.specs.Ended.{IsEndOf, ended}
 use Rattle.vr_volume.specs.PutBack.{AreAlone, image_in, images_of, length_in, lengths_kept}
-use Rattle.vr_volume.specs.Safe.{IsSafe, IsSafeBy}
+use Rattle.vr_volume.specs.Laid.{shape_by}
+use Rattle.vr_volume.specs.Safe.{IsPartSafe, IsSafe, IsSafeBy}
 use Rattle.vr_volume.proofs.Among.{keep-less, kept-among}
 use Rattle.vr_volume.proofs.Befores.{log-cases}
 use Rattle.vr_volume.proofs.Images.{image_of, live-append}
@@ -165,7 +167,7 @@ ended-under records unit kind part =
 module _ (geometry : Geometry) (number : ℕ) (owners : Owners) (log : LogNow)
     (committed : List LogRecord → ℕ → Content) (a : Seen) (unit : UnitOfRecovery) (kind : EndKind)
     (safe : IsSafe geometry number owners log committed a)
-    (end : IsEndOf geometry log committed unit kind a) where
+    (end : IsEndOf geometry owners log committed unit kind a) where
   -- by all records that there were
   by-all : IsSafeBy geometry owners log.records (committed log.records) a
   by-all = subst (λ
@@ -178,22 +180,29 @@ module _ (geometry : Geometry) (number : ℕ) (owners : Owners) (log : LogNow)
         is = refl;
       })))
 
+  -- a part that was laid before
+  still : (part : ℕ) (shape : Shape)
+      → shape_by geometry (committed (ended log unit kind) 0) part ≡ Some shape
+      → IsPartSafe shape owners part (images_of log.records) (committed log.records part) a
+      → IsPartSafe shape owners part (images_of (ended log unit kind))
+      (committed (ended log unit kind) part) a
+  still part shape laid before = record {
+    sound = before.sound;
+    items = end.items part shape laid;
+    room = fewer-room shape owners (lengths_kept (images_of (ended log unit kind)) part)
+        (lengths_kept (images_of log.records) part) a (ended-under log.records unit kind part)
+        (keep-less shape (lengths_kept (images_of (ended log unit kind)) part)
+        (lengths_kept (images_of log.records) part)
+        (ended-among log.records unit kind part by-all.committed.alone)) before.sound before.room;
+  }
+
   by-end : IsSafeBy geometry owners (ended log unit kind) (committed (ended log unit kind)) a
   by-end = record {
     committed = end.contents;
-    parts = λ part shape laid.
-        let before = by-all.parts part shape (end.laid part shape laid) in
-        record {
-          sound = before.sound;
-          items = end.items part shape laid;
-          room = fewer-room shape owners (lengths_kept (images_of (ended log unit kind)) part)
-              (lengths_kept (images_of log.records) part) a
-              (ended-under log.records unit kind part)
-              (keep-less shape (lengths_kept (images_of (ended log unit kind)) part)
-              (lengths_kept (images_of log.records) part)
-              (ended-among log.records unit kind part by-all.committed.alone)) before.sound
-              before.room;
-        };
+    parts = λ part shape laid. ⊎_elim
+        (λ before. still part shape laid (by-all.parts part shape before))
+        (λ safe-now. safe-now)
+        (end.laid part shape laid);
   }
 
   -- The blocks are safe whether or not an image has the end.

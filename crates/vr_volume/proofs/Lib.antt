@@ -26,5 +26,11 @@ pub mod EndCalls
 pub mod ForceCalls
 pub mod Lasting
 pub mod Crashing
+pub mod Nobodys
+pub mod Begun
+pub mod Entered
+pub mod Defined
+pub mod DefinedParts
+pub mod DefineCalls
 pub mod Addressed
 pub mod CallerLemmas

@@ -416,14 +416,13 @@ module _ (geometry : Geometry) (state : State) (laid : IsLaidState geometry stat
 
       -- What has to hold before the end is written.
       pub end-of : IsFirmFor geometry log state unit now → KeepsNoneIf kind state unit
-          → IsEndOf geometry log (committed_by state) unit kind now
+          → IsEndOf geometry owners log (committed_by state) unit kind now
       end-of firm none = record {
         forced = omega (arith, forced);
         contents = are-committed geometry state laid (ended log unit kind) inside-now images-left
             alone-left olds-ended;
-        laid = λ part shape is.
-            shape-same geometry state laid log.records part
-            ∙ sym (shape-same geometry state laid (ended log unit kind) part) ∙ is;
+        laid = λ part shape is. inl (shape-same geometry state laid log.records part
+            ∙ sym (shape-same geometry state laid (ended log unit kind) part) ∙ is);
         items = λ part shape is place found may gone. at-place part shape
             (sym (shape-same geometry state laid (ended log unit kind) part) ∙ is)
             place found may gone (oldest (images_of log.records) part place) refl;

@@ -128,7 +128,7 @@ bytes-more (first ∷ records) rec =
     ∙ (omega (arith, length-append (record_bytes first) (bytes_of records)))
 
 -- a record more takes what it needs
-used-append : (records : List LogRecord) (unit : UnitOfRecovery) (part : PartNo)
+pub used-append : (records : List LogRecord) (unit : UnitOfRecovery) (part : PartNo)
     (place : List ℕ) (old : Option (List ℕ))
     → used_by (records ++ Before unit part place old ∷ [])
     ≡ used_by records + need_of (live_in records) (Before unit part place old)
@@ -165,7 +165,7 @@ used-append records unit part place old =
         omega (arith, wider, more, need)
 
 -- the units that are live with a before-image more
-live-with : (records : List LogRecord) (logged : List Logged) (unit : UnitOfRecovery)
+pub live-with : (records : List LogRecord) (logged : List Logged) (unit : UnitOfRecovery)
     (part : PartNo) (place : List ℕ) (old : Option (List ℕ)) (image : Logged) → image.unit ≡ unit
     → ((other : UnitOfRecovery) → is_in other (live_in records)
     ≡ list_any (λ (l : Logged). same_unit other l.unit) logged)

@@ -1,12 +1,14 @@
 -- How a part that a call changes goes with the logs that an image may have. The rules are this
 -- project's own.
-use Rattle.std.specs.Prelude.{◌≡◌, ◌≢◌, ◌∷◌, ◌++◌, [], ℕ, List, Some, None, false}
+use Rattle.std.specs.Prelude.{◌≡◌, ◌≢◌, ◌⊎◌, ◌∷◌, ◌++◌, [], ℕ, List, Some, None, false}
 use Rattle.vr_types.specs.Content.{Content}
 use Rattle.vr_types.specs.declared.geometry.Geometry.{Geometry}
-use Rattle.vr_space.specs.Part.{Shape}
+use Rattle.vr_space.specs.Owners.{Owners}
+use Rattle.vr_space.specs.Part.{InPart, Shape}
 use Rattle.vr_space.specs.Room.{Lengths}
 use Rattle.vr_log.specs.Content.{Content as LogContent}
 use Rattle.vr_log.specs.LogNow.{IsForced, IsLogOf, LogNow, with_record}
+use Rattle.vr_log.specs.Standing.{InLog}
 use Rattle.vr_log.specs.declared.record.LogRecord.{LogRecord}
 use Rattle.vr_volume.specs.Laid.{shape_by}
 use Rattle.vr_volume.specs.PutBack.{images_of, lengths_kept, oldest}
@@ -28,6 +30,10 @@ IsLaidSo geometry log committed part shape kept = (content : LogContent) → IsL
 abbrev pub IsFreeIn : LogNow → ℕ → List ℕ → Type 0
 IsFreeIn log part place = (content : LogContent) → IsLogOf log content
     → oldest (images_of content.records) part place ≢ None
+
+-- the blocks of the log, and those of a part
+abbrev pub InLogOr : Geometry → Shape → Owners → ℕ → Type 0
+InLogOr geometry shape owners n = InLog geometry n ⊎ InPart shape owners n
 
 -- With the record the log was forced: each image has them all.
 pub record IsLogged (old : LogNow) (rec : LogRecord) (new : LogNow) : Type 0 where

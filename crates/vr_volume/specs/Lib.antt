@@ -15,3 +15,4 @@ pub mod EndedLog
 pub mod Due
 pub mod Durable
 pub mod Crashes
+pub mod Defining

@@ -7,6 +7,7 @@
 
 mod again;
 mod changing;
+mod defining;
 mod durable;
 mod forcing;
 mod laws;
@@ -16,6 +17,7 @@ mod write_ahead;
 
 pub use again::set_again;
 pub use changing::{do_stage, force_blocks, set_free};
+pub use defining::{define, nobodys_blocks_may_change, owners_grow};
 pub use durable::state_recovers;
 pub use forcing::{force_changed, forced_is_firm};
 pub use laws::{

@@ -109,14 +109,14 @@ pub fn append_end<B: Blocks>(
     ensures safe { IsTrue B.tells → (number : ℕ) (owners : Owners)
         (committed : List Rec → ℕ → Content)
         → IsSafe log.old.geometry number owners log.old committed (B.seen blocks.old)
-        → IsEndOf log.old.geometry log.old committed unit kind (B.seen blocks.old)
+        → IsEndOf log.old.geometry owners log.old committed unit kind (B.seen blocks.old)
         → Guards (B.seen blocks.old) (B.seen blocks.new)
         (IsSafeImage log.old.geometry number owners
         (with_record log.old (End unit kind)) committed) }
     ensures ended { IsTrue B.tells → OnOk result ((number : ℕ) (owners : Owners)
         (committed : List Rec → ℕ → Content)
         → IsSafe log.old.geometry number owners log.old committed (B.seen blocks.old)
-        → IsEndOf log.old.geometry log.old committed unit kind (B.seen blocks.old)
+        → IsEndOf log.old.geometry owners log.old committed unit kind (B.seen blocks.old)
         → IsSafe log.old.geometry number owners log.new committed (B.seen blocks.new)) }
     ensures touches { IsTrue B.tells → Touches (InLog log.old.geometry)
         (HasLog (with_record log.old (End unit kind))) (B.seen blocks.old) (B.seen blocks.new) }

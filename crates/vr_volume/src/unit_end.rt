@@ -29,7 +29,7 @@ use vr_types::{Blocks, DeviceFault, Unit};
 use vr_undo::Undo;
 
 /// Logs the end of a unit and forces it. Nothing outside the log is touched.
-fn log_end<B: Blocks>(
+pub(crate) fn log_end<B: Blocks>(
     blocks: &mut B,
     log: &mut UndoLog,
     unit: Unit,
@@ -53,7 +53,7 @@ fn log_end<B: Blocks>(
 }
 
 /// Begins the next generation of the log where no unit is live.
-fn restart_idle(log: &mut UndoLog)
+pub(crate) fn restart_idle(log: &mut UndoLog)
     requires sound { log.old.broken ≡ false }
     requires forced { IsForced log.old }
     ensures idle { live_in log.old.records ≡ [] → log.new ≡ restarted log.old }

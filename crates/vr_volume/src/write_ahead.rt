@@ -34,7 +34,7 @@ ghost use Rattle.vr_log.specs.declared.record.LogRecord.{LogRecord as Rec};
 ghost use Rattle.vr_log.specs.declared.record.LogRecord.TheVariants.{Before};
 ghost use Rattle.vr_history.specs.State.{BeforeImage, State};
 ghost use Rattle.vr_volume.specs.Cause.{HasChangeCause};
-ghost use Rattle.vr_volume.specs.Laying.{IsLaidBy, IsLogged};
+ghost use Rattle.vr_volume.specs.Laying.{InLogOr, IsLaidBy, IsLogged};
 ghost use Rattle.vr_volume.specs.Logged.{IsFirstBefore};
 ghost use Rattle.vr_volume.specs.PutBack.{lengths_kept};
 ghost use Rattle.vr_volume.specs.Rests.{IsGivenFor, IsPartAtRest, IsVolumeAtRest};
@@ -166,6 +166,11 @@ pub fn change<B: Blocks, P: Part, K: Kept>(
         → IsVolumeAtRest log.old.geometry number owners log.new after new (B.seen blocks.new)
         × IsPartAtRest log.old.geometry owners after new (P.shape part.old) (P.known part.new)
         (B.seen blocks.new)) }
+    // Nothing is touched but the log and the part.
+    ensures touches { IsTrue B.tells → (owners : Owners) → IsPastLog log.old.geometry owners
+        → IsAtRest (P.shape part.old) owners (B.seen blocks.old)
+        → Touches (InLogOr log.old.geometry (P.shape part.old) owners) (λ image. Prim.Unit {0})
+        (B.seen blocks.old) (B.seen blocks.new) }
     // What it may answer: that the log is full exactly where it is, and then nothing is done; a fault
     // of the device only where there was one.
     ensures full { IsFullWhere log.old (need_of (live_in log.old.records) rec.now) result }

@@ -43,7 +43,7 @@ returns-clause-went g c =
       run = λ told opening first run.
           event-run B.seen B.faults old new c.act-act.result c.args.after c.args.unit c.args.line
           c.args.request c.act-act.ensures.acted opening first run c.act-act.ensures.number
-          c.requires.serving.whole
+          c.requires.own c.requires.serving.whole
           (λ going. c.act-act.ensures.moments told opening run.held (may opening run.held) going)
           c.act-act.ensures.stopped (λ n block. g.met.B.Blocks.sized new.blocks n block told)
           (g.met.B.Blocks.cur_may new.blocks told)

@@ -26,7 +26,41 @@ use Rattle.vr_attach.specs.Owning.{IsPastLog}
 use Rattle.vr_volume.specs.Rests.{HoldsNoMore}
 use Rattle.vr_volume.proofs.Rested.{other-first-change, stays-apart, stays-holds, stays-then}
 use Rattle.vr_volume.proofs.Rested.{volume-first-change}
+use Rattle.vr_volume.specs.Laying.{InLogOr}
+use Rattle.vr_volume.proofs.Calls.{log-or-part, touches-wider}
+use Rattle.std.proofs.Common.{inl}
+use Rattle.vr_log.specs.Standing.{InLog}
 use Rattle.vr_volume.proofs.write_ahead.change.Goals as goal
+
+-- nothing is touched but the log and the part
+pub returns-in_err-log_forced-clause-touches : goal.returns-in_err-log_forced-clause-touches
+returns-in_err-log_forced-clause-touches g c told owners past rests =
+    let B = g.B.Blocks in
+    let log = c.args.log.now in
+    let shape = g.P.Part.shape c.args.part.now in
+    touches-wider (InLog log.geometry) (InLogOr log.geometry shape owners)
+    (HasLog (with_record log c.args.rec.now)) (B.seen c.args.blocks.now)
+    (B.seen c.log_forced.new.blocks) (λ n inside. inl inside) (c.log_forced.ensures.touches told)
+
+pub returns-in_err-set_free-clause-touches : goal.returns-in_err-set_free-clause-touches
+returns-in_err-set_free-clause-touches g c told owners past rests =
+    let B = g.B.Blocks in
+    let log = c.args.log.now in
+    let shape = g.P.Part.shape c.args.part.now in
+    log-or-part log.geometry shape owners (HasLog (with_record log c.args.rec.now))
+    (HasRoom shape (g.K.Kept.kept c.args.kept.now (part_no shape))) (B.seen c.args.blocks.now)
+    (B.seen c.log_forced.new.blocks) (B.seen c.set_free.new.blocks) past rests
+    (c.log_forced.ensures.touches told) (c.set_free.ensures.touches told owners)
+
+pub returns-clause-touches : goal.returns-clause-touches
+returns-clause-touches g c told owners past rests =
+    let B = g.B.Blocks in
+    let log = c.args.log.now in
+    let shape = g.P.Part.shape c.args.part.now in
+    log-or-part log.geometry shape owners (HasLog (with_record log c.args.rec.now))
+    (HasRoom shape (g.K.Kept.kept c.args.kept.now (part_no shape))) (B.seen c.args.blocks.now)
+    (B.seen c.log_forced.new.blocks) (B.seen c.set_free.new.blocks) past rests
+    (c.log_forced.ensures.touches told) (c.set_free.ensures.touches told owners)
 
 pub set_free-requires-clause-rests : goal.set_free-requires-clause-rests
 set_free-requires-clause-rests g c told =

@@ -43,7 +43,7 @@ returns-in-Ok-clause-held g c told opening held ending =
     (held-undone seen opening before c.enter_undone.new.self.file c.put_last.new.self
     c.put_last.new.blocks c.args.after unit c.args.line c.in-Ok.before.part c.in-Ok.before.place
     c.enter_undone.ensures.leaves (ap (λ (s : StoreNow). s.space) c.put_last.ensures.rest) going was
-    (c.enter_undone.ensures.state opening was.file kept)
+    (c.enter_undone.ensures.state opening was.file going kept)
     (c.in-Ok.ensures.back told before.number state (puts_back unit state) stored mine.current
     (undone-in before.store.log.geometry state unit image c.in-Ok.before.old refl
     (last-kept-in before.store (seen before.blocks) before.number state stored unit image

@@ -1,0 +1,16 @@
+use Rattle.std.proofs.Common.{◌≡◌, ◌∙◌, ap, sym, subst}
+use Rattle.vr_record_file.specs.Defining.{failed_to_define}
+use Rattle.vr_record_file.specs.Now.{FileNow, IsStateOf, failed}
+use Rattle.vr_record_file.proofs.Definitions.{in_doubt_is}
+use Rattle.vr_record_file.proofs.file.RecordFile.fail_definition.Goals as goal
+
+pub returns-clause-state : goal.returns-clause-state
+returns-clause-state c = λ opening bytes is may.
+    let leaves : c.fail_write.new.self ≡ failed_to_define c.args.after c.args.unit c.args.line
+    c.args.part c.args.area c.args.add c.args.place c.args.commit c.args.catalog c.args.self.now =
+    c.fail_write.ensures.leaves
+    ∙ ap (λ (to : FileNow). failed 0 c.args.unit c.args.line c.args.commit to)
+    c.enter_added.ensures.leaves in
+    subst (IsStateOf opening) (sym leaves) (in_doubt_is opening c.args.self.now c.args.after
+    c.args.line c.args.unit c.args.part c.args.area c.args.add c.args.place bytes c.args.commit
+    c.args.catalog is may)

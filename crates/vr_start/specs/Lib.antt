@@ -1,0 +1,3 @@
+pub mod Startable
+pub mod Cause
+pub mod FirstHead
