@@ -14,6 +14,6 @@ abbrev pub may_define_on : Option (List ℕ) → ℕ → Bool
 may_define_on None number = number == 0
 may_define_on (Some text) number = bytes_eq text (codes "*") || bytes_eq text (short_serial number)
 
--- the lowest of so many volumes on which it may
+-- the lowest of this many volumes on which it may
 abbrev pub chosen : ℕ → Option (List ℕ) → Option ℕ
 chosen count volume = find (may_define_on volume) (range_with_len 0 count)

@@ -27,6 +27,6 @@ pub(crate) fn ask<V: OwnedVolume>(
             answer => return Ok(answer),
         }
     }
-    // No volume has so many blocks that it could split that often.
+    // No volume has the blocks to split that often.
     Err(OutOfMemory)
 }

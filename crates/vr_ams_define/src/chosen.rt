@@ -25,7 +25,7 @@ fn may_define_on(volume: &Option<Bytes>, number: usize) -> bool
     }
 }
 
-/// The lowest of so many volumes on which it may.
+/// The lowest of this many volumes on which it may.
 pub(crate) fn chosen(count: usize, volume: &Option<Bytes>) -> Option<usize>
     ensures lowest { result ≡ stated.chosen count volume.now }
     ensures within { IfSome result (λ number. number < count) }
