@@ -29,7 +29,7 @@ use Rattle.vr_history.specs.Step.{MayEnter, Step, after_what, case_of}
 use Rattle.vr_history.proofs.CallerLemmas.{last_stamp-append, state_of-append, steps-append}
 use Rattle.vr_answer.proofs.CallerLemmas.{after_refused}
 use Rattle.vr_record_file.specs.Now.{FileNow, IsOf, IsStateOf, MayBeAsked, entry_next, files_let_go}
-use Rattle.vr_record_file.specs.Now.{failed, next_stamp, state_now, with_event}
+use Rattle.vr_record_file.specs.Now.{failed, faulted, next_stamp, state_now, with_event}
 use Rattle.vr_record_file.specs.Now.{with_memory}
 use Rattle.vr_record_file.proofs.Legal.{MayCome, NoUtilityUndoes, begun_more, if_true}
 use Rattle.vr_record_file.proofs.Legal.{is_no_fault, legal-append}
@@ -173,7 +173,34 @@ module _ (geometry : Geometry) (opening : State) (entries : List Entry) (after l
       utilities-append (entries ++ asked ∷ []) fault tt
       (utilities-append entries asked may utilities)
 
--- a fault of a write
+-- a fault of a write that met no request
+pub faulted_state : (opening : State) (file : FileNow) (after line : ℕ) (unit : UnitOfRecovery)
+    → file.stopped ≡ None → IsStateOf opening file
+    → IsStateOf opening (faulted after unit line file)
+faulted_state opening file after line unit going is =
+    let stamp : ℕ = next_stamp file.entries after in
+    let now = is.now in
+    let whole : IsOf (record file { stopped = Some stamp }) (stops stamp
+    (state_now opening file)) = record {
+      catalog = now.catalog;
+      locks = λ none. absurd (none-some stamp (sym none));
+      positions = now.positions;
+      numbers = now.numbers;
+      stopped = refl;
+      alone = now.alone;
+      owned = now.owned;
+      locked = now.locked;
+      of_decks = λ none. absurd (none-some stamp (sym none));
+      of_clusters = λ none. absurd (none-some stamp (sym none));
+      kept_by_decks = λ none. absurd (none-some stamp (sym none));
+      deck_clusters = now.deck_clusters;
+    } in
+    entered opening file (record file { stopped = Some stamp }) after line unit (Faulted Write) is (
+      refl,
+      sym now.stopped ∙ going,
+    ) tt refl whole
+
+-- and one that refused a request
 module _ (opening : State) (file : FileNow) (after line : ℕ) (unit : UnitOfRecovery)
     (request : Request) (before : List Lock) (going : file.stopped ≡ None)
     (is : IsStateOf opening (record file { locks = before }))

@@ -197,7 +197,15 @@ abbrev pub lets_go : ℕ → Request → FileNow → FileNow
 lets_go deck request file =
     record file { files = files_let_go deck (file_of request) file.files }
 
--- A write failed: the request is refused, and at the next stamp the fault stops the volume.
+-- a write failed: the fault stops the volume
+abbrev pub faulted : ℕ → UnitOfRecovery → ℕ → FileNow → FileNow
+faulted after unit line file =
+    record (with_event after unit line (Faulted Write) file) {
+      stopped = Some (next_stamp file.entries after);
+    }
+
+-- A write failed as a request was met: it is refused, and at the next stamp the fault stops the
+-- volume.
 abbrev pub asked_failing : ℕ → UnitOfRecovery → ℕ → Request → FileNow → FileNow
 asked_failing after unit line request file =
     with_event after unit line (Asked request (Refused WriteFault))
@@ -205,10 +213,7 @@ asked_failing after unit line request file =
 
 abbrev pub failed : ℕ → UnitOfRecovery → ℕ → Request → FileNow → FileNow
 failed after unit line request file =
-    let asked = asked_failing after unit line request file in
-    record (with_event 0 unit line (Faulted Write) asked) {
-      stopped = Some (next_stamp asked.entries 0);
-    }
+    faulted 0 unit line (asked_failing after unit line request file)
 
 -- a unit ends: its locks go, its deck's files let go what they hold, and its deck's number rises
 abbrev pub ended : UnitOfRecovery → FileNow → FileNow

@@ -12,8 +12,8 @@ ghost use Rattle.vr_history.specs.Legal.{is_write_fault};
 ghost use Rattle.vr_history.specs.Merged.{last_stamp};
 ghost use Rattle.vr_history.specs.State.{State};
 ghost use Rattle.vr_history.specs.Step.{stand_lost, stand_refused};
-ghost use Rattle.vr_record_file.specs.Now.{CanSet, IsStateOf, MayBeAsked, failed, lets_go};
-ghost use Rattle.vr_record_file.specs.Now.{with_event};
+ghost use Rattle.vr_record_file.specs.Now.{CanSet, IsStateOf, MayBeAsked, failed, faulted};
+ghost use Rattle.vr_record_file.specs.Now.{lets_go, with_event};
 
 use crate::file::RecordFile;
 use vr_history::What;
@@ -111,6 +111,23 @@ impl RecordFile {
         self.stopped = Some(stamp);
     }
 
+    /// Enters a fault of a write that met no request, which stops the volume (`leaves`). It takes
+    /// no memory.
+    pub fn fault(&mut self, unit: Unit, line: u32, after: u64)
+        requires room { 0 < self.old.room }
+        requires last { last_stamp 0 self.old.entries < 2 ^ 64 - 1 }
+        requires after { after < 2 ^ 64 - 1 }
+        requires going { self.old.stopped ≡ None }
+        ensures leaves { self.new ≡ faulted after unit line self.old }
+        ensures state { (opening : State) → IsStateOf opening self.old
+            → IsStateOf opening self.new }
+    {
+        let stamp = self.next_stamp(after);
+        let fault = DeviceFault::Write;
+        self.enter(unit, line, What::Faulted { fault }, after);
+        self.stop(stamp);
+    }
+
     /// Enters a request that a fault of a write refused, and at the next stamp the fault, which
     /// stops the volume (`leaves`). The unit may have taken the locks of the request before: the
     /// history has none of them (`state`). It takes no memory.
@@ -128,9 +145,6 @@ impl RecordFile {
     {
         let reply = Reply::Refused(Refusal::WriteFault);
         self.enter_asked(unit, line, request, reply, after);
-        let stamp = self.next_stamp(0);
-        let fault = DeviceFault::Write;
-        self.enter(unit, line, What::Faulted { fault }, 0);
-        self.stop(stamp);
+        self.fault(unit, line, 0);
     }
 }

@@ -1,5 +1,5 @@
 -- A part that is laid last, under a number of its own.
-use Rattle.std.proofs.Common.{◌≡◌, ◌≢◌, ◌<◌, ◌+◌, ◌==◌, ℕ, Bool, true, false, cond, List, [], ◌∷◌}
+use Rattle.std.proofs.Common.{◌≡◌, ◌≢◌, ℕ, Bool, true, false, cond, List, [], ◌∷◌}
 use Rattle.std.proofs.Common.{◌++◌, Option, Some, None, refl, sym, ap, subst, ◌∙◌}
 use Rattle.std.proofs.Common.{map, nat_eq, set}
 use Rattle.std.specs.Prelude.{All, IfSome, find}
@@ -163,6 +163,20 @@ grown-is store added parts space owned more areas =
       space = owners;
     } in s) areas
 
+-- the parts of a store, beside one that it doesn't have
+pub all-others : (store : StoreNow) (part : ℕ) (now : Seen) → part_among store.parts part ≡ None
+    → IsSet store now → All (λ (other : PartNow). IsPartSet now other × (other.number.0 ≢ part)
+    × OwnsItsChain store.space other) store.parts
+all-others store part now fresh set = All-weaker (λ (other : PartNow). (IsPartSet now other
+    × OwnsItsChain store.space other) × (other.number.0 ≢ part))
+    (λ (other : PartNow). IsPartSet now other × (other.number.0 ≢ part)
+    × OwnsItsChain store.space other)
+    (λ other is. (is.0.0, is.1, is.0.1)) store.parts
+    (all-both (λ (other : PartNow). IsPartSet now other × OwnsItsChain store.space other)
+    (λ (other : PartNow). other.number.0 ≢ part) store.parts
+    (all-both (IsPartSet now) (OwnsItsChain store.space) store.parts set.parts set.owns)
+    (all-apart part store.parts fresh))
+
 module _ (store : StoreNow) (part : PartNo) (area : ℕ) (added : PartNow)
     (least : least_free store.space ≡ Some area) (none : owned_count part store.space ≡ 0)
     (fresh : part_among store.parts part.0 ≡ None) (number : added.number ≡ part) where
@@ -202,17 +216,5 @@ module _ (store : StoreNow) (part : PartNo) (area : ℕ) (added : PartNow)
         owns = All-push (OwnsItsChain grown.space) store.parts added
             (All-weaker (λ (other : PartNow). IsPartSet b other × (other.number.0 ≢ part.0)
             × OwnsItsChain store.space other) (OwnsItsChain grown.space) (owns-still b) store.parts
-            (both-of set)) owns;
+            (all-others store part.0 b fresh set)) owns;
       }
-    where
-      both-of : IsSet store b → All (λ (other : PartNow). IsPartSet b other
-          × (other.number.0 ≢ part.0) × OwnsItsChain store.space other) store.parts
-      both-of set = All-weaker (λ (other : PartNow). (IsPartSet b other
-          × OwnsItsChain store.space other) × (other.number.0 ≢ part.0))
-          (λ (other : PartNow). IsPartSet b other × (other.number.0 ≢ part.0)
-          × OwnsItsChain store.space other)
-          (λ other is. (is.0.0, is.1, is.0.1)) store.parts
-          (all-both (λ (other : PartNow). IsPartSet b other × OwnsItsChain store.space other)
-          (λ (other : PartNow). other.number.0 ≢ part.0) store.parts
-          (all-both (IsPartSet b) (OwnsItsChain store.space) store.parts set.parts set.owns)
-          (all-apart part.0 store.parts fresh))

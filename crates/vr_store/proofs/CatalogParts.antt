@@ -3,7 +3,6 @@ use Rattle.std.proofs.Common.{◌≡◌, ◌<◌, ◌^◌, ℕ, Bool, IsTrue, Li
 use Rattle.std.proofs.Common.{length, subst}
 use Rattle.std.specs.Prelude.{IfSome}
 use Rattle.vr_types.specs.Seen.{Seen}
-use Rattle.vr_types.specs.declared.unit.PartNo.{PartNo}
 use Rattle.vr_space.specs.Known.{HasMet}
 use Rattle.vr_space.specs.Numbered.{number_of}
 use Rattle.vr_space.specs.Part.{IsOn, IsPlaceOf, IsRecordOf, KeyedShape, NumberedShape, Shape}

@@ -5,7 +5,6 @@ use Rattle.std.proofs.Common.{List, [], ◌∷◌, ◌++◌, Option, Some, None,
 use Rattle.std.proofs.Common.{arith, length, map}
 use Rattle.std.specs.Option.{option_map}
 use Rattle.std.specs.Prelude.{All}
-use Rattle.std.proofs.lemmas.Bool.{true≢false}
 use Rattle.std.proofs.lemmas.Bool.Decides.{Decides-eqb}
 use Rattle.std.proofs.lemmas.List.{take_all}
 use Rattle.std.proofs.lemmas.List.Elements.{All-cons, All-head, All-nil, All-push, All-tail}
@@ -32,7 +31,7 @@ use Rattle.vr_volume.specs.Volume.{CanPutBack}
 use Rattle.vr_volume.proofs.Alone.{is-there}
 use Rattle.vr_volume.proofs.CallerLemmas.{shape-same}
 use Rattle.vr_store.specs.Define.{IsBegun}
-use Rattle.vr_store.specs.Parts.{but_split, with_part}
+use Rattle.vr_store.specs.Parts.{but_split}
 use Rattle.vr_store.specs.Store.{IsPartSet, IsRestedPart, IsSet, IsStored, PartNow, StoreNow}
 use Rattle.vr_store.specs.Store.{blocks_of, has_number, owners_of, part_among, shape_among}
 use Rattle.vr_store.proofs.AddedParts.{among-added, among-more, with-added}

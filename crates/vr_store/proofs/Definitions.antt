@@ -1,8 +1,8 @@
 -- A definition of a cluster over a store: what its two steps, the new part and its record, make of
 -- the store together.
 use Rattle.std.proofs.Common.{◌≡◌, ◌≢◌, ◌⊎◌, inl, ◌==◌, ◌++◌, ◌∷◌, ◌∙◌, ℕ, Bool, true, false, cond, IsTrue}
-use Rattle.std.proofs.Common.{List, [], Option, Some, None, refl, sym, ap, subst, map}
-use Rattle.std.specs.Prelude.{IfSome}
+use Rattle.std.proofs.Common.{List, [], Option, Some, None, refl, sym, ap, subst}
+use Rattle.std.specs.Prelude.{Err, IfErr, IfSome, Ok, Result}
 use Rattle.std.specs.Option.{option_map}
 use Rattle.std.proofs.lemmas.Bool.{true≢false}
 use Rattle.std.proofs.lemmas.Bool.Decides.{Decides-eqb}
@@ -10,13 +10,12 @@ use Rattle.vr_types.specs.Image.{Image}
 use Rattle.vr_types.specs.Moments.{Guards}
 use Rattle.vr_types.specs.Seen.{Left, Seen}
 use Rattle.vr_types.specs.Space.{least_free, released}
-use Rattle.vr_types.specs.declared.geometry.Geometry.{Geometry}
 use Rattle.vr_types.specs.declared.unit.AreaNo.{AreaNo}
 use Rattle.vr_types.specs.declared.unit.PartNo.{PartNo}
 use Rattle.vr_types.specs.declared.unit.Unit.{Unit as UnitOfRecovery}
 use Rattle.vr_types.proofs.CallerLemmas.{guards-then, guards-weaken}
 use Rattle.vr_catalog.specs.declared.definition.Definition.{Definition}
-use Rattle.vr_space.specs.Part.{Shape, owned_count, part_no}
+use Rattle.vr_space.specs.Part.{Shape, owned_count}
 use Rattle.vr_attach.specs.Laid.{shape_by_kind}
 use Rattle.vr_history.specs.State.{State}
 use Rattle.vr_volume.specs.Crashes.{RecoversTo}
@@ -24,7 +23,7 @@ use Rattle.vr_volume.specs.Defining.{CanDefine, IsStarted}
 use Rattle.vr_store.specs.Change.{IsSettable}
 use Rattle.vr_store.specs.Define.{HasNewPart, HasNewShape, IsBegun, IsDefining, IsEntryReady, IsMetAt}
 use Rattle.vr_store.specs.Define.{IsStartedIn, TouchesAreasOf}
-use Rattle.vr_store.specs.Parts.{OnlyMet, but_met, with_part}
+use Rattle.vr_store.specs.Parts.{OnlyMet, with_part}
 use Rattle.vr_store.specs.Store.{IsSet, PartNow, Stands, StoreNow, has_number, part_among}
 use Rattle.vr_store.specs.Store.{owners_of, shape_among}
 use Rattle.vr_store.proofs.AddedParts.{among-added, among-more, with-added}
@@ -39,6 +38,12 @@ some-none same = cc
 
 some-same : {X : Type 0} {x y : X} → Some x ≡ Some y → x ≡ y
 some-same same = cc
+
+-- what holds whatever a call fails with
+pub if-err-any : {T E : Type 0} (result : Result T E) (P : E → Type 0) → ((fault : E) → P fault)
+    → IfErr result P
+if-err-any (Ok value) P holds = tt
+if-err-any (Err fault) P holds = holds fault
 
 -- ---- images
 

@@ -8,6 +8,7 @@ pub mod Claims
 pub mod NewAreas
 pub mod Worked
 pub mod AddedParts
+pub mod GivenBack
 pub mod DefinedEntry
 pub mod CatalogParts
 pub mod NobodysBlocks

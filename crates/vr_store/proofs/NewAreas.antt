@@ -1,6 +1,6 @@
 -- The least free area of a volume, given to a part that owned none: which blocks are the part's then,
 -- and that the areas are as before once it is taken back.
-use Rattle.std.proofs.Common.{◌≡◌, ◌≢◌, ◌⊎◌, inl, inr, ◌<◌, ◌+◌, ◌-◌, ◌/◌, ◌∷◌, ◌==◌, ℕ, Bool}
+use Rattle.std.proofs.Common.{◌≡◌, ◌≢◌, ◌⊎◌, inl, inr, ◌<◌, ◌+◌, ◌-◌, ◌/◌, ◌∷◌, ℕ, Bool}
 use Rattle.std.proofs.Common.{true, false, cond, List, [], Option, Some, None, refl, sym, ap, ◌∙◌}
 use Rattle.std.proofs.Common.{arith, get_or, length, set, suc, zero}
 use Rattle.std.specs.Prelude.{filter, is_none, nat_le}
@@ -43,7 +43,7 @@ module _ (part : PartNo) where
       by_test false is some = (is, some)
 
   -- frees none,
-  freed-none : (areas : List (Option PartNo)) → owned_count part areas ≡ 0
+  pub freed-none : (areas : List (Option PartNo)) → owned_count part areas ≡ 0
       → released part areas ≡ areas
   freed-none [] none = refl
   freed-none (owner ∷ areas) none =
@@ -89,6 +89,11 @@ module _ (part : PartNo) (areas : List (Option PartNo)) (area : ℕ)
 
   was-free : get_or areas area None ≡ None
   was-free = none-is (get_or areas area None) (position-Some is_none areas area None least).1
+
+  -- they aren't what they were
+  pub given-differs : given ≢ areas
+  given-differs same = some-none (sym (get_or-set_same areas area (Some part) None there)
+      ∙ ap (λ (owners : List (Option PartNo)). get_or owners area None) same ∙ was-free)
 
   -- taken back, they are as before
   pub back : released part given ≡ areas

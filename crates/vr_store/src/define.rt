@@ -39,9 +39,9 @@ use vr_types::{AreaNo, Blocks, DeviceFault, Geometry, PartNo, Place, Unit};
 use vr_volume::define;
 
 impl<P: Part> Store<P> {
-    /// Gives the catalog these bytes at their place, as the record of the part that is laid last: the
-    /// unit logs that none stood there, and commits. Where room was asked for there, no read is made.
-    /// `Full` says that the log is, and then nothing is done; `Write` is the device's.
+    /// Gives the catalog these bytes at their place, as the record of the part that is laid last:
+    /// the unit logs that none stood there, and commits. Where room was asked for there, no read is
+    /// made. `Full` says that the log is, and then nothing is done; `Write` is the device's.
     fn add_entry<B: Blocks>(
         &mut self,
         blocks: &mut B,
@@ -53,7 +53,8 @@ impl<P: Part> Store<P> {
         requires set { IsSet self.old (B.seen blocks.old) }
         requires rec { rec.now ≡ entry_before unit place.now }
         requires catalog { part_among self.old.parts 0 ≢ None }
-        requires place { IfSome (shape_among self.old.parts 0) (λ shape. IsPlaceOf shape place.now) }
+        requires place { IfSome (shape_among self.old.parts 0)
+            (λ shape. IsPlaceOf shape place.now) }
         requires item { IfSome (shape_among self.old.parts 0)
             (λ shape. IsRecordOf shape place.now bytes.now) }
         requires met { IfSome (part_among self.old.parts 0) (λ part. HasMet part.known place.now) }
@@ -99,6 +100,22 @@ impl<P: Part> Store<P> {
             }
             None => unreachable!("the catalog is laid"),
         }
+    }
+}
+
+impl<P: Part> Store<P> {
+    /// Gives back the areas of a part that isn't laid. Where it has none, as on a volume at rest,
+    /// nothing changes.
+    pub fn give_back<B: Blocks>(&mut self, blocks: &B, part: PartNo)
+        requires fresh { part_among self.old.parts part.0 ≡ None }
+        ensures leaves { self.new ≡ record self.old { space = released part self.old.space } }
+        ensures unowned { owned_count part self.new.space ≡ 0 }
+        ensures set { IsSet self.old (B.seen blocks.now) → IsSet self.new (B.seen blocks.now) }
+        ensures same { owned_count part self.old.space ≡ 0 → self.new ≡ self.old }
+        ensures none_free { least_free self.new.space ≡ None → least_free self.old.space ≡ None }
+    {
+        let _ = blocks;
+        self.space.release(part);
     }
 }
 
@@ -178,7 +195,8 @@ impl<P: Start + Drop> Store<P> {
         requires unowned { owned_count part self.old.space ≡ 0 }
         requires least { least_free self.old.space ≡ Some area.0 }
         requires sizes { IsStartable self.old.log.geometry definition.now }
-        requires place { IfSome (shape_among self.old.parts 0) (λ shape. IsPlaceOf shape place.now) }
+        requires place { IfSome (shape_among self.old.parts 0)
+            (λ shape. IsPlaceOf shape place.now) }
         requires item { IfSome (shape_among self.old.parts 0)
             (λ shape. IsRecordOf shape place.now bytes.now) }
         // Room was asked for there: no read is made of the catalog.
@@ -209,12 +227,21 @@ impl<P: Start + Drop> Store<P> {
             (entry_before unit place.now)) unit Committed self.new.log) }
         ensures undo { self.new.undo ≡ self.old.undo }
         ensures changed { self.new.changed ≡ self.old.changed }
-        // Where no write failed, nothing of it is done; blocks of the area that was free may differ.
+        // Where no write failed, nothing of it is done; blocks of the area that was free may
+        // differ.
         ensures unchanged { IfErr result (λ no. no ≢ Fault Write
             → (self.new ≡ self.old) × IsSet self.new (B.seen blocks.new)) }
         ensures stored { IsTrue B.tells → IfErr result (λ no. no ≢ Fault Write
             → (volume : ℕ) (state : State) → IsStored volume self.old state (B.seen blocks.old)
             → IsStored volume self.new state (B.seen blocks.new)) }
+        // Where it fails, the areas are as they were, or that one is the part's.
+        ensures kept { OnErr result ((self.new.space ≡ self.old.space)
+            ⊎ (self.new.space ≡ slice_set self.old.space area.0 (Some part))) }
+        // Where they are as they were, each image recovers to what was committed before.
+        ensures begun { IsTrue B.tells → OnErr result (self.new.space ≡ self.old.space
+            → (volume : ℕ) (state : State) → IsStored volume self.old state (B.seen blocks.old)
+            → Guards (B.seen blocks.old) (B.seen blocks.new)
+            (RecoversTo self.old.log.geometry volume state [])) }
         // It reads nothing.
         ensures never_read { IfErr result (λ no. no ≢ Fault DeviceRead) }
         ensures full { IsFullFor self.old.log (entry_need self.old.log unit place.now) result }
@@ -232,12 +259,12 @@ impl<P: Start + Drop> Store<P> {
         }
     }
 
-    /// Lays a part of this definition, without records, in the least free area, and gives the catalog
-    /// these bytes at their place, as the record of it: the unit logs that none stood there, and
-    /// commits. `geometry` is the volume's. It reads nothing, and takes all memory before anything is
-    /// logged. `Memory`, and `Full`, where the log has no room for the before-image, leave the store
-    /// as it was. A fault is the device's, of a write: it leaves the store as no clause says, but each
-    /// image recovers to what was committed before, or to what is then.
+    /// Lays a part of this definition, without records, in the least free area, and gives the
+    /// catalog these bytes at their place, as the record of it: the unit logs that none stood
+    /// there, and commits. `geometry` is the volume's. It reads nothing, and takes all memory before
+    /// anything is logged. `Memory`, and `Full`, where the log has no room for the before-image,
+    /// leave the store as it was. A fault is the device's, of a write: it leaves the store as no
+    /// clause says, but each image recovers to what was committed before, or to what is then.
     pub fn define<B: Blocks>(
         &mut self,
         alloc: Global,
@@ -257,7 +284,8 @@ impl<P: Start + Drop> Store<P> {
         requires unowned { owned_count part self.old.space ≡ 0 }
         requires least { least_free self.old.space ≡ Some area.0 }
         requires sizes { IsStartable self.old.log.geometry definition.now }
-        requires place { IfSome (shape_among self.old.parts 0) (λ shape. IsPlaceOf shape place.now) }
+        requires place { IfSome (shape_among self.old.parts 0)
+            (λ shape. IsPlaceOf shape place.now) }
         requires item { IfSome (shape_among self.old.parts 0)
             (λ shape. IsRecordOf shape place.now bytes.now) }
         // Room was asked for there: no read is made of the catalog.
@@ -288,12 +316,21 @@ impl<P: Start + Drop> Store<P> {
             (entry_before unit place.now)) unit Committed self.new.log) }
         ensures undo { self.new.undo ≡ self.old.undo }
         ensures changed { self.new.changed ≡ self.old.changed }
-        // Where no write failed, nothing of it is done; blocks of the area that was free may differ.
+        // Where no write failed, nothing of it is done; blocks of the area that was free may
+        // differ.
         ensures unchanged { IfErr result (λ no. no ≢ Fault Write
             → (self.new ≡ self.old) × IsSet self.new (B.seen blocks.new)) }
         ensures stored { IsTrue B.tells → IfErr result (λ no. no ≢ Fault Write
             → (volume : ℕ) (state : State) → IsStored volume self.old state (B.seen blocks.old)
             → IsStored volume self.new state (B.seen blocks.new)) }
+        // Where it fails, the areas are as they were, or that one is the part's.
+        ensures kept { OnErr result ((self.new.space ≡ self.old.space)
+            ⊎ (self.new.space ≡ slice_set self.old.space area.0 (Some part))) }
+        // Where they are as they were, each image recovers to what was committed before.
+        ensures begun { IsTrue B.tells → OnErr result (self.new.space ≡ self.old.space
+            → (volume : ℕ) (state : State) → IsStored volume self.old state (B.seen blocks.old)
+            → Guards (B.seen blocks.old) (B.seen blocks.new)
+            (RecoversTo self.old.log.geometry volume state [])) }
         // It reads nothing.
         ensures never_read { IfErr result (λ no. no ≢ Fault DeviceRead) }
         ensures full { IsFullFor self.old.log (entry_need self.old.log unit place.now) result }

@@ -1,6 +1,6 @@
 -- A part that is made in the least free area: it owns that one alone, and where it can't be made the
 -- area is free again.
-use Rattle.std.proofs.Common.{◌≡◌, ◌∙◌, ℕ, List, Option, Some, ap, sym, subst}
+use Rattle.std.proofs.Common.{◌∙◌, List, Option, ap, subst}
 use Rattle.vr_types.specs.Space.{released}
 use Rattle.vr_types.specs.declared.unit.PartNo.{PartNo}
 use Rattle.vr_space.specs.Part.{owned_count}

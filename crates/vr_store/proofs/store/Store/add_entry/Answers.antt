@@ -1,5 +1,5 @@
 -- The catalog is given a record by the event of its blocks, with the store as it is seen.
-use Rattle.std.proofs.Common.{◌≡◌, ◌⊎◌, ◌<◌, ◌+◌, ◌^◌, [], None, Some, ap, map, refl, set, subst}
+use Rattle.std.proofs.Common.{◌⊎◌, ◌<◌, ◌+◌, ◌^◌, [], None, Some, ap, map, refl, set, subst}
 use Rattle.std.proofs.Common.{sym}
 use Rattle.vr_types.specs.Moments.{Guards}
 use Rattle.vr_types.specs.declared.unit.PartNo.{PartNo}

@@ -1,8 +1,9 @@
 -- A definition: a part is made, and the catalog gets its record; where the log is full the part is
 -- taken back.
-use Rattle.std.proofs.Common.{◌≡◌, ◌∙◌, ◌<◌, ◌+◌, ◌^◌, [], Option, None, Err, Ok, Result, Some, ap, inl, subst, sym}
+use Rattle.std.proofs.Common.{◌∙◌, ◌<◌, ◌+◌, ◌^◌, [], Option, ap, inl, inr, subst, sym}
 use Rattle.std.specs.Option.{option_map}
-use Rattle.std.specs.Prelude.{IfErr, IfSome}
+use Rattle.std.specs.Prelude.{IfSome}
+use Rattle.vr_types.specs.Moments.{Guards}
 use Rattle.vr_types.specs.Space.{released}
 use Rattle.vr_types.proofs.CallerLemmas.{guards-weaken}
 use Rattle.vr_space.specs.Known.{HasMet}
@@ -10,17 +11,12 @@ use Rattle.vr_space.specs.Part.{IsPlaceOf, IsRecordOf, Shape}
 use Rattle.vr_log.specs.LogNow.{IsFullNo}
 use Rattle.vr_volume.specs.Crashes.{RecoversTo}
 use Rattle.vr_store.specs.Store.{IsSet, IsStored, PartNow, StoreNow}
-use Rattle.vr_store.proofs.Definitions.{Either, begun-here, catalog-same, guards-defined, new-part}
-use Rattle.vr_store.proofs.Definitions.{new-shape, ready-here, taken-back}
+use Rattle.vr_store.proofs.Definitions.{Either, begun-here, catalog-same, guards-defined}
+use Rattle.vr_store.proofs.Definitions.{if-err-any, new-part, new-shape, ready-here, taken-back}
+use Rattle.vr_store.proofs.NewAreas.{given-differs}
 use Rattle.vr_store.proofs.NobodysBlocks.{guards-beside, stored-beside}
 use Rattle.vr_store.proofs.PutNothing.{set-still}
 use Rattle.vr_store.proofs.store.Store.define_by.Goals as goal
-
--- what holds whatever a call fails with
-if-err-any : {T E : Type 0} (result : Result T E) (P : E → Type 0) → ((fault : E) → P fault)
-    → IfErr result P
-if-err-any (Ok value) P holds = tt
-if-err-any (Err fault) P holds = holds fault
 
 pub returns-in_err-start_part-clause-moments : goal.returns-in_err-start_part-clause-moments
 returns-in_err-start_part-clause-moments g c told volume old new is =
@@ -364,3 +360,50 @@ returns-in-Err-Full-clause-stored g c told other volume state stored =
     (stored-beside store part area.0 least none a now
     (g.met.B.Blocks.cur_may c.args.blocks.now told) (c.start_part.ensures.touches told) volume state
     stored c.requires.fresh))
+
+pub returns-in_err-start_part-clause-kept : goal.returns-in_err-start_part-clause-kept
+returns-in_err-start_part-clause-kept g c = if-err-any c.from_residual.result _
+    (λ fault. inl (ap (λ (s : StoreNow). s.space) c.in_err-start_part.ensures.same))
+
+pub returns-in_err-start_part-clause-begun : goal.returns-in_err-start_part-clause-begun
+returns-in_err-start_part-clause-begun g c told = if-err-any c.from_residual.result _
+    (λ fault same volume state stored. guards-beside c.args.self.now c.args.part c.args.area.0
+    c.requires.least c.requires.unowned (g.B.Blocks.seen c.args.blocks.now)
+    (g.B.Blocks.seen c.start_part.new.blocks) (g.met.B.Blocks.cur_may c.args.blocks.now told)
+    (c.start_part.ensures.touches told) volume state stored c.requires.fresh)
+
+pub returns-in-Err-Full-clause-kept : goal.returns-in-Err-Full-clause-kept
+returns-in-Err-Full-clause-kept g c =
+    let entered = c.in-Err-Full.ensures.unchanged
+    (subst IsFullNo (sym c.in-Err-Full.field-0-is) tt) in
+    inl (ap (λ (s : StoreNow). s.space) (taken-back g.B.Blocks.tells c.args.part c.args.area
+    c.args.definition.now c.args.self.now c.start_part.new.self
+    (g.B.Blocks.seen c.start_part.new.blocks) c.in_ok-start_part.ensures.started c.requires.fresh
+    c.requires.catalog c.requires.least c.requires.unowned c.take_back.new.self
+    (λ before last is. c.take_back.ensures before last
+    (ap (λ (s : StoreNow). s.parts) entered.0 ∙ is)
+    ∙ ap (λ (s : StoreNow). let t : StoreNow = record s {
+      parts = before;
+      space = released c.args.part s.space;
+    } in t) entered.0)))
+
+pub returns-in-Err-Full-clause-begun : goal.returns-in-Err-Full-clause-begun
+returns-in-Err-Full-clause-begun g c told same volume state stored =
+    let entered = c.in-Err-Full.ensures.unchanged
+    (subst IsFullNo (sym c.in-Err-Full.field-0-is) tt) in
+    let a = g.B.Blocks.seen c.args.blocks.now in
+    subst (λ (blocks : _). Guards a (g.B.Blocks.seen blocks)
+    (RecoversTo c.args.self.now.log.geometry volume state [])) (sym entered.1)
+    (guards-beside c.args.self.now c.args.part c.args.area.0 c.requires.least c.requires.unowned a
+    (g.B.Blocks.seen c.start_part.new.blocks) (g.met.B.Blocks.cur_may c.args.blocks.now told)
+    (c.start_part.ensures.touches told) volume state stored c.requires.fresh)
+
+pub returns-in-Err-Write-clause-kept : goal.returns-in-Err-Write-clause-kept
+returns-in-Err-Write-clause-kept g c = inr (ap (λ (s : StoreNow). s.space) c.add_entry.ensures.rest
+    ∙ ap (λ (s : StoreNow). s.space) c.in_ok-start_part.ensures.started.is)
+
+pub returns-in-Err-Write-clause-begun : goal.returns-in-Err-Write-clause-begun
+returns-in-Err-Write-clause-begun g c told same = absurd (given-differs c.args.part
+    c.args.self.now.space c.args.area.0 c.requires.least c.requires.unowned
+    (sym (ap (λ (s : StoreNow). s.space) c.add_entry.ensures.rest
+    ∙ ap (λ (s : StoreNow). s.space) c.in_ok-start_part.ensures.started.is) ∙ same))
