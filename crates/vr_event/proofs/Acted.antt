@@ -28,14 +28,14 @@ use Rattle.vr_event.specs.declared.act.Act.{Act}
 use Rattle.vr_event.specs.declared.act.Act.TheVariants.{Again, Done}
 
 -- each deck stays entered as its number rises
-raised-decks : (deck other : ℕ) (numbers : List DeckNumber)
+pub raised-decks : (deck other : ℕ) (numbers : List DeckNumber)
     → has_deck other (map (raised_for deck) numbers) ≡ has_deck other numbers
 raised-decks deck other [] = refl
 raised-decks deck other (number ∷ numbers) =
     grind (arith, nat_tests, raised-decks deck other numbers)
 
 -- and the number of another deck's unit stays
-raised-others : (deck other : ℕ) (numbers : List DeckNumber) → (other == deck) ≡ false
+pub raised-others : (deck other : ℕ) (numbers : List DeckNumber) → (other == deck) ≡ false
     → number_of (map (raised_for deck) numbers) other ≡ number_of numbers other
 raised-others deck other [] differs = refl
 raised-others deck other (number ∷ numbers) differs =

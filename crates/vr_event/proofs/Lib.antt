@@ -48,3 +48,16 @@ pub mod Opened
 pub mod Acted
 pub mod CallerLemmas
 pub mod OpenedAreas
+pub mod ClusterRecords
+pub mod ClusterCatalogs
+pub mod ClusterItems
+pub mod NewClusters
+pub mod Definable
+pub mod DefinedStates
+pub mod DefineCome
+pub mod CatalogPart
+pub mod DefineWhole
+pub mod Prepared
+pub mod AddedClusters
+pub mod AskedClusters
+pub mod Unlaid

@@ -266,7 +266,7 @@ old-length unit part place None = omega (arith, length-before unit part place No
 old-length unit part place (Some bytes) =
     omega (arith, length-before unit part place (Some bytes), length-some bytes)
 
-need-before : (unit : UnitOfRecovery) (part : PartNo) (place : List ℕ) (old : Option (List ℕ))
+pub need-before : (unit : UnitOfRecovery) (part : PartNo) (place : List ℕ) (old : Option (List ℕ))
     (live : List UnitOfRecovery)
     → need_of live (Before unit part place old)
     ≡ before_length place old + cond (is_in unit live) 0 end_length

@@ -159,7 +159,7 @@ all-laid entries are = ap parts_in (all entries are)
         ∙ ap (λ (them : List CatEntry). entry ∷ them) (all entries are.1)
 
 -- so that a part that is laid is one of the catalog
-part-laid : (geometry : Geometry) (part : ℕ) (entries : List CatEntry) → AreClusters entries
+pub part-laid : (geometry : Geometry) (part : ℕ) (entries : List CatEntry) → AreClusters entries
     → shape_in geometry entries part ≢ None → has_part (parts_laid entries) part ≡ true
 part-laid geometry part entries are laid =
     ap (λ (parts : List ℕ). has_part parts part) (all-laid entries are)

@@ -13,3 +13,6 @@ pub mod Made
 pub mod Serving
 pub mod Staging
 pub mod Numbers
+pub mod Defining
+pub mod NewCluster
+pub mod DefineSteps

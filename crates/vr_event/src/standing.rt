@@ -10,7 +10,7 @@ use crate::volume::Volume;
 use vr_catalog::Catalog;
 use vr_history::{Entry, History};
 use vr_space::Part;
-use vr_types::{Blocks, OutOfMemory};
+use vr_types::{Blocks, Geometry, OutOfMemory};
 
 impl<B: Blocks, P: Part> Volume<B, P> {
     /// The entries of the history, in order.
@@ -47,6 +47,13 @@ impl<B: Blocks, P: Part> Volume<B, P> {
         ensures no { result ≡ false → self.now.file.stopped ≡ None }
     {
         self.file.stopped().is_some()
+    }
+
+    /// Its shape.
+    pub fn geometry(&self) -> Geometry
+        ensures { result ≡ self.now.file.geometry }
+    {
+        self.file.geometry()
     }
 
     /// The catalog.

@@ -1,0 +1,102 @@
+use Rattle.std.proofs.Common.{ap}
+use Rattle.vr_event.proofs.AskedClusters.{asked-held, come-asked, come-no-room, come-staged}
+use Rattle.vr_event.proofs.AskedClusters.{come-unread, come-unwritten, fault-held, file-held}
+use Rattle.vr_event.proofs.AskedClusters.{holds-later, room-lacks, room-settable, staged-held}
+use Rattle.vr_event.proofs.DefineCome.{come-held-after}
+use Rattle.vr_event.proofs.Prepared.{prepared-at, prepared-length, prepared-place}
+use Rattle.vr_event.proofs.volume.Volume.define_asked.Goals as goal
+use Rattle.vr_store.specs.Store.{StoreNow}
+
+pub ask_entry-requires-clause-place : goal.ask_entry-requires-clause-place
+ask_entry-requires-clause-place g c = prepared-place c.args.self.now.number
+    c.args.self.now.file.catalog c.args.entry.now c.args.new c.requires.ready.new_is
+
+pub add_cluster-requires-clause-can : goal.add_cluster-requires-clause-can
+add_cluster-requires-clause-can g c told = room-settable c.ask_entry.new.self.store
+    (g.B.Blocks.seen c.ask_entry.new.self.blocks).cur c.args.new.place c.args.new.bytes c.in-Ok.room
+    (c.in-Ok.ensures.still told) c.in-Ready.is (prepared-length c.args.self.now.number
+    c.args.self.now.file.catalog c.args.entry.now c.args.new c.requires.ready.new_is)
+
+pub add_cluster-requires-clause-holds : goal.add_cluster-requires-clause-holds
+add_cluster-requires-clause-holds g c told = holds-later g.B.Blocks.seen c.args.self.now
+    c.ask_entry.new.self (c.requires.holds told) (c.ask_entry.ensures.held told)
+
+pub stage_entry-staged-requires-clause-place : goal.stage_entry-staged-requires-clause-place
+stage_entry-staged-requires-clause-place g c = prepared-place c.args.self.now.number
+    c.args.self.now.file.catalog c.args.entry.now c.args.new c.requires.ready.new_is
+
+pub stage_entry-staged-requires-clause-holds : goal.stage_entry-staged-requires-clause-holds
+stage_entry-staged-requires-clause-holds g c told = holds-later g.B.Blocks.seen c.args.self.now
+    c.ask_entry.new.self (c.requires.holds told) (c.ask_entry.ensures.held told)
+
+pub returns-in-Ready-clause-held : goal.returns-in-Ready-clause-held
+returns-in-Ready-clause-held g c told opening held = come-held-after g.B.Blocks.seen c.args.after
+    c.args.unit c.args.line c.args.entry.now opening c.args.self.now c.ask_entry.new.self
+    c.add_cluster.new.self c.ask_entry.ensures.file c.ask_entry.ensures.number
+    (ap (λ (s : StoreNow). s.log) c.ask_entry.ensures.rest)
+    (c.ask_entry.ensures.moments told opening held)
+    (c.add_cluster.ensures.held told opening (c.ask_entry.ensures.held told opening held))
+
+pub returns-in-Stage-clause-held : goal.returns-in-Stage-clause-held
+returns-in-Stage-clause-held g c told opening held =
+    let then = c.ask_entry.ensures.held told opening held in
+    staged-held g.B.Blocks.seen opening c.args.after c.args.unit c.args.line c.args.entry.now
+    c.args.self.now c.ask_entry.new.self (c.ask_entry.ensures.moments told opening held)
+    c.stage_entry-staged.new.self c.ask_entry.ensures.file c.ask_entry.ensures.number
+    c.ask_entry.ensures.rest (c.stage_entry-staged.ensures.held told opening then)
+    (c.stage_entry-staged.ensures.moments told opening then)
+
+pub returns-in-NoSpace-clause-no_room : goal.returns-in-NoSpace-clause-no_room
+returns-in-NoSpace-clause-no_room g c told is = room-lacks c.args.self.now.store
+    (g.B.Blocks.seen c.args.self.now.blocks).cur c.args.new.place _ c.in-Ok.room c.in-NoSpace.need
+    c.in-NoSpace.free (c.in-Ok.ensures.answer told) c.in-NoSpace.is
+    (prepared-at c.args.self.now.number c.args.self.now.file.catalog c.args.entry.now c.args.new
+    c.requires.ready.new_is)
+
+pub returns-in-NoSpace-clause-held : goal.returns-in-NoSpace-clause-held
+returns-in-NoSpace-clause-held g c told opening held = asked-held g.B.Blocks.seen opening
+    c.args.after c.args.unit c.args.line c.args.entry.now c.args.self.now c.ask_entry.new.self
+    (c.ask_entry.ensures.moments told opening held) (c.ask_entry.ensures.held told opening held)
+
+pub returns-in-Read-clause-held : goal.returns-in-Read-clause-held
+returns-in-Read-clause-held g c told opening held = asked-held g.B.Blocks.seen opening c.args.after
+    c.args.unit c.args.line c.args.entry.now c.args.self.now c.ask_entry.new.self
+    (c.ask_entry.ensures.moments told opening held) (c.ask_entry.ensures.held told opening held)
+
+pub returns-in-Write-clause-held : goal.returns-in-Write-clause-held
+returns-in-Write-clause-held g c told opening held = fault-held g.B.Blocks.seen opening c.args.after
+    c.args.unit c.args.line c.args.entry.now c.args.self.now c.ask_entry.new.self
+    (c.ask_entry.ensures.moments told opening held) c.enter_fault.new.self
+    c.enter_fault.ensures.blocks
+    (c.enter_fault.ensures.held told opening (file-held g.B.Blocks.seen opening
+    c.ask_entry.new.self (c.ask_entry.ensures.held told opening held)))
+
+pub returns-in-Ready-clause-come : goal.returns-in-Ready-clause-come
+returns-in-Ready-clause-come g c = come-asked g.B.Blocks.seen c.args.after c.args.unit c.args.line
+    c.args.entry.now c.args.self.now c.ask_entry.new.self c.ask_entry.ensures.file
+    c.ask_entry.ensures.number c.ask_entry.ensures.rest c.add_cluster.result c.add_cluster.new.self
+    c.add_cluster.ensures.come
+
+pub returns-in-Stage-clause-come : goal.returns-in-Stage-clause-come
+returns-in-Stage-clause-come g c = come-staged g.B.Blocks.seen c.args.after c.args.unit c.args.line
+    c.args.entry.now c.args.self.now c.ask_entry.new.self c.ask_entry.ensures.file
+    c.ask_entry.ensures.number c.ask_entry.ensures.rest c.stage_entry-staged.result
+    c.stage_entry-staged.new.self c.stage_entry-staged.ensures.whole
+    (c.stage_entry-staged.ensures.entered c.args.entry.now) c.stage_entry-staged.ensures.is
+    c.stage_entry-staged.ensures.number c.stage_entry-staged.ensures.generation
+
+pub returns-in-NoSpace-clause-come : goal.returns-in-NoSpace-clause-come
+returns-in-NoSpace-clause-come g c = come-no-room g.B.Blocks.seen c.args.after c.args.unit
+    c.args.line c.args.entry.now c.args.self.now c.ask_entry.new.self c.ask_entry.ensures.file
+    c.ask_entry.ensures.number c.ask_entry.ensures.rest c.ask_entry.ensures.whole
+
+pub returns-in-Read-clause-come : goal.returns-in-Read-clause-come
+returns-in-Read-clause-come g c = come-unread g.B.Blocks.seen c.args.after c.args.unit
+    c.args.line c.args.entry.now c.args.self.now c.ask_entry.new.self c.ask_entry.ensures.file
+    c.ask_entry.ensures.number c.ask_entry.ensures.rest c.ask_entry.ensures.whole
+
+pub returns-in-Write-clause-come : goal.returns-in-Write-clause-come
+returns-in-Write-clause-come g c = come-unwritten g.B.Blocks.seen c.args.after c.args.unit
+    c.args.line c.args.entry.now c.args.self.now c.ask_entry.new.self c.ask_entry.ensures.file
+    c.ask_entry.ensures.number c.ask_entry.ensures.rest c.enter_fault.new.self
+    c.ask_entry.ensures.whole c.enter_fault.ensures.leaves c.enter_fault.ensures.volume

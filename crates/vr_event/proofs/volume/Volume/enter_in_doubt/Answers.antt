@@ -1,0 +1,14 @@
+use Rattle.std.proofs.Common.{◌≡◌, ap, subst, sym}
+use Rattle.vr_record_file.specs.Defining.{MayDefine}
+use Rattle.vr_record_file.specs.Now.{FileNow, IsStateOf}
+use Rattle.vr_event.specs.Volume.{VolumeNow}
+use Rattle.vr_event.proofs.volume.Volume.enter_in_doubt.Goals as goal
+
+pub returns-clause-state : goal.returns-clause-state
+returns-clause-state g c opening bytes of may =
+    let new = c.args.new in
+    let of-file : c.self.inside.file ≡ c.args.self.now.file =
+    ap (λ (v : VolumeNow g.row.B.Denot). v.file) c.self.view_is in
+    c.fail_definition.ensures.state opening bytes (subst (IsStateOf opening) (sym of-file) of)
+    (subst (λ (f : FileNow). MayDefine opening f c.args.unit new.part new.area new.add new.shown
+    bytes new.commit new.catalog) (sym of-file) may)
