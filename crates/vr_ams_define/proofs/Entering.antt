@@ -1,35 +1,41 @@
--- A catalog with one entry more, at its place by name.
+-- A catalog with one entry more, at its place.
 use Rattle.std.proofs.Common.{◌≡◌, ⊎_elim, ℕ, ◌+◌, ◌≤◌, Bool, true, false, cond, List, [], ◌∷◌}
 use Rattle.std.proofs.Common.{All, Some, None, refl, ap, arith}
 use Rattle.std.specs.Prelude.{max, nat_eq}
 use Rattle.std.specs.List.{AllByRecursion, IsDistinct, find, fold}
+use Rattle.std.specs.Ordering.{is_lt}
 use Rattle.std.proofs.lemmas.Bool.Decides.{eqb_tells, nat_tests}
 use Rattle.std.proofs.lemmas.List.Elements.{All-cons, All-head, All-tail}
+use Rattle.vr_types.specs.Content.{place_cmp}
 use Rattle.vr_catalog.specs.Catalog.{entry_with_part, parts_in}
 use Rattle.vr_catalog.specs.declared.entry.CatEntry.{CatEntry}
-use Rattle.vr_ams_list.specs.Listing.{comes_before, entered}
+use Rattle.vr_ams_define.specs.NewCluster.{entry_place, with_cluster}
+
+-- an entry comes before another one
+abbrev comes_before : CatEntry → CatEntry → Bool
+comes_before entry other = is_lt (place_cmp (entry_place entry) (entry_place other))
 
 -- what holds of the new entry and of the others holds of all
-pub entered-all : (P : CatEntry → Type 0) (new : CatEntry) (entries : List CatEntry) → P new
-    → All P entries → All P (entered new entries)
-entered-all P new [] this all = All-cons P new [] this all
-entered-all P new (other ∷ others) this all =
-    by (comes_before new other) (entered-all P new others this (All-tail P other others all))
+pub with_cluster-all : (P : CatEntry → Type 0) (new : CatEntry) (entries : List CatEntry) → P new
+    → All P entries → All P (with_cluster new entries)
+with_cluster-all P new [] this all = All-cons P new [] this all
+with_cluster-all P new (other ∷ others) this all =
+    by (comes_before new other) (with_cluster-all P new others this (All-tail P other others all))
   where
-    by : (before : Bool) → All P (entered new others)
-        → All P (cond before (new ∷ other ∷ others) (other ∷ entered new others))
+    by : (before : Bool) → All P (with_cluster new others)
+        → All P (cond before (new ∷ other ∷ others) (other ∷ with_cluster new others))
     by true rest = All-cons P new (other ∷ others) this all
-    by false rest = All-cons P other (entered new others) (All-head P other others all) rest
+    by false rest = All-cons P other (with_cluster new others) (All-head P other others all) rest
 
 -- a look-up that the new entry fails finds what it found
-pub entered-find : (p : CatEntry → Bool) (new : CatEntry) (entries : List CatEntry)
-    → p new ≡ false → find p (entered new entries) ≡ find p entries
-entered-find p new [] fails = rw fails refl
-entered-find p new (other ∷ others) fails =
-    by (comes_before new other) (entered-find p new others fails)
+pub with_cluster-find : (p : CatEntry → Bool) (new : CatEntry) (entries : List CatEntry)
+    → p new ≡ false → find p (with_cluster new entries) ≡ find p entries
+with_cluster-find p new [] fails = rw fails refl
+with_cluster-find p new (other ∷ others) fails =
+    by (comes_before new other) (with_cluster-find p new others fails)
   where
-    by : (before : Bool) → find p (entered new others) ≡ find p others
-        → find p (cond before (new ∷ other ∷ others) (other ∷ entered new others))
+    by : (before : Bool) → find p (with_cluster new others) ≡ find p others
+        → find p (cond before (new ∷ other ∷ others) (other ∷ with_cluster new others))
         ≡ find p (other ∷ others)
     by true rest = rw fails refl
     by false rest = ap (cond (p other) (Some other)) rest
@@ -38,15 +44,15 @@ entered-find p new (other ∷ others) fails =
 abbrev pub ArePartsApart : ℕ → List CatEntry → Type 0
 ArePartsApart part entries = AllByRecursion (λ other. nat_eq part other ≡ false) (parts_in entries)
 
-pub entered-apart : (part : ℕ) (new : CatEntry) (entries : List CatEntry)
+pub with_cluster-apart : (part : ℕ) (new : CatEntry) (entries : List CatEntry)
     → nat_eq part new.part.0 ≡ false → ArePartsApart part entries
-    → ArePartsApart part (entered new entries)
-entered-apart part new [] this apart = (this, apart)
-entered-apart part new (other ∷ others) this apart =
-    by (comes_before new other) (entered-apart part new others this apart.1)
+    → ArePartsApart part (with_cluster new entries)
+with_cluster-apart part new [] this apart = (this, apart)
+with_cluster-apart part new (other ∷ others) this apart =
+    by (comes_before new other) (with_cluster-apart part new others this apart.1)
   where
-    by : (before : Bool) → ArePartsApart part (entered new others)
-        → ArePartsApart part (cond before (new ∷ other ∷ others) (other ∷ entered new others))
+    by : (before : Bool) → ArePartsApart part (with_cluster new others)
+        → ArePartsApart part (cond before (new ∷ other ∷ others) (other ∷ with_cluster new others))
     by true rest = (this, apart)
     by false rest = (apart.0, rest)
 
@@ -54,19 +60,20 @@ nat_eq-flips : (a b : ℕ) → nat_eq a b ≡ false → nat_eq b a ≡ false
 nat_eq-flips a b other = grind (arith, nat_tests)
 
 -- no part comes twice where the new one is another than each
-pub entered-distinct : (new : CatEntry) (entries : List CatEntry) → ArePartsApart new.part.0 entries
-    → IsDistinct nat_eq (parts_in entries) → IsDistinct nat_eq (parts_in (entered new entries))
+pub with_cluster-distinct : (new : CatEntry) (entries : List CatEntry)
+    → ArePartsApart new.part.0 entries → IsDistinct nat_eq (parts_in entries)
+    → IsDistinct nat_eq (parts_in (with_cluster new entries))
 unfolding IsDistinct
-entered-distinct new [] apart distinct = (apart, distinct)
-entered-distinct new (other ∷ others) apart distinct =
-    by (comes_before new other) (entered-distinct new others apart.1 distinct.1)
+with_cluster-distinct new [] apart distinct = (apart, distinct)
+with_cluster-distinct new (other ∷ others) apart distinct =
+    by (comes_before new other) (with_cluster-distinct new others apart.1 distinct.1)
   where
-    by : (before : Bool) → IsDistinct nat_eq (parts_in (entered new others))
+    by : (before : Bool) → IsDistinct nat_eq (parts_in (with_cluster new others))
         → IsDistinct nat_eq
-        (parts_in (cond before (new ∷ other ∷ others) (other ∷ entered new others)))
+        (parts_in (cond before (new ∷ other ∷ others) (other ∷ with_cluster new others)))
     by true rest = (apart, distinct)
     by false rest = (
-      entered-apart other.part.0 new others (nat_eq-flips new.part.0 other.part.0 apart.0)
+      with_cluster-apart other.part.0 new others (nat_eq-flips new.part.0 other.part.0 apart.0)
           distinct.0,
       rest,
     )

@@ -1,4 +1,7 @@
 mod Choosing
 mod Entering
+pub mod GrownLemmas
+mod Later
 mod NewEntries
 mod OnVolume
+mod Rising

@@ -29,14 +29,13 @@ use Rattle.vr_catalog.specs.declared.order.NewEntry.{NewEntry}
 use Rattle.vr_catalog.specs.declared.order.NewEntry.TheVariants.{Cluster, Alternate, Path}
 use Rattle.vr_attach.specs.CatalogRules.{IsEntryOf, has_intervals_by, has_sizes_by, is_over_by}
 use Rattle.vr_attach.specs.CatalogRules.{related_in}
-use Rattle.vr_ams_list.specs.Listing.{entered}
-use Rattle.vr_ams_list.specs.declared.fault.Failure.{Failure}
+use Rattle.vr_trace.specs.declared.command.Failure.{Failure}
 use Rattle.vr_ams_define.specs.Failures.{catalog_failure, entry_failure, record_failure}
-use Rattle.vr_ams_define.specs.NewCluster.{IsNewCluster, IsRuled, with_area}
+use Rattle.vr_ams_define.specs.NewCluster.{IsNewCluster, IsRuled, with_area, with_cluster}
 use Rattle.vr_ams_define.specs.Runs.{is_plain_cluster}
-use Rattle.vr_ams_define.proofs.Entering.{ArePartsApart, entered-all, entered-apart}
-use Rattle.vr_ams_define.proofs.Entering.{entered-distinct, entered-find, next-apart}
-use Rattle.vr_ams_define.proofs.Entering.{none-with_part}
+use Rattle.vr_ams_define.proofs.Entering.{ArePartsApart, next-apart, none-with_part}
+use Rattle.vr_ams_define.proofs.Entering.{with_cluster-all, with_cluster-apart}
+use Rattle.vr_ams_define.proofs.Entering.{with_cluster-distinct, with_cluster-find}
 
 -- ---- faults that have no cause
 
@@ -134,11 +133,11 @@ over-cases entry_kinds.Path entry (Some base) over = inr refl
 looked-up : (entries : List CatEntry) (new : CatEntry) (related : Option PartNo)
     → entry_with_part entries new.part.0 ≡ None
     → is_some (option_and_then (λ (part : PartNo). entry_with_part entries part.0) related) ≡ true
-    → option_and_then (λ (part : PartNo). entry_with_part (entered new entries) part.0) related
+    → option_and_then (λ (part : PartNo). entry_with_part (with_cluster new entries) part.0) related
     ≡ option_and_then (λ (part : PartNo). entry_with_part entries part.0) related
 looked-up entries new None none there = refl
 looked-up entries new (Some part) none there =
-    entered-find (λ (entry : CatEntry). entry.part.0 == part.0) new entries
+    with_cluster-find (λ (entry : CatEntry). entry.part.0 == part.0) new entries
     (⊎_elim
     (λ same. absurd (both (subst (λ (n : ℕ). entry_with_part entries n ≡ None) same.1 none) there))
     (λ other. other.0) (eqb_tells new.part.0 part.0))
@@ -150,7 +149,7 @@ looked-up entries new (Some part) none there =
 related-same : (entries : List CatEntry) (new entry : CatEntry)
     → entry_with_part entries new.part.0 ≡ None
     → IsTrue (is_over_by entry.entry_kind entry (related_in entries entry))
-    → related_in (entered new entries) entry ≡ related_in entries entry
+    → related_in (with_cluster new entries) entry ≡ related_in entries entry
 related-same entries new entry none over = ⊎_elim
     (λ (alone : entry.related ≡ None). rw alone refl)
     (λ there. looked-up entries new entry.related none there)
@@ -158,9 +157,9 @@ related-same entries new entry none over = ⊎_elim
 
 kept-grown : (geometry : Geometry) (entries : List CatEntry) (new entry : CatEntry)
     → entry_with_part entries new.part.0 ≡ None → IsEntryOf geometry entries entry
-    → IsEntryOf geometry (entered new entries) entry
+    → IsEntryOf geometry (with_cluster new entries) entry
 kept-grown geometry entries new entry none kept =
-    let same : related_in (entered new entries) entry ≡ related_in entries entry =
+    let same : related_in (with_cluster new entries) entry ≡ related_in entries entry =
     related-same entries new entry none kept.over in
     record {
       over = subst (λ (base : Option CatEntry). IsTrue (is_over_by entry.entry_kind entry base))
@@ -179,68 +178,93 @@ recorded false failure none = absurd (cc)
 
 parts-are : (entries : List CatEntry) (new : CatEntry) → nat_eq 0 new.part.0 ≡ false
     → ArePartsApart new.part.0 entries → IsDistinct nat_eq (0 ∷ parts_in entries)
-    → IsDistinct nat_eq (0 ∷ parts_in (entered new entries))
+    → IsDistinct nat_eq (0 ∷ parts_in (with_cluster new entries))
 unfolding IsDistinct
 parts-are entries new some apart distinct = (
-  entered-apart 0 new entries some distinct.0,
-  entered-distinct new entries apart distinct.1,
+  with_cluster-apart 0 new entries some distinct.0,
+  with_cluster-distinct new entries apart distinct.1,
 )
 
 zero-next : (n : ℕ) → nat_eq 0 (n + 1) ≡ false
 zero-next n = grind (arith, nat_tests)
 
-is-new-plain : (geometry : Geometry) (entries : List CatEntry) (name : List ℕ) (kind : Kind)
-    (options : DataOptions) → IsRuled geometry entries
-    → IsUnrefused geometry entries name kind options
-    → is_entry (new_cluster name (greatest_part entries + 1) kind false options) ≡ true
-    → IsNewCluster geometry entries
-    (new_cluster name (greatest_part entries + 1) kind false options)
-is-new-plain geometry entries name kind options ruled free is =
-    let part : ℕ = greatest_part entries + 1 in
-    let new : CatEntry = new_cluster name part kind false options in
-    let apart : ArePartsApart part entries = next-apart entries in
-    let none : entry_with_part entries part ≡ None = none-with_part part entries apart in
-    let sizes = sizes-are geometry entries name part kind options free in
-    let spelled = with-area-is name part kind options in
-    record {
-      cluster = refl;
-      kind = refl;
-      plain = refl;
-      no_area = refl;
-      alone = refl;
-      name = some-none (entry_named entries name) (fault-none _ faults.NameTaken free.named);
-      some_part = omega arith;
-      part = none;
-      entry_is = is;
-      sizes = sizes;
-      spelled = λ area fits. spelled area fits is;
-      rules = λ area fits. record {
-        spelled = entered-all (λ (entry : CatEntry). IsTrue (is_entry entry)) (with_area area new)
-            entries (spelled area fits is) ruled.spelled;
-        parts = parts-are entries (with_area area new) (zero-next (greatest_part entries))
-            apart ruled.parts;
-        kept = entered-all (IsEntryOf geometry (entered (with_area area new) entries))
-            (with_area area new) entries
-            (record { over = refl; area = refl; sizes = sizes area })
-            (All-weaker (IsEntryOf geometry entries)
-            (IsEntryOf geometry (entered (with_area area new) entries))
-            (λ entry kept. kept-grown geometry entries (with_area area new) entry none kept)
-            entries ruled.kept);
-      };
-    }
+module _ (geometry : Geometry) (entries : List CatEntry) (name : List ℕ) (kind : Kind)
+    (options : DataOptions) (free : IsUnrefused geometry entries name kind options)
+    (is : is_entry (new_cluster name (greatest_part entries + 1) kind false options) ≡ true) where
+  abbrev part : ℕ
+  part = greatest_part entries + 1
+
+  abbrev new : CatEntry
+  new = new_cluster name part kind false options
+
+  apart : ArePartsApart part entries
+  apart = next-apart entries
+
+  none : entry_with_part entries part ≡ None
+  none = none-with_part part entries apart
+
+  is-new-plain : IsNewCluster geometry entries new
+  is-new-plain = record {
+    cluster = refl;
+    kind = refl;
+    plain = refl;
+    no_area = refl;
+    alone = refl;
+    name = some-none (entry_named entries name) (fault-none _ faults.NameTaken free.named);
+    some_part = omega arith;
+    part = none;
+    entry_is = is;
+    sizes = sizes-are geometry entries name part kind options free;
+    spelled = λ area fits. with-area-is name part kind options area fits is;
+  }
+
+  -- with it the catalog keeps the rules
+  ruled-plain : IsRuled geometry entries → (area : AreaNo) → area.0 + 1 < 2 ^ 32
+      → IsRuled geometry (with_cluster (with_area area new) entries)
+  ruled-plain ruled area fits =
+      let it : CatEntry = with_area area new in
+      let more : List CatEntry = with_cluster it entries in
+      record {
+        spelled = with_cluster-all (λ (entry : CatEntry). IsTrue (is_entry entry)) it entries
+            (with-area-is name part kind options area fits is) ruled.spelled;
+        parts = parts-are entries it (zero-next (greatest_part entries)) apart ruled.parts;
+        kept = with_cluster-all (IsEntryOf geometry more) it entries
+            (record {
+              over = refl;
+              area = refl;
+              sizes = sizes-are geometry entries name part kind options free area;
+            })
+            (All-weaker (IsEntryOf geometry entries) (IsEntryOf geometry more)
+            (λ entry kept. kept-grown geometry entries it entry none kept) entries ruled.kept);
+      }
 
 -- what a catalog doesn't refuse, and a record spells, is a new cluster
 pub is-new : (geometry : Geometry) (entries : List CatEntry) (name : List ℕ) (what : NewEntry)
-    → IsRuled geometry entries → is_plain_cluster what ≡ true
+    → is_plain_cluster what ≡ true
     → define_fault entries (record { name = name; what = what }) geometry ≡ None
     → is_entry (new_entry entries (record { name = name; what = what })) ≡ true
     → IsNewCluster geometry entries (new_entry entries (record { name = name; what = what }))
-is-new geometry entries name (Cluster kind true options) ruled plain none is = absurd (cc)
-is-new geometry entries name (Cluster kind false options) ruled plain none is =
-    is-new-plain geometry entries name kind options ruled
+is-new geometry entries name (Cluster kind true options) plain none is = absurd (cc)
+is-new geometry entries name (Cluster kind false options) plain none is =
+    is-new-plain geometry entries name kind options
     (unrefused geometry entries name kind options none) is
-is-new geometry entries name (Alternate related unique options) ruled plain none is = absurd (cc)
-is-new geometry entries name (Path related) ruled plain none is = absurd (cc)
+is-new geometry entries name (Alternate related unique options) plain none is = absurd (cc)
+is-new geometry entries name (Path related) plain none is = absurd (cc)
+
+-- and a catalog that keeps the rules keeps them with it
+pub stays-ruled : (geometry : Geometry) (entries : List CatEntry) (name : List ℕ)
+    (what : NewEntry) → IsRuled geometry entries → is_plain_cluster what ≡ true
+    → define_fault entries (record { name = name; what = what }) geometry ≡ None
+    → is_entry (new_entry entries (record { name = name; what = what })) ≡ true
+    → (area : AreaNo) → area.0 + 1 < 2 ^ 32 → IsRuled geometry (with_cluster
+    (with_area area (new_entry entries (record { name = name; what = what }))) entries)
+stays-ruled geometry entries name (Cluster kind true options) ruled plain none is = absurd (cc)
+stays-ruled geometry entries name (Cluster kind false options) ruled plain none is =
+    ruled-plain geometry entries name kind options
+    (unrefused geometry entries name kind options none) is ruled
+stays-ruled geometry entries name (Alternate related unique options) ruled plain none is =
+    absurd (cc)
+stays-ruled geometry entries name (Path related) ruled plain none is = absurd (cc)
 
 -- where the entry has no failure, both are so
 pub failure-none : (geometry : Geometry) (entries : List CatEntry) (order : Define)

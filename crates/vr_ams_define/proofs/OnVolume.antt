@@ -1,21 +1,21 @@
 -- What a definition on one volume makes of all of them.
 use Rattle.std.proofs.Common.{◌≡◌, ◌≢◌, ℕ, zero, suc, ◌<◌, List, [], ◌∷◌, length, map, Option}
 use Rattle.std.proofs.Common.{Some, refl, sym, ap, subst, ◌∙◌, get_or, inl, inr, Result, Ok, Err}
-use Rattle.std.proofs.Common.{IfOk, IfErr, slice_get}
+use Rattle.std.proofs.Common.{IfOk, IfErr, IsErr, slice_get}
 use Rattle.std.specs.Prelude.{slice_set}
 use Rattle.std.specs.Option.{option_map}
 use Rattle.std.proofs.lemmas.List.{set-get_or}
 use Rattle.std.proofs.lemmas.Option.{slice_get-get_or, slice_get-map}
 use Rattle.std.proofs.Math.Seq.{map-set_same}
 use Rattle.vr_types.specs.declared.geometry.Geometry.{Geometry}
-use Rattle.vr_types.specs.declared.memory.OutOfMemory.{OutOfMemory}
 use Rattle.vr_catalog.specs.declared.order.Define.{Define}
-use Rattle.vr_ams_list.specs.Shown.{Shown}
-use Rattle.vr_ams_list.specs.declared.fault.Failure.{Failure}
-use Rattle.vr_ams_list.specs.declared.outcome.Outcome.{Outcome}
+use Rattle.vr_trace.specs.Shown.{Shown}
+use Rattle.vr_trace.specs.declared.command.Failure.{Failure}
+use Rattle.vr_trace.specs.declared.command.Outcome.{Outcome}
+use Rattle.vr_trace.specs.declared.no.RunNo.{RunNo}
 use Rattle.vr_ams_define.specs.declared.answer.Defined.{Defined}
 use Rattle.vr_ams_define.specs.declared.refusal.DefineNo.{DefineNo}
-use Rattle.vr_ams_define.specs.declared.refusal.DefineNo.TheVariants.{Refused, Memory}
+use Rattle.vr_ams_define.specs.declared.refusal.DefineNo.TheVariants.{Refused, Ended}
 use Rattle.vr_ams_define.specs.Answers.{Answering}
 use Rattle.vr_ams_define.specs.Failures.{entry_failure, failure_on}
 use Rattle.vr_ams_define.specs.Outcomes.{IsDefinedBy, IsLeft}
@@ -43,7 +43,7 @@ failure-at shown geometry volumes number spare order within = rw (
 -- the outcome by what the definition on the volume came to
 pub defined-at : {V : Type 0} (shown : V → Shown) (geometry : V → Geometry)
     (answers : Answering V) (volumes : List V) (number : ℕ) (spare new : V) (line : ℕ)
-    (order : Define) (end : Result Defined DefineNo) (result : Result Outcome OutOfMemory)
+    (order : Define) (end : Result Defined DefineNo) (result : Result Outcome RunNo)
     → number < length volumes
     → IfOk end (IsEntered shown geometry answers line order (get_or volumes number spare) new)
     → IfErr end (IsUndone shown (entry_failure (geometry (get_or volumes number spare))
@@ -74,8 +74,8 @@ defined-at shown geometry answers volumes number spare new line order (Err (Refu
       outcome_is = ends;
       same = ap (slice_set volumes number) undone.1 ∙ set-get_or volumes number spare;
     })
-defined-at shown geometry answers volumes number spare new line order (Err Memory) (Ok outcome)
-    within entered undone ends = absurd ends
+defined-at shown geometry answers volumes number spare new line order (Err (Ended error))
+    (Ok outcome) within entered undone ends = absurd ends
 
 set-other : {V : Type 0} (volumes : List V) (number place : ℕ) (new : V) → place ≢ number
     → slice_get (slice_set volumes number new) place ≡ slice_get volumes place
@@ -86,15 +86,17 @@ set-other (volume ∷ volumes) (suc number) zero new other = refl
 set-other (volume ∷ volumes) (suc number) (suc place) new other =
     set-other volumes number place new (λ same. other (ap suc same))
 
--- where memory ran out
+-- where stamps or memory ran out
 pub left-at : {V : Type 0} (shown : V → Shown) (first : Option Failure) (volumes : List V)
-    (number : ℕ) (spare new : V) (end : Result Defined DefineNo)
-    → IfErr end (IsUndone shown first (get_or volumes number spare) new) → end ≡ Err Memory
+    (number : ℕ) (spare new : V) (end : Result Defined DefineNo) (result : Result Outcome RunNo)
+    → IfErr end (IsUndone shown first (get_or volumes number spare) new)
+    → IfErr result (λ no. end ≡ Err (Ended no)) → IsErr result
     → IsLeft shown volumes (Some number) (slice_set volumes number new)
-left-at shown first volumes number spare new end undone memory = record {
+left-at shown first volumes number spare new end (Ok outcome) undone ended none = absurd (cc)
+left-at shown first volumes number spare new end (Err error) undone ended none = record {
   same = map-set_same shown volumes number new spare
       (subst (λ (end : Result Defined DefineNo).
-      IfErr end (IsUndone shown first (get_or volumes number spare) new)) memory undone);
+      IfErr end (IsUndone shown first (get_or volumes number spare) new)) ended undone);
   others = λ place other. set-other volumes number place new
       (λ same. other (ap Some (sym same)));
 }

@@ -3,16 +3,15 @@
 use Rattle.std.specs.Prelude.{◌≡◌, ◌≢◌, ℕ, true}
 use Rattle.vr_types.specs.declared.fault.DeviceFault.TheVariants.{Read, Write}
 use Rattle.vr_catalog.specs.declared.entry.CatEntry.{CatEntry}
-use Rattle.vr_ams_list.specs.Listing.{entered}
-use Rattle.vr_ams_list.specs.Shown.{Shown}
+use Rattle.vr_trace.specs.Shown.{Shown}
 use Rattle.vr_ams_define.specs.declared.answer.Defined.{Defined}
 use Rattle.vr_ams_define.specs.declared.answer.Defined.TheVariants.{Done, Again, NoArea, NoRoom}
-use Rattle.vr_ams_define.specs.declared.answer.Defined.TheVariants.{Full, Fault}
-use Rattle.vr_ams_define.specs.NewCluster.{with_area}
+use Rattle.vr_ams_define.specs.declared.answer.Defined.TheVariants.{Held, Full, Fault}
+use Rattle.vr_ams_define.specs.NewCluster.{with_area, with_cluster}
 
--- its catalog has one entry more, at its place by name
+-- its catalog has one entry more, at its place
 abbrev pub with_entry : CatEntry → Shown → Shown
-with_entry entry volume = record volume { catalog = entered entry volume.catalog }
+with_entry entry volume = record volume { catalog = with_cluster entry volume.catalog }
 
 -- The cluster is in the catalog with its first area, or nothing of it is. A write that failed stops
 -- the volume: whether its catalog has the entry is known once it is opened again.
@@ -21,6 +20,7 @@ IsShownAfter (Done area) entry old new = new ≡ with_entry (with_area area entr
 IsShownAfter Again entry old new = new ≡ old
 IsShownAfter NoArea entry old new = new ≡ old
 IsShownAfter NoRoom entry old new = new ≡ old
+IsShownAfter Held entry old new = new ≡ old
 IsShownAfter Full entry old new = new ≡ old
 IsShownAfter (Fault Read) entry old new = new ≡ old
 IsShownAfter (Fault Write) entry old new = new.stopped ≡ true

@@ -15,10 +15,9 @@ use Rattle.vr_catalog.specs.declared.entry.CatEntry.{CatEntry}
 use Rattle.vr_catalog.specs.declared.fault.CatFault.{CatFault}
 use Rattle.vr_catalog.specs.declared.fault.CatFault.TheVariants.{NameTaken, NoVolume, CatalogFull}
 use Rattle.vr_catalog.specs.declared.order.Define.{Define}
-use Rattle.vr_amsparse.specs.declared.command.DefineCommand.{DefineCommand}
-use Rattle.vr_ams_list.specs.Faults.{is_known}
-use Rattle.vr_ams_list.specs.Shown.{Shown}
-use Rattle.vr_ams_list.specs.declared.fault.Failure.{Failure}
+use Rattle.vr_trace.specs.Shown.{is_known}
+use Rattle.vr_trace.specs.Shown.{Shown}
+use Rattle.vr_trace.specs.declared.command.Failure.{Failure}
 use Rattle.vr_ams_define.specs.Chosen.{chosen}
 
 -- a fault of the catalog, with its condition code
@@ -33,6 +32,10 @@ volume_failure refusal = record { fault = feedback_code refusal; code = 12 }
 abbrev pub fault_failure : DeviceFault → Failure
 fault_failure Read = volume_failure ReadFault
 fault_failure Write = volume_failure WriteFault
+
+-- 901: a lock is in the way
+abbrev pub held_failure : Failure
+held_failure = record { fault = 901; code = 12 }
 
 -- the cause is there
 abbrev pub failure_if : Bool → Failure → Option Failure
@@ -79,6 +82,6 @@ failure_at volumes geometries number order =
     (failure_on (volume_at volumes number) (volume_at geometries number) order)
 
 -- why the command is refused before a volume is asked, if it is
-abbrev pub first_failure : List Shown → List Geometry → DefineCommand → Option Failure
-first_failure volumes geometries command =
-    failure_at volumes geometries (chosen (length volumes) command.volume) command.order
+abbrev pub first_failure : List Shown → List Geometry → Define → Option (List ℕ) → Option Failure
+first_failure volumes geometries order volume =
+    failure_at volumes geometries (chosen (length volumes) volume) order

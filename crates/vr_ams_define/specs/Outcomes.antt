@@ -7,26 +7,27 @@ use Rattle.vr_types.specs.declared.reply.Refusal.TheVariants.{LogFull}
 use Rattle.vr_catalog.specs.Define.{new_entry}
 use Rattle.vr_catalog.specs.declared.fault.CatFault.TheVariants as faults
 use Rattle.vr_catalog.specs.declared.order.Define.{Define}
-use Rattle.vr_amsparse.specs.declared.command.DefineCommand.{DefineCommand}
-use Rattle.vr_ams_list.specs.Outcomes.{command_lines, done, refused}
-use Rattle.vr_ams_list.specs.Shown.{Shown}
-use Rattle.vr_ams_list.specs.declared.fault.Failure.{Failure}
-use Rattle.vr_ams_list.specs.declared.outcome.Outcome.{Outcome}
+use Rattle.vr_trace.specs.Commands.{command_lines, done, refused}
+use Rattle.vr_trace.specs.Shown.{Shown}
+use Rattle.vr_trace.specs.declared.command.Failure.{Failure}
+use Rattle.vr_trace.specs.declared.command.Outcome.{Outcome}
 use Rattle.vr_ams_define.specs.declared.answer.Defined.{Defined}
 use Rattle.vr_ams_define.specs.declared.answer.Defined.TheVariants.{Done, Again, NoArea, NoRoom}
-use Rattle.vr_ams_define.specs.declared.answer.Defined.TheVariants.{Full, Fault}
+use Rattle.vr_ams_define.specs.declared.answer.Defined.TheVariants.{Held, Full, Fault}
 use Rattle.vr_ams_define.specs.Answers.{Answering, HasAnswered}
 use Rattle.vr_ams_define.specs.Chosen.{chosen}
 use Rattle.vr_ams_define.specs.Failures.{catalog_failure, fault_failure, first_failure}
-use Rattle.vr_ams_define.specs.Failures.{volume_failure}
+use Rattle.vr_ams_define.specs.Failures.{held_failure, volume_failure}
 
 -- The outcome by the volume's answer, which is its last: code 0; 8 where no area is free, for the
--- cluster or for its record; 902 where the log is full; 904 and 905 where the device failed.
+-- cluster or for its record; 901 where a lock is in the way; 902 where the log is full; 904 and 905
+-- where the device failed.
 abbrev pub IsOutcome : Defined → Outcome → Type 0
 IsOutcome (Done area) outcome = outcome ≡ done []
 IsOutcome Again outcome = ⊥
 IsOutcome NoArea outcome = outcome ≡ refused (catalog_failure faults.NoArea)
 IsOutcome NoRoom outcome = outcome ≡ refused (catalog_failure faults.NoArea)
+IsOutcome Held outcome = outcome ≡ refused held_failure
 IsOutcome Full outcome = outcome ≡ refused (volume_failure (LogFull 0 0 0))
 IsOutcome (Fault fault) outcome = outcome ≡ refused (fault_failure fault)
 
@@ -62,17 +63,17 @@ IsDefinedBy shown answers volumes first number line order after outcome =
     IsRefused volumes first after outcome
     ⊎ IsAnswered shown answers volumes first number line order after outcome
 
--- The command, on a line, over volumes that show this, have these shapes and answer so, leaves
--- these volumes with this outcome.
+-- A DEFINE of a cluster with this VOLUMES, on a line, over volumes that show this, have these
+-- shapes and answer so, leaves these volumes with this outcome.
 abbrev pub IsDefined : {V : Type 0} → (V → Shown) → (V → Geometry) → Answering V → List V → ℕ
-    → DefineCommand → List V → Outcome → Type 0
-IsDefined shown geometry answers volumes line command after outcome =
+    → Define → Option (List ℕ) → List V → Outcome → Type 0
+IsDefined shown geometry answers volumes line order volume after outcome =
     IsDefinedBy shown answers volumes
-    (first_failure (map shown volumes) (map geometry volumes) command)
-    (chosen (length volumes) command.volume) line command.order after outcome
+    (first_failure (map shown volumes) (map geometry volumes) order volume)
+    (chosen (length volumes) volume) line order after outcome
 
--- Where memory runs out, too, only the volume of the number may be another, and it shows what it
--- showed.
+-- Where stamps or memory run out, too, only the volume of the number may be another, and it shows
+-- what it showed.
 pub record IsLeft {V : Type 0} (shown : V → Shown) (volumes : List V) (number : Option ℕ)
     (after : List V) : Type 0 where
   pub same : map shown after ≡ map shown volumes

@@ -2,13 +2,9 @@
 use Rattle.std.specs.Prelude.{Bool, false, not}
 use Rattle.vr_catalog.specs.declared.order.NewEntry.{NewEntry}
 use Rattle.vr_catalog.specs.declared.order.NewEntry.TheVariants.{Cluster, Alternate, Path}
-use Rattle.vr_amsparse.specs.declared.command.DefineCommand.{DefineCommand}
 
 -- a cluster that isn't spanned; alternate indexes and paths aren't run yet
 abbrev pub is_plain_cluster : NewEntry → Bool
 is_plain_cluster (Cluster kind spanned options) = not spanned
 is_plain_cluster (Alternate related unique options) = false
 is_plain_cluster (Path related) = false
-
-abbrev pub is_run_define : DefineCommand → Bool
-is_run_define command = is_plain_cluster command.order.what

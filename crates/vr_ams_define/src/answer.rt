@@ -13,6 +13,8 @@ pub enum Defined {
     NoArea,
     /// The catalog has no room for the record, and no area is free for it.
     NoRoom,
+    /// A lock of a unit of recovery is on the place of the record.
+    Held,
     /// The log has no room for the change.
     Full,
     /// The device failed. A write that fails stops the volume.

@@ -7,7 +7,7 @@ ghost use Rattle.vr_catalog.specs.declared.entry.EntryKind.TheVariants.{Cluster}
 ghost use Rattle.vr_ams_define.specs.Answers.{HasAnswered};
 ghost use Rattle.vr_ams_define.specs.Failures.{entry_failure, record_failure};
 ghost use Rattle.vr_ams_define.specs.NewCluster.{IsNewCluster};
-ghost use Rattle.vr_ams_define.specs.Steps.{IsEntered, IsUndone};
+ghost use Rattle.vr_ams_define.specs.Steps.{IsEntered, IsLater, IsUndone};
 ghost use Rattle.vr_ams_define.specs.Runs.{is_plain_cluster};
 
 use crate::answer::Defined;
@@ -30,12 +30,13 @@ fn added(changes: &Changes) -> &CatEntry
     }
 }
 
-/// Asks a volume for an entry, if a record spells it.
+/// Asks a volume for an entry, if a record spells it. What it enters comes after stamp `after`.
 fn enter<V: OwnedVolume>(
     alloc: Global,
     volume: &mut V,
     line: u32,
     entry: &CatEntry,
+    after: u64,
 ) -> Result<Defined, DefineNo>
     requires going { (V.shown volume.old).stopped ≡ false }
     requires cluster { entry.now.entry_kind ≡ Cluster }
@@ -46,20 +47,23 @@ fn enter<V: OwnedVolume>(
         (HasAnswered V.shown V.answers line entry.now volume.old volume.new) }
     ensures undone { IfErr result
         (IsUndone V.shown (record_failure entry.now) volume.old volume.new) }
+    ensures later { IsLater V.history V.goes line after volume.old volume.new }
     ensures geometry { V.geometry volume.new ≡ V.geometry volume.old }
 {
     if !has_record(alloc, entry)? {
         return Err(DefineNo::Refused(catalog_failure(CatFault::CatalogFull)));
     }
-    Ok(ask(volume, line, entry)?)
+    Ok(ask(volume, line, entry, after)?)
 }
 
-/// Defines a cluster on a volume that hasn't stopped, or shows why its catalog refuses that.
+/// Defines a cluster on a volume that hasn't stopped, or shows why its catalog refuses that. What
+/// the volume enters comes after stamp `after`.
 pub(crate) fn define_on<V: OwnedVolume>(
     alloc: Global,
     volume: &mut V,
     line: u32,
     order: &Define,
+    after: u64,
 ) -> Result<Defined, DefineNo>
     requires going { (V.shown volume.old).stopped ≡ false }
     requires plain { is_plain_cluster order.now.what ≡ true }
@@ -67,8 +71,9 @@ pub(crate) fn define_on<V: OwnedVolume>(
         (IsEntered V.shown V.geometry V.answers line order.now volume.old volume.new) }
     ensures undone { IfErr result (IsUndone V.shown (entry_failure (V.geometry volume.old)
         (V.shown volume.old).catalog order.now) volume.old volume.new) }
+    ensures later { IsLater V.history V.goes line after volume.old volume.new }
     ensures geometry { V.geometry volume.new ≡ V.geometry volume.old }
 {
-    let changes = define(alloc, volume.catalog(), order, volume.geometry())?;
-    enter(alloc, volume, line, added(&changes))
+    let changes = define(alloc, volume.catalog(), order, &volume.geometry())?;
+    enter(alloc, volume, line, added(&changes), after)
 }

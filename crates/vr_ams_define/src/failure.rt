@@ -4,12 +4,15 @@ ghost use Rattle.std.specs.Option.{option_and_then};
 ghost use Rattle.vr_types.specs.declared.reply.Refusal.TheVariants.{LogFull};
 ghost use Rattle.vr_ams_define.specs.Failures as stated;
 
-use vr_ams_list::{Failure, ShownVolume, is_known};
 use vr_catalog::CatFault;
+use vr_trace::{Failure, ShownVolume, is_known};
 use vr_types::{DeviceFault, Name, Refusal};
 
 /// The condition code of a command that a volume refuses.
 const REFUSED_CODE: u8 = 12;
+
+/// The fault of a command that a lock is in the way of.
+const HELD_FAULT: u16 = 901;
 
 /// A fault of the catalog, with its condition code.
 pub(crate) fn catalog_failure(fault: CatFault) -> Failure
@@ -40,6 +43,16 @@ pub(crate) fn log_failure() -> Failure
         need: 0,
         size: 0,
     })
+}
+
+/// The failure of a volume on which a lock is in the way.
+pub(crate) fn held_failure() -> Failure
+    ensures { result ≡ stated.held_failure }
+{
+    Failure {
+        fault: HELD_FAULT,
+        code: REFUSED_CODE,
+    }
 }
 
 /// The failure of a volume whose device failed.

@@ -1,40 +1,60 @@
 //! A volume that the utilities have for themselves.
-ghost use Rattle.std.specs.Prelude.{◌≡◌, ℕ, false, IfOk, IsErr};
+ghost use Rattle.std.specs.Prelude.{◌≡◌, ℕ, List, false, IfOk, IsErr};
 ghost use Rattle.vr_catalog.specs.declared.entry.CatEntry.{CatEntry};
+ghost use Rattle.vr_history.specs.Merged.{last_stamp};
+ghost use Rattle.vr_history.specs.declared.entry.Entry.{Entry};
 ghost use Rattle.vr_types.specs.declared.geometry.Geometry.{Geometry};
 ghost use Rattle.vr_ams_define.specs.Answers.{IsShownAfter};
+ghost use Rattle.vr_ams_define.specs.Grown.{HasEntered};
+ghost use Rattle.vr_ams_define.specs.NewCluster.{IsNewCluster};
 ghost use Rattle.vr_ams_define.specs.declared.answer.Defined.{Defined};
-ghost use Rattle.vr_ams_define.specs.NewCluster.{IsNewCluster, IsRuled};
 
 use crate::answer::Defined;
-use vr_ams_list::ShownVolume;
 use vr_catalog::CatEntry;
-use vr_types::{Geometry, OutOfMemory};
+use vr_trace::{RunNo, ShownVolume};
+use vr_types::Geometry;
 
 /// A volume that no deck has, whose catalog a command of IDCAMS may change.
 pub trait OwnedVolume: ShownVolume {
     /// Its shape.
     ghost geometry: { Self → Geometry };
 
+    /// Its history.
+    ghost history: { Self → List Entry };
+
+    /// The second is a later state of the first.
+    ghost goes: { Self → Self → Type 0 };
+
+    ghost goes_nowhere: { (volume : Self) → Self.goes volume volume };
+
+    ghost goes_further: { (a b c : Self) → Self.goes a b → Self.goes b c → Self.goes a c };
+
     /// How a volume may answer to a DEFINE on a line for an entry, and be then: what it promises
     /// of the causes of its answers.
     ghost answers: { Self → ℕ → CatEntry → Defined → Self → Type 0 };
 
     /// Its shape, by whose rules its catalog is.
-    fn geometry(&self) -> &Geometry
-        ensures shape { result.now ≡ geometry self.now }
-        ensures rules { IsRuled (geometry self.now) (Self.shown self.now).catalog };
+    fn geometry(&self) -> Geometry
+        ensures { result ≡ geometry self.now };
+
+    /// The stamp of the last entry of its history, 0 where it has none.
+    fn last(&self) -> u64
+        ensures { result ≡ last_stamp 0 (history self.now) };
 
     /// Adds a cluster that has no area yet to the catalog, with the least free area as its first,
     /// as one event of a command whose first word is on line `line` of the job; or does a stage of
-    /// a split of the catalog that has to come before (`Again`). Where it is refused, or memory
-    /// runs out, the volume shows what it showed; a write that fails stops it.
-    fn define(&mut self, line: u32, entry: &CatEntry) -> Result<Defined, OutOfMemory>
+    /// a split of the catalog that has to come before (`Again`). What it enters comes after stamp
+    /// `after`. Where it is refused, or no stamps are left, or no unit of recovery of the utilities
+    /// (`Stamps`), or memory runs out (`Memory`), the volume shows what it showed; a write that
+    /// fails stops it.
+    fn define(&mut self, line: u32, entry: &CatEntry, after: u64) -> Result<Defined, RunNo>
         requires going { (Self.shown self.old).stopped ≡ false }
         requires entry { IsNewCluster (geometry self.old) (Self.shown self.old).catalog entry.now }
         ensures answered { IfOk result (λ answer. answers self.old line entry.now answer self.new) }
         ensures shown { IfOk result (λ answer.
             IsShownAfter answer entry.now (Self.shown self.old) (Self.shown self.new)) }
         ensures refused { IsErr result → Self.shown self.new ≡ Self.shown self.old }
+        ensures entered { HasEntered line after (history self.old) (history self.new) }
+        ensures goes { goes self.old self.new }
         ensures geometry { geometry self.new ≡ geometry self.old };
 }

@@ -1,25 +1,34 @@
 //! Why no cluster was defined.
 ghost use Rattle.std.specs.Prelude.{◌≡◌};
 ghost use Rattle.vr_ams_define.specs.Steps.{no_by};
-ghost use Rattle.vr_ams_define.specs.declared.refusal.DefineNo.TheVariants.{Memory};
+ghost use Rattle.vr_ams_define.specs.declared.refusal.DefineNo.TheVariants.{Ended};
+ghost use Rattle.vr_trace.specs.declared.no.RunNo.TheVariants.{Memory};
 
 use crate::failure::catalog_failure;
-use vr_ams_list::Failure;
 use vr_catalog::CatFault;
+use vr_trace::{Failure, RunNo};
 use vr_types::OutOfMemory;
 
-/// Why no cluster was defined: the command is refused, or memory ran out.
+/// Why no cluster was defined: the command is refused, or stamps or memory ran out.
 #[derive(Clone, Copy)]
 pub(crate) enum DefineNo {
     Refused(Failure),
-    Memory,
+    Ended(RunNo),
+}
+
+impl From<RunNo> for DefineNo {
+    ghost from_gives = { λ end no. no ≡ Ended end };
+
+    fn from(end: RunNo) -> DefineNo {
+        DefineNo::Ended(end)
+    }
 }
 
 impl From<OutOfMemory> for DefineNo {
-    ghost from_gives = { λ _ no. no ≡ Memory };
+    ghost from_gives = { λ _ no. no ≡ Ended Memory };
 
     fn from(_error: OutOfMemory) -> DefineNo {
-        DefineNo::Memory
+        DefineNo::Ended(RunNo::Memory)
     }
 }
 
@@ -28,7 +37,7 @@ impl From<CatFault> for DefineNo {
 
     fn from(fault: CatFault) -> DefineNo {
         match fault {
-            CatFault::Memory => DefineNo::Memory,
+            CatFault::Memory => DefineNo::Ended(RunNo::Memory),
             _ => DefineNo::Refused(catalog_failure(fault)),
         }
     }

@@ -1,22 +1,13 @@
 -- When LISTCAT is refused, and with what code. The numbers of faults are this project's own.
-use Rattle.std.specs.Prelude.{ℕ, Bool, not, ◌==◌, ◌&&◌, ◌||◌, if◌then◌else◌, List, length, is_some}
+use Rattle.std.specs.Prelude.{ℕ, Bool, not, ◌==◌, ◌&&◌, ◌||◌, if◌then◌else◌, List, length}
 use Rattle.std.specs.Prelude.{Option, Some, None}
 use Rattle.std.specs.List.{list_all, list_any}
 use Rattle.vr_types.specs.Refusal.{feedback_code}
 use Rattle.vr_types.specs.declared.reply.Refusal.TheVariants.{Stopped}
 use Rattle.vr_catalog.specs.declared.fault.CatFault.TheVariants.{NotFound}
-use Rattle.vr_catalog.specs.Catalog.{entry_named}
 use Rattle.vr_catalog.specs.Fault.{fault_number, fault_code}
-use Rattle.vr_ams_list.specs.declared.fault.Failure.{Failure}
-use Rattle.vr_ams_list.specs.Shown.{Shown}
-
--- whether the catalog of a volume has the name
-abbrev pub has_name : Shown → List ℕ → Bool
-has_name volume name = is_some (entry_named volume.catalog name)
-
--- whether some volume has it
-abbrev pub is_known : List Shown → List ℕ → Bool
-is_known volumes name = list_any (λ (volume : Shown). has_name volume name) volumes
+use Rattle.vr_trace.specs.declared.command.Failure.{Failure}
+use Rattle.vr_trace.specs.Shown.{Shown, has_name, is_known}
 
 -- a name is on no volume
 abbrev pub is_missing : List Shown → List (List ℕ) → Bool

@@ -9,7 +9,7 @@ use Rattle.vr_catalog.specs.declared.entry.CatEntry.{CatEntry}
 use Rattle.vr_catalog.specs.declared.entry.EntryKind.{EntryKind}
 use Rattle.vr_catalog.specs.declared.entry.EntryKind.TheVariants.{Cluster, Alternate, Path}
 use Rattle.vr_trace.specs.Lines.{field}
-use Rattle.vr_ams_list.specs.Shown.{Shown}
+use Rattle.vr_trace.specs.Shown.{Shown}
 
 -- the entries of all catalogs, those of the lowest volume first
 abbrev pub entries_of : List Shown → List CatEntry

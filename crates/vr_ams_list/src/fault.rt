@@ -2,19 +2,12 @@
 ghost use Rattle.std.specs.Prelude.{◌≡◌, map};
 ghost use Rattle.vr_ams_list.specs.Faults as stated;
 
-use crate::shown::ShownVolume;
 use vr_catalog::CatFault;
+use vr_trace::{Failure, ShownVolume, has_name, is_known};
 use vr_types::{Name, Refusal};
 
 /// The condition code of a command that needs a volume that has stopped.
 const STOPPED_CODE: u8 = 12;
-
-/// Why a command is refused: the number of the fault, and the code of the command.
-#[derive(Clone, Copy)]
-pub struct Failure {
-    pub fault: u16,
-    pub code: u8,
-}
 
 fn not_found() -> Failure
     ensures { result ≡ stated.not_found }
@@ -33,25 +26,6 @@ fn stopped() -> Failure
         fault: refusal.code(),
         code: STOPPED_CODE,
     }
-}
-
-/// Whether the catalog of a volume has the name.
-fn has_name<V: ShownVolume>(volume: &V, name: &Name) -> bool
-    ensures { result ≡ stated.has_name (V.shown volume.now) name.now }
-{
-    volume.catalog().find(name).is_some()
-}
-
-/// Whether the catalog of some volume has the name.
-pub fn is_known<V: ShownVolume>(volumes: &[V], name: &Name) -> bool
-    ensures { result ≡ stated.is_known (map V.shown volumes.now) name.now }
-{
-    for volume in volumes {
-        if has_name(volume, name) {
-            return true;
-        }
-    }
-    false
 }
 
 /// Whether a name is on no volume.

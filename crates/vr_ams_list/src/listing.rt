@@ -5,10 +5,9 @@ ghost use Rattle.vr_ams_list.specs.Held.{held_entries};
 ghost use Rattle.vr_ams_list.specs.Listing as stated;
 
 use crate::order::listed_entries;
-use crate::shown::ShownVolume;
 use std::alloc::Global;
 use vr_catalog::{CatEntry, EntryKind};
-use vr_trace::{NEW_LINE, write_field};
+use vr_trace::{NEW_LINE, ShownVolume, write_field};
 use vr_types::{Bytes, Name, OutOfMemory};
 
 /// The lines of the entries of the volumes that have these names, or of all, by name; and how many

@@ -4,9 +4,9 @@ ghost use Rattle.std.specs.List.{filter};
 ghost use Rattle.vr_ams_list.specs.Held.{held_entries};
 ghost use Rattle.vr_ams_list.specs.Listing as stated;
 
-use crate::shown::ShownVolume;
 use std::alloc::Global;
 use vr_catalog::CatEntry;
+use vr_trace::ShownVolume;
 use vr_types::{Name, OutOfMemory};
 
 /// The entries of the volumes that are listed, by name.

@@ -1,9 +1,12 @@
 pub mod Code
+pub mod Commands
 pub mod Ends
+pub mod Growing
 pub mod Laws
 pub mod Lines
 pub mod Listing
 pub mod Names
 pub mod Numbering
+pub mod Shown
 pub mod TraceLines
 pub mod Volumes

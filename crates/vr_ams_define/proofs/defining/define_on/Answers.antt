@@ -14,5 +14,5 @@ enter-requires-clause-new g c is =
     let same : c.added.result.now ≡ new_entry entries order = search rules in
     let none : define_fault entries order geometry ≡ None = search rules in
     subst (λ (entry : CatEntry). IsNewCluster geometry entries entry) (sym same)
-    (is-new geometry entries order.name order.what c.geometry.ensures.rules c.requires.plain none
+    (is-new geometry entries order.name order.what c.requires.plain none
     (subst (λ (entry : CatEntry). is_entry entry ≡ true) same is))

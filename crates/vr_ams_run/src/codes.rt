@@ -1,6 +1,6 @@
 //! The codes that IF tests and SET sets.
 ghost use Rattle.std.specs.Prelude.{◌≡◌};
-ghost use Rattle.vr_ams_list.specs.Codes as stated;
+ghost use Rattle.vr_ams_run.specs.Codes as stated;
 
 use vr_amsparse::{CodeVariable, Comparison, Condition, Setting};
 

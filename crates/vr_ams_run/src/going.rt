@@ -1,12 +1,11 @@
 //! How far a step has come.
 ghost use Rattle.std.specs.Prelude.{◌≡◌, OnOk};
-ghost use Rattle.vr_ams_list.specs.Running as stated;
+ghost use Rattle.vr_ams_run.specs.Running as stated;
 
 use crate::codes::{Codes, ends, holds, no_codes, set_by, with_code};
-use crate::outcome::{Outcome, write_outcome};
 use std::alloc::Global;
 use vr_amsparse::{Branch, Condition, Setting, Within};
-use vr_trace::StepReport;
+use vr_trace::{Outcome, StepReport, write_outcome};
 use vr_types::{Bytes, Items, OutOfMemory};
 
 /// How far a step has come.

@@ -1,6 +1,6 @@
 use Rattle.std.proofs.Common.{◌≡◌, drop, map}
-use Rattle.vr_ams_list.specs.Faults.{is_known}
-use Rattle.vr_ams_list.proofs.fault.is_known.Given as goal
+use Rattle.vr_trace.specs.Shown.{is_known}
+use Rattle.vr_trace.proofs.shown.is_known.Given as goal
 
 -- the volumes that are left give the answer
 abbrev pub invariant-loop-volume : goal.invariant-loop-volume

@@ -8,7 +8,7 @@ use Rattle.vr_amsparse.specs.declared.command.Comparison.TheVariants.{Equal, Not
 use Rattle.vr_amsparse.specs.declared.command.Comparison.TheVariants.{Less, NotLess, NotGreater}
 use Rattle.vr_amsparse.specs.declared.command.Condition.{Condition}
 use Rattle.vr_amsparse.specs.declared.command.Setting.{Setting}
-use Rattle.vr_ams_list.specs.declared.codes.Codes.{Codes}
+use Rattle.vr_ams_run.specs.declared.codes.Codes.{Codes}
 
 -- before the first command
 abbrev pub no_codes : Codes

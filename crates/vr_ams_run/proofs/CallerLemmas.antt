@@ -1,0 +1,235 @@
+-- What crates above cite of reports: the code of a step is 16 at most.
+use Rattle.std.proofs.Common.{◌≡◌, ◌≤◌, ℕ, Bool, true, false, List, [], ◌∷◌, Option, Some, None}
+use Rattle.std.proofs.Common.{arith, inl, inr, map, subst, sym}
+use Rattle.std.specs.Prelude.{not, ◌&&◌, codes, length, if◌then◌else◌, IfSome}
+use Rattle.std.specs.Option.{option_and_then, option_map, option_or}
+use Rattle.std.proofs.Math.Nat.{max-le, min-le_right}
+use Rattle.vr_types.specs.declared.fault.DeviceFault.{DeviceFault}
+use Rattle.vr_types.specs.declared.fault.DeviceFault.TheVariants.{Read, Write}
+use Rattle.vr_types.specs.declared.geometry.Geometry.{Geometry}
+use Rattle.vr_types.specs.declared.reply.Refusal.TheVariants.{Stopped}
+use Rattle.vr_catalog.specs.Define.{define_fault, new_entry}
+use Rattle.vr_catalog.specs.Entry.{is_entry}
+use Rattle.vr_catalog.specs.Fault.{fault_code}
+use Rattle.vr_catalog.specs.declared.entry.CatEntry.{CatEntry}
+use Rattle.vr_catalog.specs.declared.fault.CatFault.{CatFault}
+use Rattle.vr_catalog.specs.declared.fault.CatFault.TheVariants as faults
+use Rattle.vr_catalog.specs.declared.order.Define.{Define}
+use Rattle.vr_amsparse.specs.declared.command.CodeVariable.{CodeVariable}
+use Rattle.vr_amsparse.specs.declared.command.CodeVariable.TheVariants.{LastCode, MaxCode}
+use Rattle.vr_amsparse.specs.declared.command.Command.{Command}
+use Rattle.vr_amsparse.specs.declared.command.Command.TheVariants as commands
+use Rattle.vr_amsparse.specs.declared.command.DefineCommand.{DefineCommand}
+use Rattle.vr_amsparse.specs.declared.command.ListCommand.{ListCommand}
+use Rattle.vr_amsparse.specs.declared.command.Node.{Node}
+use Rattle.vr_trace.specs.Commands.{outcome_by}
+use Rattle.vr_trace.specs.Shown.{Shown, is_known}
+use Rattle.vr_trace.specs.declared.command.Failure.{Failure}
+use Rattle.vr_trace.specs.declared.command.Outcome.{Outcome}
+use Rattle.vr_trace.specs.declared.report.StepReport.{StepReport}
+use Rattle.vr_ams_list.specs.Faults.{has_stopped, is_missing, not_found, stopped}
+use Rattle.vr_ams_list.specs.Listing.{detail_lines}
+use Rattle.vr_ams_list.specs.Outcomes.{listed}
+use Rattle.vr_ams_define.specs.declared.answer.Defined.{Defined}
+use Rattle.vr_ams_define.specs.declared.answer.Defined.TheVariants.{Done, Again, NoArea, NoRoom}
+use Rattle.vr_ams_define.specs.declared.answer.Defined.TheVariants.{Held, Full, Fault}
+use Rattle.vr_ams_define.specs.Answers.{Answering}
+use Rattle.vr_ams_define.specs.Chosen.{chosen}
+use Rattle.vr_ams_define.specs.Failures.{catalog_failure, early_failure, failure_at, failure_if}
+use Rattle.vr_ams_define.specs.Failures.{failure_on, name_failure, record_failure}
+use Rattle.vr_ams_define.specs.Failures.{stopped_failure, volume_at, volume_failure}
+use Rattle.vr_ams_define.specs.Outcomes.{IsDefined, IsOutcome}
+use Rattle.vr_ams_define.specs.Runs.{is_plain_cluster}
+use Rattle.vr_ams_run.specs.declared.codes.Codes.{Codes}
+use Rattle.vr_ams_run.specs.declared.going.Going.{Going}
+use Rattle.vr_ams_run.specs.Codes.{set_to}
+use Rattle.vr_ams_run.specs.Running.{CommandRun, DefineRun, IsReport, NodeRunWhere, NodesRun}
+use Rattle.vr_ams_run.specs.Running.{Stage, ended, first_stage, list_run, passed, reaches}
+
+-- ---- failures
+
+abbrev IsMild : Failure → Type 0
+IsMild failure = failure.code ≤ 16
+
+fault-mild : (fault : CatFault) → fault_code fault ≤ 16
+fault-mild faults.NameTaken = omega arith
+fault-mild faults.NotFound = omega arith
+fault-mild faults.WrongKind = omega arith
+fault-mild faults.NoVolume = omega arith
+fault-mild faults.KeyPastRecord = omega arith
+fault-mild faults.RecordSize = omega arith
+fault-mild faults.FewIntervals = omega arith
+fault-mild faults.NoArea = omega arith
+fault-mild faults.WrongBase = omega arith
+fault-mild faults.TooManyAlternates = omega arith
+fault-mild faults.AlreadyBuilt = omega arith
+fault-mild faults.NotTogether = omega arith
+fault-mild faults.DuplicateKey = omega arith
+fault-mild faults.CatalogFull = omega arith
+fault-mild faults.Memory = omega arith
+
+-- the first of two, where each is mild
+first-mild : (one other : Option Failure) → IfSome one IsMild → IfSome other IsMild
+    → IfSome (option_or one other) IsMild
+first-mild None other mild others = others
+first-mild (Some failure) other mild others = mild
+
+if-mild : (cause : Bool) (failure : Failure) → IsMild failure
+    → IfSome (failure_if cause failure) IsMild
+if-mild true failure mild = mild
+if-mild false failure mild = tt
+
+stopped-mild : (volume : Option Shown) → IfSome (option_and_then stopped_failure volume) IsMild
+stopped-mild None = tt
+stopped-mild (Some volume) = if-mild volume.stopped (volume_failure (Stopped 0)) (omega arith)
+
+catalog-mild : (fault : Option CatFault) → IfSome (option_map catalog_failure fault) IsMild
+catalog-mild None = tt
+catalog-mild (Some fault) = fault-mild fault
+
+record-mild : (entry : CatEntry) → IfSome (record_failure entry) IsMild
+record-mild entry = by (is_entry entry)
+  where
+    by : (spelled : Bool)
+        → IfSome (if spelled then None else Some (catalog_failure faults.CatalogFull)) IsMild
+    by true = tt
+    by false = omega arith
+
+on-mild : (volume : Option Shown) (geometry : Option Geometry) (order : Define)
+    → IfSome (failure_on volume geometry order) IsMild
+on-mild None geometry order = omega arith
+on-mild (Some volume) None order = omega arith
+on-mild (Some volume) (Some geometry) order =
+    first-mild (option_map catalog_failure (define_fault volume.catalog order geometry))
+    (record_failure (new_entry volume.catalog order))
+    (catalog-mild (define_fault volume.catalog order geometry))
+    (record-mild (new_entry volume.catalog order))
+
+early-mild : (volumes : List Shown) (number : Option ℕ) (name : List ℕ)
+    → IfSome (early_failure volumes number name) IsMild
+early-mild volumes number name =
+    first-mild (option_and_then stopped_failure (volume_at volumes number))
+    (name_failure volumes name) (stopped-mild (volume_at volumes number))
+    (if-mild (is_known volumes name) (catalog_failure faults.NameTaken) (omega arith))
+
+-- whatever a DEFINE of a cluster is refused for
+failure-mild : (volumes : List Shown) (geometries : List Geometry) (number : Option ℕ)
+    (order : Define) → IfSome (failure_at volumes geometries number order) IsMild
+failure-mild volumes geometries number order =
+    first-mild (early_failure volumes number order.name)
+    (failure_on (volume_at volumes number) (volume_at geometries number) order)
+    (early-mild volumes number order.name)
+    (on-mild (volume_at volumes number) (volume_at geometries number) order)
+
+-- ---- outcomes
+
+code-of : (outcome other : Outcome) → outcome ≡ other → other.code ≤ 16 → outcome.code ≤ 16
+code-of outcome other is few = subst (λ (it : Outcome). it.code ≤ 16) (sym is) few
+
+device-few : (fault : DeviceFault) (outcome : Outcome) → IsOutcome (Fault fault) outcome
+    → outcome.code ≤ 16
+device-few Read outcome is = code-of outcome _ is (omega arith)
+device-few Write outcome is = code-of outcome _ is (omega arith)
+
+answer-few : (answer : Defined) (outcome : Outcome) → IsOutcome answer outcome
+    → outcome.code ≤ 16
+answer-few (Done area) outcome is = code-of outcome _ is (omega arith)
+answer-few Again outcome is = absurd is
+answer-few NoArea outcome is = code-of outcome _ is (omega arith)
+answer-few NoRoom outcome is = code-of outcome _ is (omega arith)
+answer-few Held outcome is = code-of outcome _ is (omega arith)
+answer-few Full outcome is = code-of outcome _ is (omega arith)
+answer-few (Fault fault) outcome is = device-few fault outcome is
+
+defined-few : {V : Type 0} (shown : V → Shown) (geometry : V → Geometry) (answers : Answering V)
+    (volumes : List V) (line : ℕ) (order : Define) (volume : Option (List ℕ)) (after : List V)
+    (outcome : Outcome)
+    → IsDefined shown geometry answers volumes line order volume after outcome
+    → outcome.code ≤ 16
+defined-few shown geometry answers volumes line order volume after outcome defined =
+    elim defined [
+      | inl refused ↦ code-of outcome _ refused.outcome_is
+          (subst (λ (first : Option Failure). IfSome first IsMild) refused.first_is
+          (failure-mild (map shown volumes) (map geometry volumes)
+          (chosen (length (map shown volumes)) volume) order))
+      | inr answered ↦ answer-few answered.answer outcome answered.outcome_is
+    ]
+
+listed-few : (volumes : List Shown) (command : ListCommand)
+    → (listed volumes command.entries).code ≤ 16
+listed-few volumes command =
+    by (is_missing volumes command.entries) (has_stopped volumes command.entries)
+  where
+    by : (missing halted : Bool) → (outcome_by (if missing then Some not_found else (if halted then
+        Some stopped else None)) (detail_lines volumes command.entries)).code ≤ 16
+    by true halted = omega arith
+    by false true = omega arith
+    by false false = omega arith
+
+-- ---- commands
+
+abbrev IsFew : Going → Type 0
+IsFew going = going.codes.greatest ≤ 16
+
+few-as : (going other : Going) → going ≡ other → IsFew other → IsFew going
+few-as going other is few = subst IsFew (sym is) few
+
+set-few : (variable : CodeVariable) (code : ℕ) (before : Codes) → code ≤ 16
+    → before.greatest ≤ 16 → (set_to variable code before).greatest ≤ 16
+set-few LastCode code before most few = max-le few most
+set-few MaxCode code before most few = most
+
+list-few : (volumes : List Shown) (going : Going) (line : ℕ) (command : ListCommand) → IsFew going
+    → IsFew (list_run volumes going line command)
+list-few volumes going line command few = by command.all
+  where
+    by : (all : Bool) → IsFew (if all then passed going else ended line (codes "LISTCAT")
+        (listed volumes command.entries) going)
+    by true = few
+    by false = max-le few (listed-few volumes command)
+
+module _ {V : Type 0} (shown : V → Shown) (geometry : V → Geometry) (answers : Answering V) where
+  define-few : (runs : Bool) (line : ℕ) (command : DefineCommand) (old new : Stage V)
+      → IsFew old.going → DefineRun shown geometry answers runs line command old new
+      → IsFew new.going
+  define-few true line command old new few run = few-as new.going _ run.going (max-le few
+      (defined-few shown geometry answers old.volumes line command.order command.volume
+      new.volumes run.outcome run.defined))
+  define-few false line command old new few run = few-as new.going _ run.going few
+
+  command-few : (line : ℕ) (command : Command) (old new : Stage V) → IsFew old.going
+      → CommandRun shown geometry answers line command old new → IsFew new.going
+  command-few line (commands.Define command) old new few run =
+      define-few (is_plain_cluster command.order.what) line command old new few run
+  command-few line (commands.Alter command) old new few run = few-as new.going _ run.going few
+  command-few line (commands.Delete command) old new few run = few-as new.going _ run.going few
+  command-few line (commands.Repro command) old new few run = few-as new.going _ run.going few
+  command-few line (commands.BuildIndex command) old new few run = few-as new.going _ run.going few
+  command-few line (commands.Print command) old new few run = few-as new.going _ run.going few
+  command-few line (commands.ListCatalog command) old new few run =
+      few-as new.going _ run.going (list-few (map shown old.volumes) old.going line command few)
+  command-few line (commands.Verify name) old new few run = few-as new.going _ run.going few
+  command-few line (commands.Examine name) old new few run = few-as new.going _ run.going few
+  command-few line (commands.If condition) old new few run = few-as new.going _ run.going few
+  command-few line (commands.Set setting) old new few run = few-as new.going _ run.going
+      (set-few setting.variable _ old.going.codes (min-le_right setting.code 16) few)
+
+  where-few : (runs : Bool) (node : Node) (old new : Stage V) → IsFew old.going
+      → NodeRunWhere shown geometry answers runs node old new → IsFew new.going
+  where-few true node old new few run = command-few node.line node.command old new few run
+  where-few false node old new few run = few-as new.going _ run.going few
+
+  nodes-few : (nodes : List Node) (old new : Stage V) → IsFew old.going
+      → NodesRun shown geometry answers nodes old new → IsFew new.going
+  nodes-few [] old new few run = subst (λ (stage : Stage V). IsFew stage.going) (sym run) few
+  nodes-few (node ∷ nodes) old new few (between, one, more) = nodes-few nodes between new
+      (where-few (not old.going.over && reaches old.going.took node.within) node old between few
+      one) more
+
+  -- the code of a step is 16 at most
+  pub report-few : (nodes : List Node) (old new : List V) (report : StepReport)
+      → IsReport shown geometry answers nodes old new report → report.code ≤ 16
+  report-few nodes old new report is =
+      subst (λ (it : StepReport). it.code ≤ 16) (sym is.is)
+      (nodes-few nodes (first_stage old) (record { volumes = new; going = is.going })
+      (omega arith) is.ran)

@@ -1,0 +1,34 @@
+use Rattle.std.proofs.Common.{ℕ, List, [], ◌∷◌}
+use Rattle.vr_ams_define.specs.Grown.{AreRunOn}
+use Rattle.vr_ams_define.proofs.GrownLemmas.{run-nothing}
+use Rattle.vr_ams_run.proofs.running.run_command.Given.{Over}
+use Rattle.vr_ams_run.proofs.running.run_command.Goals as goal
+
+-- the volumes are as they were
+nothing : (g : Over) (line : ℕ) (volumes : List g.row.V.Denot)
+    → AreRunOn g.V.OwnedVolume.history g.V.OwnedVolume.goes (line ∷ []) volumes volumes
+nothing g line volumes = run-nothing g.V.OwnedVolume.history g.V.OwnedVolume.goes
+    g.V.OwnedVolume.goes_nowhere (line ∷ []) volumes
+
+pub returns-in_err-branch-in-If-clause-grew : goal.returns-in_err-branch-in-If-clause-grew
+returns-in_err-branch-in-If-clause-grew g c = nothing g c.args.line c.args.volumes.now
+
+pub returns-in_err-set-in-Set-clause-grew : goal.returns-in_err-set-in-Set-clause-grew
+returns-in_err-set-in-Set-clause-grew g c = nothing g c.args.line c.args.volumes.now
+
+pub returns-in_err-run_list-in-ListCatalog-clause-grew :
+    goal.returns-in_err-run_list-in-ListCatalog-clause-grew
+returns-in_err-run_list-in-ListCatalog-clause-grew g c = nothing g c.args.line c.args.volumes.now
+
+pub returns-in_err-pass-in-Alter-clause-grew : goal.returns-in_err-pass-in-Alter-clause-grew
+returns-in_err-pass-in-Alter-clause-grew g c = nothing g c.args.line c.args.volumes.now
+
+pub returns-in_ok-branch-in-If-clause-grew : goal.returns-in_ok-branch-in-If-clause-grew
+returns-in_ok-branch-in-If-clause-grew g c = nothing g c.args.line c.args.volumes.now
+
+pub returns-in_ok-run_list-in-ListCatalog-clause-grew :
+    goal.returns-in_ok-run_list-in-ListCatalog-clause-grew
+returns-in_ok-run_list-in-ListCatalog-clause-grew g c = nothing g c.args.line c.args.volumes.now
+
+pub returns-in_ok-pass-in-Alter-clause-grew : goal.returns-in_ok-pass-in-Alter-clause-grew
+returns-in_ok-pass-in-Alter-clause-grew g c = nothing g c.args.line c.args.volumes.now

@@ -1,0 +1,156 @@
+//! The commands of a step.
+ghost use Rattle.std.specs.Prelude.{◌≡◌, ◌∷◌, [], map, IfOk, OnOk};
+ghost use Rattle.vr_ams_define.specs.Grown.{AreRunOn};
+ghost use Rattle.vr_ams_define.specs.Runs.{is_plain_cluster as is_plain};
+ghost use Rattle.vr_ams_run.specs.Running as stated;
+
+use crate::going::Going;
+use std::alloc::Global;
+use vr_ams_define::{OwnedVolume, define_cluster, is_plain_cluster};
+use vr_ams_list::list_entries;
+use vr_amsparse::{Command, DefineCommand, ListCommand, Node};
+use vr_trace::{RunNo, ShownVolume, StepReport};
+use vr_types::OutOfMemory;
+
+/// Whether a command is run yet.
+pub fn is_run(command: &Command) -> bool
+    ensures { result ≡ stated.is_run command.now }
+{
+    match command {
+        Command::If(_) | Command::Set(_) => true,
+        Command::Define(define) => is_plain_cluster(&define.order.what),
+        Command::ListCatalog(list) => !list.all,
+        Command::Alter(_)
+        | Command::Delete(_)
+        | Command::Repro(_)
+        | Command::BuildIndex(_)
+        | Command::Print(_)
+        | Command::Verify(_)
+        | Command::Examine(_) => false,
+    }
+}
+
+/// LISTCAT. ALL isn't run yet.
+fn run_list<V: ShownVolume>(
+    alloc: Global,
+    volumes: &[V],
+    line: u32,
+    command: &ListCommand,
+    going: &mut Going,
+) -> Result<(), OutOfMemory>
+    ensures { OnOk result
+        (going.new ≡ stated.list_run (map V.shown volumes.now) going.old line command.now) }
+{
+    if command.all {
+        return going.pass();
+    }
+    let outcome = list_entries(alloc, volumes, command.entries.as_slice())?;
+    going.end(alloc, line, b"LISTCAT", &outcome)
+}
+
+/// DEFINE. Only of a cluster that isn't spanned is it run yet.
+fn run_define<V: OwnedVolume>(
+    alloc: Global,
+    volumes: &mut [V],
+    line: u32,
+    command: &DefineCommand,
+    going: &mut Going,
+) -> Result<(), RunNo>
+    ensures ran { OnOk result (stated.DefineRun V.shown V.geometry V.answers
+        (is_plain command.now.order.what) line command.now
+        (record { volumes = volumes.old; going = going.old })
+        (record { volumes = volumes.new; going = going.new })) }
+    ensures grew { AreRunOn V.history V.goes (line ∷ []) volumes.old volumes.new }
+{
+    if !is_plain_cluster(&command.order.what) {
+        return Ok(going.pass()?);
+    }
+    let outcome = define_cluster(alloc, volumes, line, &command.order, &command.volume)?;
+    Ok(going.end(alloc, line, b"DEFINE CLUSTER", &outcome)?)
+}
+
+/// Runs a command that is reached.
+fn run_command<V: OwnedVolume>(
+    alloc: Global,
+    volumes: &mut [V],
+    line: u32,
+    command: &Command,
+    going: &mut Going,
+) -> Result<(), RunNo>
+    ensures ran { OnOk result (stated.CommandRun V.shown V.geometry V.answers line command.now
+        (record { volumes = volumes.old; going = going.old })
+        (record { volumes = volumes.new; going = going.new })) }
+    ensures grew { AreRunOn V.history V.goes (line ∷ []) volumes.old volumes.new }
+{
+    match command {
+        Command::If(condition) => Ok(going.branch(*condition)?),
+        Command::Set(setting) => Ok(going.set(*setting)?),
+        Command::Define(define) => run_define(alloc, volumes, line, define, going),
+        Command::ListCatalog(list) => Ok(run_list(alloc, volumes, line, list, going)?),
+        Command::Alter(_)
+        | Command::Delete(_)
+        | Command::Repro(_)
+        | Command::BuildIndex(_)
+        | Command::Print(_)
+        | Command::Verify(_)
+        | Command::Examine(_) => Ok(going.pass()?),
+    }
+}
+
+/// Runs a command, where it is reached.
+fn run_node<V: OwnedVolume>(
+    alloc: Global,
+    volumes: &mut [V],
+    node: &Node,
+    going: &mut Going,
+) -> Result<(), RunNo>
+    ensures ran { OnOk result (stated.NodeRun V.shown V.geometry V.answers node.now
+        (record { volumes = volumes.old; going = going.old })
+        (record { volumes = volumes.new; going = going.new })) }
+    ensures grew { AreRunOn V.history V.goes (node.now.line ∷ []) volumes.old volumes.new }
+{
+    if !going.over && going.reaches(node.within) {
+        run_command(alloc, volumes, node.line, &node.command, going)
+    } else {
+        Ok(going.pass()?)
+    }
+}
+
+/// Runs commands, first to last.
+fn run_all<V: OwnedVolume>(
+    alloc: Global,
+    volumes: &mut [V],
+    commands: &[Node],
+    going: &mut Going,
+) -> Result<(), RunNo>
+    ensures ran { OnOk result (stated.NodesRun V.shown V.geometry V.answers commands.now
+        (record { volumes = volumes.old; going = going.old })
+        (record { volumes = volumes.new; going = going.new })) }
+    ensures grew { AreRunOn V.history V.goes (stated.lines_of commands.now) volumes.old
+        volumes.new }
+{
+    for node in commands {
+        run_node(alloc, volumes, node, going)?;
+    }
+    Ok(())
+}
+
+/// Runs the commands of a step over the volumes, volume 0 first, in order, and gives the report of
+/// the step: DEFINE of a cluster, LISTCAT with NAME, IF and SET, after Access Method Services
+/// Commands. Each runs over the volumes as those before it left them. A command for which `is_run`
+/// is false does nothing. Where stamps or memory run out there is no report, and the volumes are as
+/// the commands so far left them.
+pub fn run_commands<V: OwnedVolume>(
+    alloc: Global,
+    volumes: &mut [V],
+    commands: &[Node],
+) -> Result<StepReport, RunNo>
+    ensures ran { IfOk result (stated.IsReport V.shown V.geometry V.answers commands.now
+        volumes.old volumes.new) }
+    ensures grew { AreRunOn V.history V.goes (stated.lines_of commands.now) volumes.old
+        volumes.new }
+{
+    let mut going = Going::new(alloc);
+    run_all(alloc, volumes, commands, &mut going)?;
+    Ok(going.into_report())
+}
