@@ -19,18 +19,21 @@ use Rattle.vr_trace.proofs.CallerLemmas.{requests_of_deck}
 use Rattle.vr_trace.specs.Laws.{AreRising, deck_entries, entries_on, entry_of, history_at, is_on}
 use Rattle.vr_trace.specs.Laws.{of_deck}
 use Rattle.vr_trace.specs.Numbering.{with_volume}
-use Rattle.vr_worker.specs.Asked.{FollowsOne, IsNext, undoes}
+use Rattle.vr_worker.specs.Asked.{undoes}
+use Rattle.vr_trace.specs.Growing.{FollowsOne, IsNext}
 use Rattle.vr_worker.specs.Deck.{IsNextOn, IsRunSeat}
-use Rattle.vr_worker.specs.Decks.{AreAbove, AreNew, AreSince, ComeNext, FollowsOneOf, HasAsked}
-use Rattle.vr_worker.specs.Decks.{IsEntered, gained, greatest_last, numbers_of}
+use Rattle.vr_worker.specs.Decks.{AreNew, AreSince, HasAsked}
+use Rattle.vr_trace.specs.Growing.{AreAbove, ComeNext, FollowsOneOf}
+use Rattle.vr_worker.specs.Decks.{numbers_of}
+use Rattle.vr_trace.specs.Growing.{IsEntered, gained, greatest_last}
 use Rattle.vr_worker.specs.Latched.{ComesNext, IsSince}
 use Rattle.vr_worker.specs.Latched.ComesNext.{AfterLast, AfterOwn, AfterVolume}
 use Rattle.vr_worker.specs.Ready.{AreTold, IsBegun, IsDone, IsReady, IsToldAt, deck_of, decks_of}
 use Rattle.vr_worker.specs.Ready.{HaveRun, history_of, table_at, turn_at}
 use Rattle.vr_worker.specs.declared.deck.DeckRun.{DeckRun}
 use Rattle.vr_worker.specs.declared.deck.Seat.{Seat}
-use Rattle.vr_worker.specs.declared.no.RunNo.{RunNo}
-use Rattle.vr_worker.specs.declared.no.RunNo.TheVariants.{Memory}
+use Rattle.vr_trace.specs.declared.no.RunNo.{RunNo}
+use Rattle.vr_trace.specs.declared.no.RunNo.TheVariants.{Memory}
 use Rattle.vr_worker.proofs.Laters.{above-stamped, all-of-decks, gained-is}
 use Rattle.vr_worker.proofs.Kept.{contains-kept, contains-map, kept-contains, map-contains}
 use Rattle.vr_worker.proofs.Nexts.{next-more, not-grown}

@@ -8,27 +8,18 @@ use Rattle.std.proofs.lemmas.List.Elements.{All-contains, Contains-append_cases}
 use Rattle.std.proofs.lemmas.List.Elements.{Contains-append_left, Contains-append_right}
 use Rattle.vr_history.specs.Merged.{Numbered, last_stamp}
 use Rattle.vr_history.specs.declared.entry.Entry.{Entry}
-use Rattle.vr_job_text.specs.declared.text.Step.{Step}
+use Rattle.vr_job_text.specs.declared.job.JobStep.{JobStep}
 use Rattle.vr_trace.specs.Code.{greatest}
 use Rattle.vr_trace.specs.Laws.{history_at}
 use Rattle.vr_trace.specs.Numbering.{with_volume}
-use Rattle.vr_worker.specs.Asked.{IsNext}
-use Rattle.vr_worker.specs.Decks.{AreSince, ComeNext, FollowsOneOf, IsEntered, gained}
-use Rattle.vr_worker.specs.Decks.{greatest_last}
-use Rattle.vr_worker.specs.Latched.{IsOfOne, IsSince}
-use Rattle.vr_worker.specs.Runs.{deck_numbers}
-use Rattle.vr_worker.specs.Steps.{AreGapless, AreOfSteps, AreSinceSteps, ComesBefore, IsOfEarlier}
+use Rattle.vr_trace.specs.Growing.{ComeNext, FollowsOneOf, IsEntered, IsNext, gained}
+use Rattle.vr_trace.specs.Growing.{greatest_last}
+use Rattle.vr_worker.specs.OneStep.{AreSinceStep, IsSinceStep}
+use Rattle.vr_worker.specs.Steps.{AreGapless, AreSinceSteps, ComesBefore, IsOfEarlier}
 use Rattle.vr_worker.specs.Steps.{IsOfOneStep, IsOfStep}
 use Rattle.vr_worker.proofs.Laters.{gained-is}
 use Rattle.vr_worker.proofs.Nexts.{last-entry}
-
-none-there : {X : Type 0} (xs : List X) (x : X) → xs ≡ [] → Contains xs x → ⊥
-none-there xs x none has =
-    let it = subst (λ (them : List _). Contains them x) none has in omega (arith, it.1)
-
--- the first of a list is in it
-first-there : {X : Type 0} (x : X) (xs : List X) → Contains (x ∷ xs) x
-first-there x xs = (0, omega arith, refl)
+use Rattle.vr_worker.proofs.OfSteps.{first-there, none-there, of-one}
 
 -- ---- the greatest of the last stamps
 
@@ -82,30 +73,17 @@ module _ {V : Type 0} (entries : V → List Entry) where
 
 -- ---- the entries of steps
 
-of-one : (steps : List Step) (entries : List Entry) (entry : Entry) → AreOfSteps steps entries
-    → Contains entries entry → IsOfOneStep steps entry
-of-one [] entries entry none has = absurd (none-there entries entry none has)
-of-one (step ∷ steps) entries entry (first, rest, both, all, of) has = elim
-    (Contains-append_cases first rest entry
-    (subst (λ (them : List Entry). Contains them entry) both has)) [
-      | inl mine ↦
-          (step, first-there step steps, All-contains (IsOfStep step) first entry all mine)
-      | inr later ↦
-          let it = of-one steps rest entry of later in
-          (it.0, Contains-append_right (step ∷ []) steps it.0 it.1, it.2)
-    ]
-
-earlier-more : (steps more : List Step) (other entry : Entry) → IsOfEarlier steps other entry
+earlier-more : (steps more : List JobStep) (other entry : Entry) → IsOfEarlier steps other entry
     → IsOfEarlier (steps ++ more) other entry
 earlier-more steps more other entry (before, after, both, first, (step, has, own)) = (
   before,
   after ++ more,
-  ap (λ (them : List Step). them ++ more) both ∙ append_assoc before after more,
+  ap (λ (them : List JobStep). them ++ more) both ∙ append_assoc before after more,
   first,
   (step, Contains-append_left after more step has, own),
 )
 
-before-more : (steps more : List Step) (other this : Numbered) → ComesBefore steps other this
+before-more : (steps more : List JobStep) (other this : Numbered) → ComesBefore steps other this
     → ComesBefore (steps ++ more) other this
 before-more steps more other this before = record {
   next = before.next;
@@ -117,7 +95,7 @@ before-more steps more other this before = record {
 }
 
 -- entries of some steps are those of more
-pub gapless-more : (steps more : List Step) (histories : List (List Entry))
+pub gapless-more : (steps more : List JobStep) (histories : List (List Entry))
     → AreGapless steps histories → AreGapless (steps ++ more) histories
 gapless-more steps more histories gapless this entered = elim (gapless this entered) [
   | inl one ↦ inl one
@@ -132,7 +110,7 @@ module _ {V : Type 0} (entries : V → List Entry) where
       absurd (none-there (gained it it) entry (gained-is it it [] (sym (append-nil it))) has)
 
   -- nothing leaves no stamp out
-  pub gapless-none : (steps : List Step) (volumes : List V)
+  pub gapless-none : (steps : List JobStep) (volumes : List V)
       → All (λ (volume : V). entries volume ≡ []) volumes → AreGapless steps (map entries volumes)
   gapless-none steps volumes none this entered =
       let near = on-volume entries volumes this entered in
@@ -141,9 +119,9 @@ module _ {V : Type 0} (entries : V → List Entry) where
       (there entries volumes this.volume volume near ∙ none this.volume volume near) entered)
 
   -- one more step
-  module _ (follows : V → V → Type 0) (steps : List Step) (step : Step) (first mid now : List V)
-      (before : AreSinceSteps entries follows steps first mid)
-      (since : AreSince entries follows (deck_numbers step.decks) mid now)
+  module _ (follows : V → V → Type 0) (steps : List JobStep) (step : JobStep)
+      (first mid now : List V) (before : AreSinceSteps entries follows steps first mid)
+      (since : AreSinceStep entries follows step mid now)
       (gapless : AreGapless steps (map entries mid)) (next : ComeNext entries mid now) where
     -- what was entered is
     entered-later : (this : Numbered) → IsEntered (map entries mid) this
@@ -151,7 +129,7 @@ module _ {V : Type 0} (entries : V → List Entry) where
     entered-later this entered =
         let near = on-volume entries mid this entered in
         let volume : V = some-volume entries mid this.volume near in
-        let it : IsSince entries follows (deck_numbers step.decks)
+        let it : IsSinceStep entries follows step
         (get_or mid this.volume volume) (get_or now this.volume volume) =
         since.each this.volume volume near in
         subst (λ (them : List Entry). Contains them this.entry)
@@ -172,14 +150,14 @@ module _ {V : Type 0} (entries : V → List Entry) where
         (there entries mid this.volume volume near) entered)
 
     module _ (this : Numbered) (volume : V) (near : this.volume < length mid)
-        (it : IsSince entries follows (deck_numbers step.decks) (get_or mid this.volume volume)
+        (it : IsSinceStep entries follows step (get_or mid this.volume volume)
         (get_or now this.volume volume)) (has : Contains it.more this.entry) where
       abbrev Goal : Type 0
       Goal = IsNext 0 this.entry ⊎ ((other : Numbered) × IsEntered (map entries now) other
           × ComesBefore (steps ++ step ∷ []) other this)
 
       own : IsOfStep step this.entry
-      own = All-contains (IsOfOne (deck_numbers step.decks)) it.more this.entry it.own has
+      own = All-contains (IsOfStep step) it.more this.entry it.own has
 
       after-start : IsNext (greatest_last entries mid) this.entry → Goal
       after-start is = elim (greatest-entry entries mid) [
@@ -239,7 +217,7 @@ module _ {V : Type 0} (entries : V → List Entry) where
         let inside = on-volume entries now this entered in
         let near : this.volume < length mid = omega (arith, since.count, inside) in
         let volume : V = some-volume entries mid this.volume near in
-        let it : IsSince entries follows (deck_numbers step.decks)
+        let it : IsSinceStep entries follows step
         (get_or mid this.volume volume) (get_or now this.volume volume) =
         since.each this.volume volume near in
         elim (Contains-append_cases (entries (get_or mid this.volume volume)) it.more this.entry

@@ -18,7 +18,7 @@ use Rattle.vr_trace.specs.Laws.{AreRising, deck_entries, history_at, of_deck}
 use Rattle.vr_worker.specs.Decks.{AreSince, HasAsked, numbers_of}
 use Rattle.vr_worker.specs.Latched.{IsSince}
 use Rattle.vr_worker.specs.declared.deck.DeckRun.{DeckRun}
-use Rattle.vr_worker.specs.declared.no.RunNo.{RunNo}
+use Rattle.vr_trace.specs.declared.no.RunNo.{RunNo}
 use Rattle.vr_worker.proofs.Numbering.{IsAlone, none-asks, none-entered, none-or-alone}
 use Rattle.vr_worker.proofs.RunLists.{run-at, run-numbers, runs-many}
 use Rattle.vr_worker.specs.Asks.{all_ask, requests_of}
@@ -31,7 +31,7 @@ ok-map : {E : Type 0} (result : Result (Unit {0}) E) (P Q : Type 0) → (P → Q
 ok-map (Ok value) P Q more is = more is
 ok-map (Err fault) P Q more is = tt
 
-ok-always : {E : Type 0} (result : Result (Unit {0}) E) (P : Type 0) → P → OnOk result P
+pub ok-always : {E : Type 0} (result : Result (Unit {0}) E) (P : Type 0) → P → OnOk result P
 ok-always (Ok value) P is = is
 ok-always (Err fault) P is = tt
 
@@ -54,7 +54,7 @@ same-mapped {V} {X} f g (volume ∷ old) (one ∷ new) count same =
 
 module _ {V : Type 0} (entries : V → List Entry) where
   -- a deck's entries in the merged history are the same where those on each volume are
-  same-entries : (number : ℕ) (old new : List V) → length new ≡ length old
+  pub same-entries : (number : ℕ) (old new : List V) → length new ≡ length old
       → ((place : ℕ) (volume : V) → place < length old
       → deck_entries number (entries (get_or new place volume))
       ≡ deck_entries number (entries (get_or old place volume)))

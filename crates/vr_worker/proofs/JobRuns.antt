@@ -1,211 +1,324 @@
--- What the first steps of a job leave of the volumes, of decks and of IDCAMS.
-use Rattle.std.proofs.Common.{◌≡◌, ◌∙◌, ◌+◌, ◌<◌, ◌≤◌, ℕ, List, [], ◌∷◌, ◌++◌, Result, ap, arith}
-use Rattle.std.proofs.Common.{All, drop, get_or, length, map, refl, subst, sym, take}
+-- What the first steps of a job leave of the volumes, of decks and of IDCAMS, by the catalogs as
+-- each began.
+use Rattle.std.proofs.Common.{◌≡◌, ◌∙◌, ◌+◌, ◌<◌, ◌≤◌, ℕ, Bool, List, [], ◌∷◌, ◌++◌, All, Result}
+use Rattle.std.proofs.Common.{Ok, Err, ap, append_assoc, arith, cond, false, length, map, nat_lt}
+use Rattle.std.proofs.Common.{subst, sym, true}
 use Rattle.std.specs.Prelude.{OnOk}
 use Rattle.std.specs.Result.{IsErrAnd}
-use Rattle.std.proofs.lemmas.List.{append-nil, length-append, take-append-drop, take_all}
-use Rattle.vr_ams_list.specs.Running.{report_of}
-use Rattle.vr_ams_list.specs.Shown.{Shown}
+use Rattle.std.proofs.lemmas.Bool.Decides.{nat_tests}
+use Rattle.std.proofs.lemmas.List.{append-nil, length-append}
+use Rattle.vr_ams_define.specs.Answers.{Answering}
 use Rattle.vr_catalog.specs.declared.entry.CatEntry.{CatEntry}
+use Rattle.vr_history.specs.Merged.{merged}
 use Rattle.vr_history.specs.declared.entry.Entry.{Entry}
 use Rattle.vr_job_text.specs.Job.{deck_steps}
+use Rattle.vr_job_text.specs.Numbers.{AreNumbered}
 use Rattle.vr_job_text.specs.declared.job.JobStep.{JobStep}
 use Rattle.vr_job_text.specs.declared.job.JobStep.TheVariants.{Decks, Utilities}
-use Rattle.vr_job_text.specs.declared.job.UtilityStep.{UtilityStep}
-use Rattle.vr_job_text.specs.declared.text.Step.{Step}
+use Rattle.vr_trace.specs.Laws.{entry_of}
+use Rattle.vr_trace.specs.Shown.{Shown}
+use Rattle.vr_trace.specs.declared.no.RunNo.{RunNo}
 use Rattle.vr_trace.specs.declared.report.StepReport.{StepReport}
-use Rattle.vr_worker.specs.Asks.{catalogs_of, steps_ask}
-use Rattle.vr_worker.specs.Decks.{ArePlaced, AreSince, ComeNext}
-use Rattle.vr_worker.specs.Reports.{AreReported, IsReportAt, utility_count}
-use Rattle.vr_worker.specs.Runs.{HaveAsked, StayRising, WentOn, deck_numbers}
+use Rattle.vr_types.specs.declared.geometry.Geometry.{Geometry}
+use Rattle.vr_worker.specs.Asks.{catalogs_of, job_step_asks}
+use Rattle.vr_worker.specs.Decks.{ArePlaced}
+use Rattle.vr_worker.specs.OneStep.{AddsReport, HasRunStep, MayRunStep}
+use Rattle.vr_worker.specs.Reports.{AreBetween, AreReportedFrom, HaveRunSteps, utility_count}
 use Rattle.vr_worker.specs.Steps.{AreGapless, AreSinceSteps, ComeInSteps, HasAsked}
-use Rattle.vr_worker.specs.declared.no.RunNo.{RunNo}
-use Rattle.vr_worker.proofs.DeckSteps.{count-next, count-stays, first-passed, job-more, job-split}
-use Rattle.vr_worker.proofs.DeckSteps.{passed}
-use Rattle.vr_worker.proofs.DeckSteps.{passed-at, passed-near, passed-next, passed-stays}
-use Rattle.vr_worker.proofs.Reporting.{reported-later, reported-more, reported-then}
-use Rattle.vr_worker.proofs.Sequences.{HaveDone, done-next, done-none, failed-asked, failed-gapless}
-use Rattle.vr_worker.proofs.Sequences.{failed-since, failed-steps, stopped-asked, stopped-gapless}
-use Rattle.vr_worker.proofs.Sequences.{stopped-since, stopped-steps}
+use Rattle.vr_worker.proofs.Between.{between-now, between-then, since-more, since-none, since-then}
+use Rattle.vr_worker.proofs.Binding.{all-bound-more}
+use Rattle.vr_worker.proofs.Gapless.{gapless-more}
+use Rattle.vr_worker.proofs.JobSteps.{utility_count-both}
+use Rattle.vr_worker.proofs.Numbering.{step-fresh}
+use Rattle.vr_worker.proofs.OfSteps.{of-more}
+use Rattle.vr_worker.proofs.Reporting.{reported-add, reported-more}
+use Rattle.vr_worker.proofs.Sequences.{HaveAskedAll, HaveLeft, asked-all, asked-first, asked-none}
+use Rattle.vr_worker.proofs.Sequences.{asked-stopped, left-none, left-then}
 
--- After some of the steps, all their decks asked all that they request, and each step of IDCAMS has
--- its report.
-pub record HaveCome {V : Type 0} (number : V → ℕ) (shown : V → Shown) (entries : V → List Entry)
-    (follows : V → V → Type 0) (job : List JobStep) (i : ℕ) (first now : List V)
+-- what is owed where a call is done, where it isn't
+pub err-vacuous : (result : Result (Unit {0}) RunNo) (fault : RunNo)
+    → IsErrAnd result (λ (other : RunNo). other ≡ fault) → (P : Type 0) → OnOk result P
+err-vacuous (Ok value) fault fails P = absurd fails
+err-vacuous (Err other) fault fails P = tt
+
+-- catalogs of each number are those that were seen as the first steps began
+abbrev pub AreAsSeen : (ℕ → List (List CatEntry)) → (ℕ → List (List CatEntry)) → ℕ → Type 0
+AreAsSeen catalogs seen count = (number : ℕ) → number < count → catalogs number ≡ seen number
+
+-- Steps that came to their end: their decks asked all that they request, and those of IDCAMS have
+-- their reports.
+pub record HaveCome {V : Type 0} (number : V → ℕ) (shown : V → Shown) (geometry : V → Geometry)
+    (answers : Answering V) (entries : V → List Entry) (follows : V → V → Type 0)
+    (steps : List JobStep) (first now : List V) (reports : List StepReport) : Type 0 where
+  pub placed : ArePlaced number now
+  pub many : length reports ≡ utility_count steps
+  pub begun : AreSinceSteps entries follows steps first now
+  pub seen : ℕ → List (List CatEntry)
+  pub left : (catalogs : ℕ → List (List CatEntry)) → AreAsSeen catalogs seen (length steps)
+      → HaveLeft shown geometry answers entries follows catalogs steps first now reports
+  pub asked : (catalogs : ℕ → List (List CatEntry)) → AreAsSeen catalogs seen (length steps)
+      → HaveAskedAll entries catalogs steps now
+
+-- What a job leaves, wherever it ends.
+pub record HasEnded {V : Type 0} (shown : V → Shown) (geometry : V → Geometry)
+    (answers : Answering V) (entries : V → List Entry) (follows : V → V → Type 0)
+    (job : List JobStep) (result : Result (Unit {0}) RunNo) (first now : List V)
     (reports : List StepReport) : Type 0 where
-  pub done : HaveDone number entries follows (catalogs_of shown first)
-      (take (passed job i) (deck_steps job)) first now
-  pub reported : AreReported shown entries follows first now (take i job) reports
-  pub many : length reports ≡ utility_count (take i job)
+  pub since : AreSinceSteps entries follows job first now
+  pub in_steps : ComeInSteps job (map entries now)
+  pub gapless : AreGapless job (map entries now)
+  pub done : HaveRunSteps shown geometry answers entries follows job result reports first now
 
--- What a job leaves of the volumes, wherever it ends.
-pub record HaveLeft {V : Type 0} (shown : V → Shown) (entries : V → List Entry)
-    (follows : V → V → Type 0) (job : List JobStep) (result : Result (Unit {0}) RunNo)
-    (first now : List V) (reports : List StepReport) : Type 0 where
-  pub since : AreSinceSteps entries follows (deck_steps job) first now
-  pub in_steps : ComeInSteps (deck_steps job) (map entries now)
-  pub gapless : AreGapless (deck_steps job) (map entries now)
-  pub asked : HasAsked (catalogs_of shown first) (deck_steps job) result (map entries now)
-  pub reported : AreReported shown entries follows first now job reports
+-- ---- what was seen, with one more
 
--- a step that is of one kind, at its place
-pub at-place : (job : List JobStep) (i : ℕ) (one it : JobStep) → one ≡ get_or job i one → one ≡ it
-    → it ≡ get_or job i it
-at-place job i one it at is = subst (λ (other : JobStep). other ≡ get_or job i other) is at
+-- from a number on other catalogs
+abbrev seen_then : (ℕ → List (List CatEntry)) → ℕ → List (List CatEntry) → ℕ
+    → List (List CatEntry)
+seen_then seen count given number = cond (nat_lt number count) (seen number) given
 
-module _ {V : Type 0} (number : V → ℕ) (shown : V → Shown) (entries : V → List Entry)
-    (follows : V → V → Type 0) (stays : (volume : V) → follows volume volume)
-    (goes_on : (a b c : V) → follows a b → follows b c → follows a c)
-    (same : (a b : V) → follows a b → (shown b).catalog ≡ (shown a).catalog) (first : List V)
-    (job : List JobStep) where
-  abbrev catalog : V → List CatEntry
-  catalog volume = (shown volume).catalog
+module _ (seen : ℕ → List (List CatEntry)) (count : ℕ) (given : List (List CatEntry)) where
+  seen-before : (number : ℕ) → number < count → seen_then seen count given number ≡ seen number
+  seen-before number near = ap (λ (b : Bool). cond b (seen number) given)
+      (let it : nat_lt number count ≡ true = grind (arith, nat_tests, near) in it)
 
+  seen-after : (number : ℕ) → count ≤ number → seen_then seen count given number ≡ given
+  seen-after number far = ap (λ (b : Bool). cond b (seen number) given)
+      (let it : nat_lt number count ≡ false = grind (arith, nat_tests, far) in it)
+
+  -- catalogs that are so with one more are so without it
+  module _ (catalogs : ℕ → List (List CatEntry)) (more : ℕ) (one : more ≡ count + 1)
+      (agree : AreAsSeen catalogs (seen_then seen count given) more) where
+    as-before : AreAsSeen catalogs seen count
+    as-before number near =
+        agree number (omega (arith, near, one)) ∙ seen-before number near
+
+    as-given : catalogs count ≡ given
+    as-given = agree count (omega (arith, one)) ∙ seen-after count (omega arith)
+
+-- ---- reports
+
+module _ {V : Type 0} (shown : V → Shown) (geometry : V → Geometry) (answers : Answering V)
+    (old new : List V) (before after : List StepReport) where
+  -- a step that failed has none
+  pub none-added : (step : JobStep) (fault : RunNo)
+      → AddsReport shown geometry answers step (Err fault) old new before after → after ≡ before
+  none-added (Decks step) fault adds = adds
+  none-added (Utilities step) fault adds = adds
+
+  -- there are as many as steps of IDCAMS
+  many-added : (steps : List JobStep) (step : JobStep) → length before ≡ utility_count steps
+      → AddsReport shown geometry answers step (Ok tt) old new before after
+      → length after ≡ utility_count (steps ++ step ∷ [])
+  many-added steps (Decks step) many adds = omega (
+    arith,
+    ap length adds,
+    many,
+    utility_count-both steps (Decks step ∷ []),
+  )
+  many-added steps (Utilities step) many adds = omega (
+    arith,
+    ap length adds.added,
+    length-append before (adds.report ∷ []),
+    many,
+    utility_count-both steps (Utilities step ∷ []),
+  )
+
+-- ---- a step that failed
+
+-- what it leaves is so by any answer that isn't Ok
+pub failed-run : {V : Type 0} (shown : V → Shown) (entries : V → List Entry)
+    (follows : V → V → Type 0) (step : JobStep) (mid now : List V)
+    (result given : Result (Unit {0}) RunNo) → ((P : Type 0) → OnOk given P)
+    → HasRunStep shown entries follows step result mid now
+    → HasRunStep shown entries follows step given mid now
+failed-run shown entries follows step mid now result given fails run = record {
+  since = run.since;
+  later = run.later;
+  next = run.next;
+  asked = λ deck other.
+      let it = run.asked deck other in
+      record {
+        first = it.first;
+        asked = it.asked;
+        prefix = it.prefix;
+        whole = fails (it.first ≡ job_step_asks (catalogs_of shown mid) step deck);
+      };
+  rising = run.rising;
+}
+
+module _ {V : Type 0} (number : V → ℕ) (shown : V → Shown) (geometry : V → Geometry)
+    (answers : Answering V) (entries : V → List Entry) (follows : V → V → Type 0)
+    (stays : (volume : V) → follows volume volume)
+    (goes_on : (a b c : V) → follows a b → follows b c → follows a c) (first : List V) where
   -- before the first step
   pub come-none : (reports : List StepReport) → reports ≡ [] → ArePlaced number first
       → All (λ (volume : V). entries volume ≡ []) first
-      → HaveCome number shown entries follows job 0 first first reports
+      → HaveCome number shown geometry answers entries follows [] first first reports
   come-none reports none placed begins = record {
-    done = done-none number entries follows stays goes_on catalog same first placed begins;
-    reported = none;
+    placed = placed;
     many = ap length none;
+    begun = since-none entries follows stays first begins;
+    seen = λ k. [];
+    left = λ catalogs agree. subst (HaveLeft shown geometry answers entries follows catalogs []
+        first first) (sym none)
+        (left-none shown geometry answers entries follows stays goes_on catalogs first begins);
+    asked = λ catalogs agree.
+        asked-none shown geometry answers entries follows stays goes_on catalogs first begins;
   }
 
-  module _ (i : ℕ) (mid : List V) (reports : List StepReport)
-      (come : HaveCome number shown entries follows job i first mid reports) where
-    -- where it ends after these steps
-    pub left-stopped : (result : Result (Unit {0}) RunNo)
-        → OnOk result (take (passed job i) (deck_steps job) ≡ deck_steps job)
-        → HaveLeft shown entries follows job result first mid reports
-    left-stopped result whole =
-        let steps : List Step = deck_steps job in
-        let k : ℕ = passed job i in
-        record {
-          since = stopped-since number entries follows stays goes_on catalog same first steps k mid
-              come.done;
-          in_steps = stopped-steps number entries follows stays goes_on catalog same first steps k
-              mid come.done;
-          gapless = stopped-gapless number entries follows stays goes_on catalog same first steps k
-              mid come.done;
-          asked = stopped-asked number entries follows stays goes_on catalog same first steps k mid
-              come.done result whole;
-          reported = subst (λ (them : List JobStep).
-              AreReported shown entries follows first mid them reports) (take-append-drop i job)
-              (reported-more shown entries follows first [] mid (take i job) (drop i job) reports
-              come.reported);
-        }
+  -- a job whose last steps weren't run
+  ended-by : (catalogs : ℕ → List (List CatEntry)) (steps more : List JobStep) (now : List V)
+      (reports : List StepReport) (result : Result (Unit {0}) RunNo)
+      → HaveLeft shown geometry answers entries follows catalogs steps first now reports
+      → ((k : ℕ) → length steps ≤ k → catalogs k ≡ catalogs_of shown now)
+      → HasAsked catalogs (steps ++ more) result (map entries now)
+      → OnOk result (length reports ≡ utility_count (steps ++ more))
+      → HasEnded shown geometry answers entries follows (steps ++ more) result first now reports
+  ended-by catalogs steps more now reports result left at asked all = record {
+    since = since-more entries follows steps more first now left.since;
+    in_steps = of-more steps more (map entry_of (merged (map entries now))) left.in_steps;
+    gapless = gapless-more steps more (map entries now) left.gapless;
+    done = record {
+      catalogs = catalogs;
+      asked = asked;
+      bound = all-bound-more shown entries follows first catalogs stays goes_on steps more now
+          left.since at left.bound;
+      reported = reported-more shown geometry answers entries follows catalogs first [] now steps
+          more reports left.reported;
+      all_reported = all;
+    };
+  }
 
-    -- or comes through
-    pub all-reported : length job ≤ i → length reports ≡ utility_count job
-    all-reported far = come.many ∙ ap utility_count (take_all i job far)
+  module _ (steps : List JobStep) (mid : List V) (reports : List StepReport)
+      (come : HaveCome number shown geometry answers entries follows steps first mid reports) where
+    -- the decks of the next step have entered nothing
+    pub may-run : (step : JobStep) (more : List JobStep)
+        → AreNumbered (deck_steps (steps ++ step ∷ more)) → MayRunStep entries step mid
+    may-run (Decks step) more numbered = step-fresh entries mid steps step more numbered
+        (λ place volume near.
+        (come.begun.each place volume (omega (arith, come.begun.count, near))).of_steps)
+    may-run (Utilities step) more numbered = tt
 
-    module _ (near : i < length job) (one : JobStep) (at : one ≡ get_or job i one) where
-      -- the decks of another step
-      module _ (step : Step) (is : one ≡ Decks step) (now : List V)
-          (since : AreSince entries follows (deck_numbers step.decks) mid now)
-          {E : Type 0} (result : Result (Unit {0}) E)
-          (asked : HaveAsked (catalogs_of shown mid) step.decks result (map entries mid)
-          (map entries now)) (stay : StayRising (map entries mid) (map entries now))
-          (later : WentOn (deck_numbers step.decks) (map entries mid) (map entries now))
-          (next : ComeNext entries mid now) where
-        here : Decks step ≡ get_or job i (Decks step)
-        here = at-place job i one (Decks step) at is
+    abbrev seen_now : ℕ → List (List CatEntry)
+    seen_now = seen_then come.seen (length steps) (catalogs_of shown mid)
 
-        within : passed job i < length (deck_steps job)
-        within = passed-near job i near step here
+    as-now : AreAsSeen seen_now come.seen (length steps)
+    as-now = seen-before come.seen (length steps) (catalogs_of shown mid)
 
-        there : step ≡ get_or (deck_steps job) (passed job i) step
-        there = passed-at job i near step here
+    -- where no step is left
+    pub ended-whole : HasEnded shown geometry answers entries follows steps (Ok tt) first mid
+        reports
+    ended-whole = subst (λ (job : List JobStep).
+        HasEnded shown geometry answers entries follows job (Ok tt) first mid reports)
+        (append-nil steps) (ended-by seen_now steps [] mid reports (Ok tt)
+        (come.left seen_now as-now) (seen-after come.seen (length steps) (catalogs_of shown mid))
+        (asked-stopped shown geometry answers entries follows stays goes_on seen_now first steps mid
+        reports (come.left seen_now as-now) (come.asked seen_now as-now))
+        (come.many ∙ ap utility_count (sym (append-nil steps))))
 
-        still-reported : (more : List JobStep)
-            → AreReported shown entries follows first now (take i job ++ Decks step ∷ more) reports
-        still-reported more = reported-later shown entries follows first goes_on mid now step since
-            [] (take i job) more reports come.reported
+    -- ---- one step more
 
-        -- which failed
-        pub left-failed : (given : Result (Unit {0}) RunNo) (fault : RunNo)
-            → IsErrAnd given (λ (other : RunNo). other ≡ fault)
-            → HaveLeft shown entries follows job given first now reports
-        left-failed given fault fails =
-            let steps : List Step = deck_steps job in
-            let k : ℕ = passed job i in
-            record {
-              since = failed-since number entries follows stays goes_on catalog same first steps k
-                  step within there mid now come.done since;
-              in_steps = failed-steps number entries follows stays goes_on catalog same first steps
-                  k step within there mid now come.done since later;
-              gapless = failed-gapless number entries follows stays goes_on catalog same first
-                  steps k step within there mid now come.done since next;
-              asked = failed-asked number entries follows stays goes_on catalog same first steps k
-                  step within there mid now come.done since result asked stay given fault fails;
-              reported = subst (λ (them : List JobStep).
-                  AreReported shown entries follows first now them reports)
-                  (sym (job-split job i near (Decks step) here))
-                  (still-reported (drop (i + 1) job));
-            }
+    module _ (step : JobStep) (now : List V) (result : Result (Unit {0}) RunNo)
+        (run : HasRunStep shown entries follows step result mid now) where
+      one-more : length (steps ++ step ∷ []) ≡ length steps + 1
+      one-more = length-append steps (step ∷ [])
 
-        -- and which were done
-        pub come-decks : ((P : Type 0) → OnOk result P → P) → ArePlaced number now
-            → HaveCome number shown entries follows job (i + 1) first now reports
-        come-decks ok placed = record {
-          done = subst (λ (n : ℕ). HaveDone number entries follows (catalogs_of shown first)
-              (take n (deck_steps job)) first now) (sym (passed-next job i near step here))
-              (done-next number entries follows stays goes_on catalog same first (deck_steps job)
-              (passed job i) step within there mid now come.done since result asked stay ok placed
-              later next);
-          reported = subst (λ (them : List JobStep).
-              AreReported shown entries follows first now them reports)
-              (sym (job-more job i near (Decks step) here)) (still-reported []);
-          many = come.many ∙ sym (count-stays job i near step here);
-        }
+      pub between-one : AreBetween entries follows steps (step ∷ []) first mid now
+      between-one = between-then entries follows goes_on step mid now run.since steps [] first mid
+          (between-now entries follows stays steps [] first mid come.begun)
 
-      -- or the commands of a step of IDCAMS, over the volumes as they are
-      module _ (step : UtilityStep) (is : one ≡ Utilities step) where
-        mine : Utilities step ≡ get_or job i (Utilities step)
-        mine = at-place job i one (Utilities step) at is
+      since-one : AreSinceSteps entries follows (steps ++ step ∷ []) first now
+      since-one = since-then entries follows goes_on step mid now run.since steps first come.begun
 
-        report-now : IsReportAt shown entries follows (deck_steps (take i job)) [] first mid
-            step.commands (report_of (map shown mid) step.commands)
-        report-now = record {
+      module _ (catalogs : ℕ → List (List CatEntry))
+          (agree : AreAsSeen catalogs seen_now (length (steps ++ step ∷ []))) where
+        before : AreAsSeen catalogs come.seen (length steps)
+        before = as-before come.seen (length steps) (catalogs_of shown mid) catalogs
+            (length (steps ++ step ∷ [])) one-more agree
+
+        here : catalogs (length steps) ≡ catalogs_of shown mid
+        here = as-given come.seen (length steps) (catalogs_of shown mid) catalogs
+            (length (steps ++ step ∷ [])) one-more agree
+
+        left-one : HaveLeft shown geometry answers entries follows catalogs (steps ++ step ∷ [])
+            first now reports
+        left-one = left-then shown geometry answers entries follows stays goes_on catalogs first
+            steps step mid now reports (come.left catalogs before) result run here
+
+        asked-one : ((P : Type 0) → OnOk result P → P)
+            → HaveAskedAll entries catalogs (steps ++ step ∷ []) now
+        asked-one ok = asked-all shown geometry answers entries follows stays goes_on catalogs first
+            steps step mid now reports (come.left catalogs before) result run here
+            (come.asked catalogs before) ok
+
+      -- which failed
+      pub ended-failed : (more : List JobStep) → ((P : Type 0) → OnOk result P)
+          → HasEnded shown geometry answers entries follows (steps ++ step ∷ more) result first now
+          reports
+      ended-failed more fails =
+          let one : List JobStep = steps ++ step ∷ [] in
+          let given : List (List CatEntry) = catalogs_of shown now in
+          let catalogs : ℕ → List (List CatEntry) = seen_then seen_now (length one) given in
+          let agree : AreAsSeen catalogs seen_now (length one) =
+          seen-before seen_now (length one) given in
+          let whole : one ++ more ≡ steps ++ step ∷ more = append_assoc steps (step ∷ []) more in
+          subst (λ (job : List JobStep).
+          HasEnded shown geometry answers entries follows job result first now reports) whole
+          (ended-by catalogs one more now reports result (left-one catalogs agree)
+          (seen-after seen_now (length one) given)
+          (subst (λ (job : List JobStep). HasAsked catalogs job result (map entries now))
+          (sym whole) (asked-first shown geometry answers entries follows stays goes_on catalogs
+          first steps step mid now reports (come.left catalogs (before catalogs agree)) result run
+          (here catalogs agree) (come.asked catalogs (before catalogs agree)) more fails))
+          (fails (length reports ≡ utility_count (one ++ more))))
+
+    -- the report that it adds
+    reported-one : (catalogs : ℕ → List (List CatEntry)) (step : JobStep) (now : List V)
+        (after : List StepReport) → HaveAskedAll entries catalogs steps mid
+        → AreBetween entries follows steps (step ∷ []) first mid now
+        → HaveLeft shown geometry answers entries follows catalogs (steps ++ step ∷ []) first now
+        reports → AddsReport shown geometry answers step (Ok tt) mid now reports after
+        → AreReportedFrom shown geometry answers entries follows catalogs [] first now
+        (steps ++ step ∷ []) after
+    reported-one catalogs (Decks step) now after asked between left adds = subst
+        (AreReportedFrom shown geometry answers entries follows catalogs [] first now
+        (steps ++ Decks step ∷ [])) (sym adds) left.reported
+    reported-one catalogs (Utilities step) now after asked between left adds = subst
+        (AreReportedFrom shown geometry answers entries follows catalogs [] first now
+        (steps ++ Utilities step ∷ [])) (sym adds.added)
+        (reported-add shown geometry answers entries follows catalogs first step now adds.report []
+        steps reports come.many (record {
           volumes = mid;
-          since = subst (λ (steps : List Step). AreSinceSteps entries follows steps first mid)
-              (first-passed job i) come.done.since;
-          asked = λ deck. come.done.asked deck
-              ∙ ap (λ (steps : List Step). steps_ask (catalogs_of shown first) steps deck)
-              (first-passed job i);
-          later = record {
-            count = refl;
-            each = λ place volume near. stays (get_or mid place volume);
-          };
-          added = λ place volume near. record {
-            more = [];
-            is = sym (append-nil (entries (get_or mid place volume)));
-            of_steps = refl;
-          };
-          is = refl;
-        }
+          between = between;
+          asked = asked;
+          left = now;
+          then = between-now entries follows stays (steps ++ Utilities step ∷ []) [] first now
+              left.since;
+          is = adds.is;
+        }) left.reported)
 
-        pub come-report : (more : List StepReport)
-            → more ≡ reports ++ report_of (map shown mid) step.commands ∷ []
-            → HaveCome number shown entries follows job (i + 1) first mid more
-        come-report more grew =
-            let report : StepReport = report_of (map shown mid) step.commands in
-            record {
-              done = subst (λ (n : ℕ). HaveDone number entries follows (catalogs_of shown first)
-                  (take n (deck_steps job)) first mid) (sym (passed-stays job i near step mine))
-                  come.done;
-              reported = subst (AreReported shown entries follows first mid (take (i + 1) job))
-                  (sym grew) (subst (λ (them : List JobStep).
-                  AreReported shown entries follows first mid them (reports ++ report ∷ []))
-                  (sym (job-more job i near (Utilities step) mine))
-                  (reported-then shown entries follows first [] mid (take i job) step
-                  (deck_steps (take i job)) reports report refl come.many report-now
-                  come.reported));
-              many = omega (
-                arith,
-                ap length grew,
-                length-append reports (report ∷ []),
-                come.many,
-                count-next job i near step mine,
-              );
-            }
+    -- and which was done
+    pub come-then : (step : JobStep) (now : List V) (after : List StepReport)
+        → HasRunStep shown entries follows step (Ok tt) mid now → ArePlaced number now
+        → AddsReport shown geometry answers step (Ok tt) mid now reports after
+        → HaveCome number shown geometry answers entries follows (steps ++ step ∷ []) first now
+        after
+    come-then step now after run placed adds = record {
+      placed = placed;
+      many = many-added shown geometry answers mid now reports after steps step come.many adds;
+      begun = since-one step now (Ok tt) run;
+      seen = seen_now;
+      left = λ catalogs agree.
+          let left = left-one step now (Ok tt) run catalogs agree in
+          record {
+            since = left.since;
+            in_steps = left.in_steps;
+            gapless = left.gapless;
+            rising = left.rising;
+            bound = left.bound;
+            reported = reported-one catalogs step now after
+                (come.asked catalogs (before step now (Ok tt) run catalogs agree))
+                (between-one step now (Ok tt) run) left adds;
+          };
+      asked = λ catalogs agree. asked-one step now (Ok tt) run catalogs agree (λ P has. has);
+    }

@@ -15,7 +15,7 @@ use Rattle.vr_history.specs.Merged.{IsStamped, last_stamp}
 use Rattle.vr_history.specs.declared.entry.Entry.{Entry}
 use Rattle.vr_trace.specs.Code.{greatest}
 use Rattle.vr_trace.specs.Laws.{deck_entries}
-use Rattle.vr_worker.specs.Decks.{AreAbove, AreUpTo, ComeLater, gained, greatest_last}
+use Rattle.vr_trace.specs.Growing.{AreAbove, AreUpTo, ComeLater, gained, greatest_last}
 use Rattle.vr_worker.specs.Latched.{IsOfOne}
 use Rattle.vr_worker.proofs.Taken.{last-above}
 

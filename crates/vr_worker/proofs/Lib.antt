@@ -12,6 +12,8 @@ pub mod Told
 pub mod Sending
 pub mod Volumes
 pub mod Asks
+pub mod OfSteps
+pub mod JobSteps
 pub mod Numbering
 pub mod RunLists
 pub mod Grown
@@ -19,7 +21,10 @@ pub mod Laters
 pub mod Kept
 pub mod Merging
 pub mod Gapless
-pub mod Sequences
-pub mod DeckSteps
+pub mod DeckRuns
+pub mod UtilityRuns
+pub mod Between
+pub mod Binding
 pub mod Reporting
+pub mod Sequences
 pub mod JobRuns

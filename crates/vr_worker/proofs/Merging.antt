@@ -3,7 +3,7 @@ use Rattle.std.proofs.Common.{◌≡◌, ◌∙◌, ◌<◌, ◌≤◌, ◌+◌,
 use Rattle.std.proofs.Common.{List, [], ◌∷◌, ◌++◌, All, ap, arith, cond, get_or, inl, inr, length}
 use Rattle.std.proofs.Common.{map, nat_lt, not, refl, subst, sym}
 use Rattle.std.specs.List.{filter}
-use Rattle.std.specs.Prelude.{Contains, nat_le}
+use Rattle.std.specs.Prelude.{nat_le}
 use Rattle.std.proofs.lemmas.Bool.{cases_Bool}
 use Rattle.std.proofs.lemmas.Bool.Decides.{nat_tests}
 use Rattle.std.proofs.lemmas.List.{append-nil}
@@ -14,10 +14,11 @@ use Rattle.std.proofs.lemmas.Simd.{map-map}
 use Rattle.vr_history.specs.Merged.{Numbered, comes_before, entered, in_order, merged}
 use Rattle.vr_history.specs.Merged.{numbered_from}
 use Rattle.vr_history.specs.declared.entry.Entry.{Entry}
+use Rattle.vr_job_text.specs.declared.job.JobStep.{JobStep}
+use Rattle.vr_trace.specs.Growing.{AreAbove, ComeLater, greatest_last}
 use Rattle.vr_trace.specs.Numbering.{with_volume}
-use Rattle.vr_worker.specs.Decks.{AreAbove, AreSince, ComeLater, greatest_last}
-use Rattle.vr_worker.specs.Latched.{IsOfOne, IsSince}
-use Rattle.vr_worker.specs.Runs.{WentOn}
+use Rattle.vr_worker.specs.OneStep.{AreSinceStep, IsSinceStep, WentOn}
+use Rattle.vr_worker.specs.Steps.{IsOfStep}
 use Rattle.vr_worker.proofs.Grown.{same-mapped}
 use Rattle.vr_worker.proofs.Laters.{gained-is}
 
@@ -228,14 +229,14 @@ module _ (stamp : ℕ) where
 
 -- ---- the volumes
 
-module _ {V : Type 0} (entries : V → List Entry) (follows : V → V → Type 0) (decks : List ℕ)
-    (old new : List V) (since : AreSince entries follows decks old new)
+module _ {V : Type 0} (entries : V → List Entry) (follows : V → V → Type 0) (step : JobStep)
+    (old new : List V) (since : AreSinceStep entries follows step old new)
     (later : ComeLater entries old new) where
   abbrev start : ℕ
   start = greatest_last entries old
 
   module _ (place : ℕ) (volume : V) (near : place < length old) where
-    it : IsSince entries follows decks (get_or old place volume) (get_or new place volume)
+    it : IsSinceStep entries follows step (get_or old place volume) (get_or new place volume)
     it = since.each place volume near
 
     above-start : AreAbove start it.more
@@ -248,8 +249,8 @@ module _ {V : Type 0} (entries : V → List Entry) (follows : V → V → Type 0
         (entries (get_or new place volume)) it.more it.grew (later.had place volume near)
         above-start
 
-    own-high : All (IsOfOne decks) (filter (high start) (entries (get_or new place volume)))
-    own-high = All-same (IsOfOne decks)
+    own-high : All (IsOfStep step) (filter (high start) (entries (get_or new place volume)))
+    own-high = All-same (IsOfStep step)
         (filter (high start) (entries (get_or new place volume))) it.more
         (high-part start (entries (get_or old place volume))
         (entries (get_or new place volume)) it.more it.grew (later.had place volume near)
@@ -261,22 +262,22 @@ module _ {V : Type 0} (entries : V → List Entry) (follows : V → V → Type 0
       ∙ same-mapped (λ (volume : V). filter (low start) (entries volume)) entries old new
       since.count same-low))
 
-  all-own : All (λ (this : Numbered). IsOfOne decks this.entry)
+  all-own : All (λ (this : Numbered). IsOfStep step this.entry)
       (laters start (numbered_from 0 (map entries new)))
-  all-own = all-in-order (λ (this : Numbered). IsOfOne decks this.entry)
+  all-own = all-in-order (λ (this : Numbered). IsOfStep step this.entry)
       (filter (λ (this : Numbered). high start this.entry) (numbered_from 0 (map entries new)))
-      (All-same (λ (this : Numbered). IsOfOne decks this.entry)
+      (All-same (λ (this : Numbered). IsOfStep step this.entry)
       (filter (λ (this : Numbered). high start this.entry) (numbered_from 0 (map entries new)))
       (numbered_from 0 (map (filter (high start)) (map entries new)))
       (filter-all-numbered (high start) 0 (map entries new))
-      (all-numbered (IsOfOne decks) 0 (map (filter (high start)) (map entries new))
-      (All-map (All (IsOfOne decks)) (filter (high start)) (map entries new)
-      (All-map (λ (history : List Entry). All (IsOfOne decks) (filter (high start) history))
+      (all-numbered (IsOfStep step) 0 (map (filter (high start)) (map entries new))
+      (All-map (All (IsOfStep step)) (filter (high start)) (map entries new)
+      (All-map (λ (history : List Entry). All (IsOfStep step) (filter (high start) history))
       entries new (λ place volume near.
       own-high place volume (omega (arith, since.count, near)))))))
 
   -- so the merged history went on at its end
-  pub went-on : WentOn decks (map entries old) (map entries new)
+  pub went-on : WentOn step (map entries old) (map entries new)
   went-on = record {
     more = laters start (numbered_from 0 (map entries new));
     grew = split start (numbered_from 0 (map entries new))
@@ -286,12 +287,12 @@ module _ {V : Type 0} (entries : V → List Entry) (follows : V → V → Type 0
   }
 
 -- where the volumes stay, it stays
-pub went-nowhere : (decks : List ℕ) (histories : List (List Entry))
-    → WentOn decks histories histories
-went-nowhere decks histories = record {
+pub went-nowhere : (step : JobStep) (histories : List (List Entry))
+    → WentOn step histories histories
+went-nowhere step histories = record {
   more = [];
   grew = sym (append-nil (merged histories));
-  own = All-nil (λ (this : Numbered). Contains decks this.entry.unit.deck);
+  own = All-nil (λ (this : Numbered). IsOfStep step this.entry);
 }
 
 -- volumes on which nothing was entered have nothing merged

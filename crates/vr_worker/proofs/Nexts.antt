@@ -7,7 +7,7 @@ use Rattle.vr_history.specs.Merged.{last_stamp}
 use Rattle.vr_history.specs.declared.entry.Entry.{Entry}
 use Rattle.vr_ledger.specs.Entries.{HasGrown}
 use Rattle.vr_ledger.specs.Turn.{TurnNow}
-use Rattle.vr_worker.specs.Asked.{FollowsOne}
+use Rattle.vr_trace.specs.Growing.{FollowsOne}
 use Rattle.vr_worker.specs.Latched.{ComesNext, HasLearned}
 use Rattle.vr_worker.specs.Latched.ComesNext.{AfterLast, AfterOwn, AfterVolume}
 

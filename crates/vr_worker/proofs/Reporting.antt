@@ -1,148 +1,122 @@
 -- The reports of the steps of IDCAMS, as more steps of a job are run.
-use Rattle.std.proofs.Common.{◌≡◌, ◌∙◌, List, [], ◌∷◌, ◌++◌, ap, append_assoc}
-use Rattle.std.proofs.Common.{arith, get_or, length, refl, subst, sym}
+use Rattle.std.proofs.Common.{◌≡◌, ℕ, List, [], ◌∷◌, ◌++◌, append_assoc, arith, length, refl}
+use Rattle.std.proofs.Common.{subst, sym}
 use Rattle.std.proofs.lemmas.List.{append-nil}
-use Rattle.vr_ams_list.specs.Shown.{Shown}
-use Rattle.vr_amsparse.specs.declared.command.Node.{Node}
+use Rattle.vr_ams_define.specs.Answers.{Answering}
+use Rattle.vr_catalog.specs.declared.entry.CatEntry.{CatEntry}
 use Rattle.vr_history.specs.declared.entry.Entry.{Entry}
-use Rattle.vr_job_text.specs.Job.{deck_steps}
 use Rattle.vr_job_text.specs.declared.job.JobStep.{JobStep}
 use Rattle.vr_job_text.specs.declared.job.JobStep.TheVariants.{Decks, Utilities}
 use Rattle.vr_job_text.specs.declared.job.UtilityStep.{UtilityStep}
-use Rattle.vr_job_text.specs.declared.text.Step.{Step}
+use Rattle.vr_trace.specs.Shown.{Shown}
 use Rattle.vr_trace.specs.declared.report.StepReport.{StepReport}
-use Rattle.vr_worker.specs.Decks.{AreSince}
+use Rattle.vr_types.specs.declared.geometry.Geometry.{Geometry}
+use Rattle.vr_worker.specs.OneStep.{AreSinceStep}
 use Rattle.vr_worker.specs.Reports.{AreReportedFrom, IsReportAt, utility_count}
-use Rattle.vr_worker.specs.Runs.{deck_numbers}
-use Rattle.vr_worker.specs.Steps.{AreOfSteps}
-use Rattle.vr_worker.proofs.DeckSteps.{deck_steps-both}
-use Rattle.vr_worker.proofs.Sequences.{of-more, of-then}
+use Rattle.vr_worker.proofs.Between.{between-more, between-then}
 
-module _ {V : Type 0} (shown : V → Shown) (entries : V → List Entry) (follows : V → V → Type 0)
-    (first : List V) where
+module _ {V : Type 0} (shown : V → Shown) (geometry : V → Geometry) (answers : Answering V)
+    (entries : V → List Entry) (follows : V → V → Type 0)
+    (catalogs : ℕ → List (List CatEntry)) (first : List V) where
+  abbrev IsAt : List JobStep → UtilityStep → List JobStep → List V → StepReport → Type 0
+  IsAt before step after now report = IsReportAt shown geometry answers entries follows catalogs
+      before step after first now report
+
+  abbrev AreFrom : List JobStep → List V → List JobStep → List StepReport → Type 0
+  AreFrom before now steps reports = AreReportedFrom shown geometry answers entries follows
+      catalogs before first now steps reports
+
   -- ---- which steps have a report
 
   -- none yet
-  reported-none : (before : List Step) (now : List V) (steps : List JobStep)
-      → AreReportedFrom shown entries follows before first now steps []
+  reported-none : (before : List JobStep) (now : List V) (steps : List JobStep)
+      → AreFrom before now steps []
   reported-none before now [] = refl
-  reported-none before now (Decks step ∷ steps) = reported-none (before ++ step ∷ []) now steps
+  reported-none before now (Decks step ∷ steps) =
+      reported-none (before ++ Decks step ∷ []) now steps
   reported-none before now (Utilities step ∷ steps) = tt
 
-  -- a report, where more steps of decks are to come
-  report-before : (before after more : List Step) (now : List V) (commands : List Node)
-      (report : StepReport)
-      → IsReportAt shown entries follows before after first now commands report
-      → IsReportAt shown entries follows before (after ++ more) first now commands report
-  report-before before after more now commands report it = record {
+  -- a report, where more steps are to come
+  report-more : (before : List JobStep) (step : UtilityStep) (after more : List JobStep)
+      (now : List V) (report : StepReport) → IsAt before step after now report
+      → IsAt before step (after ++ more) now report
+  report-more before step after more now report it = record {
     volumes = it.volumes;
-    since = it.since;
+    between = between-more entries follows before (Utilities step ∷ after) more first it.volumes
+        now it.between;
     asked = it.asked;
-    later = it.later;
-    added = λ place volume near.
-        let added = it.added place volume near in
-        record {
-          more = added.more;
-          is = added.is;
-          of_steps = of-more after more added.more added.of_steps;
-        };
+    left = it.left;
+    then = between-more entries follows (before ++ Utilities step ∷ []) after more first it.left
+        now it.then;
     is = it.is;
   }
 
-  -- some of the steps, and none of the rest
-  pub reported-more : (before : List Step) (now : List V) (one more : List JobStep)
-      (reports : List StepReport) → AreReportedFrom shown entries follows before first now one reports
-      → AreReportedFrom shown entries follows before first now (one ++ more) reports
+  pub reported-more : (before : List JobStep) (now : List V) (steps more : List JobStep)
+      (reports : List StepReport) → AreFrom before now steps reports
+      → AreFrom before now (steps ++ more) reports
   reported-more before now [] more reports none =
-      subst (AreReportedFrom shown entries follows before first now more) (sym none)
-      (reported-none before now more)
-  reported-more before now (Decks step ∷ one) more reports are =
-      reported-more (before ++ step ∷ []) now one more reports are
-  reported-more before now (Utilities step ∷ one) more [] are = tt
-  reported-more before now (Utilities step ∷ one) more (report ∷ reports) (it, are) = (
-    subst (λ (after : List Step).
-        IsReportAt shown entries follows before after first now step.commands report)
-        (sym (deck_steps-both one more))
-        (report-before before (deck_steps one) (deck_steps more) now step.commands report it),
-    reported-more before now one more reports are,
+      subst (AreFrom before now more) (sym none) (reported-none before now more)
+  reported-more before now (Decks step ∷ steps) more reports are =
+      reported-more (before ++ Decks step ∷ []) now steps more reports are
+  reported-more before now (Utilities step ∷ steps) more [] are = tt
+  reported-more before now (Utilities step ∷ steps) more (report ∷ reports) (it, are) = (
+    report-more before step steps more now report it,
+    reported-more (before ++ Utilities step ∷ []) now steps more reports are,
   )
 
-  -- another step of IDCAMS, after those that have theirs
-  pub reported-then : (before : List Step) (now : List V) (one : List JobStep) (step : UtilityStep)
-      (all : List Step) (reports : List StepReport) (report : StepReport)
-      → all ≡ before ++ deck_steps one → length reports ≡ utility_count one
-      → IsReportAt shown entries follows all [] first now step.commands report
-      → AreReportedFrom shown entries follows before first now one reports
-      → AreReportedFrom shown entries follows before first now (one ++ Utilities step ∷ [])
-      (reports ++ report ∷ [])
-  reported-then before now [] step all reports report whole many it none =
-      subst (λ (them : List StepReport). AreReportedFrom shown entries follows before first now
-      (Utilities step ∷ []) (them ++ report ∷ [])) (sym none) (
-        subst (λ (them : List Step).
-            IsReportAt shown entries follows them [] first now step.commands report)
-            (whole ∙ append-nil before) it,
-        refl,
-      )
-  reported-then before now (Decks deck ∷ one) step all reports report whole many it are =
-      reported-then (before ++ deck ∷ []) now one step all reports report
-      (whole ∙ sym (append_assoc before (deck ∷ []) (deck_steps one))) many it are
-  reported-then before now (Utilities other ∷ one) step all [] report whole many it are =
-      absurd (omega (arith, many))
-  reported-then before now (Utilities other ∷ one) step all (head ∷ reports) report whole many it
-      (has, are) = (
-        subst (λ (after : List Step).
-            IsReportAt shown entries follows before after first now other.commands head)
-            (sym (deck_steps-both one (Utilities step ∷ []) ∙ append-nil (deck_steps one))) has,
-        reported-then before now one step all reports report whole (omega (arith, many)) it are,
-      )
+  -- ---- as another step runs
 
-  -- ---- as the decks of another step run
-
-  module _ (goes_on : (a b c : V) → follows a b → follows b c → follows a c) (mid now : List V)
-      (step : Step) (since : AreSince entries follows (deck_numbers step.decks) mid now) where
-    report-later : (before after more : List Step) (commands : List Node) (report : StepReport)
-        → IsReportAt shown entries follows before after first mid commands report
-        → IsReportAt shown entries follows before (after ++ step ∷ more) first now commands report
-    report-later before after more commands report it = record {
+  module _ (goes_on : (a b c : V) → follows a b → follows b c → follows a c) (step : JobStep)
+      (mid now : List V) (since : AreSinceStep entries follows step mid now) where
+    report-then : (before : List JobStep) (other : UtilityStep) (after : List JobStep)
+        (report : StepReport) → IsAt before other after mid report
+        → IsAt before other (after ++ step ∷ []) now report
+    report-then before other after report it = record {
       volumes = it.volumes;
-      since = it.since;
+      between = between-then entries follows goes_on step mid now since before
+          (Utilities other ∷ after) first it.volumes it.between;
       asked = it.asked;
-      later = record {
-        count = since.count ∙ it.later.count;
-        each = λ place volume near. goes_on (get_or it.volumes place volume)
-            (get_or mid place volume) (get_or now place volume)
-            (it.later.each place volume near)
-            (since.each place volume (omega (arith, it.later.count, near))).is_later;
-      };
-      added = λ place volume near.
-          let added = it.added place volume near in
-          let grown = since.each place volume (omega (arith, it.later.count, near)) in
-          record {
-            more = added.more ++ grown.more;
-            is = grown.grew ∙ ap (λ (them : List Entry). them ++ grown.more) added.is
-                ∙ append_assoc (entries (get_or it.volumes place volume)) added.more grown.more;
-            of_steps = subst (λ (steps : List Step). AreOfSteps steps (added.more ++ grown.more))
-                (append_assoc after (step ∷ []) more)
-                (of-more (after ++ step ∷ []) more (added.more ++ grown.more)
-                (of-then after step added.more grown.more added.of_steps grown.own));
-          };
+      left = it.left;
+      then = between-then entries follows goes_on step mid now since
+          (before ++ Utilities other ∷ []) after first it.left it.then;
       is = it.is;
     }
 
-    pub reported-later : (before : List Step) (steps more : List JobStep)
-        (reports : List StepReport)
-        → AreReportedFrom shown entries follows before first mid steps reports
-        → AreReportedFrom shown entries follows before first now (steps ++ Decks step ∷ more) reports
-    reported-later before [] more reports none =
-        subst (AreReportedFrom shown entries follows before first now (Decks step ∷ more))
-        (sym none) (reported-none before now (Decks step ∷ more))
-    reported-later before (Decks deck ∷ steps) more reports are =
-        reported-later (before ++ deck ∷ []) steps more reports are
-    reported-later before (Utilities other ∷ steps) more [] are = tt
-    reported-later before (Utilities other ∷ steps) more (report ∷ reports) (it, are) = (
-      subst (λ (after : List Step).
-          IsReportAt shown entries follows before after first now other.commands report)
-          (sym (deck_steps-both steps (Decks step ∷ more)))
-          (report-later before (deck_steps steps) (deck_steps more) other.commands report it),
-      reported-later before steps more reports are,
+    -- the others stay
+    pub reported-then : (before steps : List JobStep) (reports : List StepReport)
+        → AreFrom before mid steps reports → AreFrom before now (steps ++ step ∷ []) reports
+    reported-then before [] reports none = subst (AreFrom before now (step ∷ [])) (sym none)
+        (reported-none before now (step ∷ []))
+    reported-then before (Decks deck ∷ steps) reports are =
+        reported-then (before ++ Decks deck ∷ []) steps reports are
+    reported-then before (Utilities other ∷ steps) [] are = tt
+    reported-then before (Utilities other ∷ steps) (report ∷ reports) (it, are) = (
+      report-then before other steps report it,
+      reported-then (before ++ Utilities other ∷ []) steps reports are,
     )
+
+  -- and one of IDCAMS adds its own
+  pub reported-add : (step : UtilityStep) (now : List V) (report : StepReport)
+      (before steps : List JobStep) (reports : List StepReport)
+      → length reports ≡ utility_count steps → IsAt (before ++ steps) step [] now report
+      → AreFrom before now (steps ++ Utilities step ∷ []) reports
+      → AreFrom before now (steps ++ Utilities step ∷ []) (reports ++ report ∷ [])
+  reported-add step now report before [] [] many it are = (
+    subst (λ (them : List JobStep). IsAt them step [] now report) (append-nil before) it,
+    refl,
+  )
+  reported-add step now report before [] (head ∷ reports) many it are =
+      absurd (omega (arith, many))
+  reported-add step now report before (Decks deck ∷ steps) reports many it are =
+      reported-add step now report (before ++ Decks deck ∷ []) steps reports many
+      (subst (λ (them : List JobStep). IsAt them step [] now report)
+      (sym (append_assoc before (Decks deck ∷ []) steps)) it) are
+  reported-add step now report before (Utilities other ∷ steps) [] many it are =
+      absurd (omega (arith, many))
+  reported-add step now report before (Utilities other ∷ steps) (head ∷ reports) many it
+      (has, are) = (
+        has,
+        reported-add step now report (before ++ Utilities other ∷ []) steps reports
+            (omega (arith, many)) (subst (λ (them : List JobStep). IsAt them step [] now report)
+            (sym (append_assoc before (Utilities other ∷ []) steps)) it) are,
+      )

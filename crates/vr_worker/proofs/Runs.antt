@@ -18,7 +18,7 @@ use Rattle.vr_trace.proofs.CallerLemmas.{entries_again}
 use Rattle.vr_worker.specs.Asked.{if_done, is_ok}
 use Rattle.vr_worker.specs.Deck.{AreCalm, HasRun, IsNextOn}
 use Rattle.vr_worker.specs.Latched.{ComesNext, HasTaken}
-use Rattle.vr_worker.specs.declared.no.RunNo.{RunNo}
+use Rattle.vr_trace.specs.declared.no.RunNo.{RunNo}
 use Rattle.vr_worker.proofs.Nexts.{next-after, next-more}
 use Rattle.vr_worker.proofs.Parts.{part-both}
 use Rattle.vr_worker.proofs.Stamps.{last_stamp-both, stamped-both}

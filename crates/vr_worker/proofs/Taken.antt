@@ -12,7 +12,8 @@ use Rattle.vr_ledger.specs.Entries.{HasGrown, IsOf}
 use Rattle.vr_ledger.specs.Turn.{TurnNow}
 use Rattle.vr_trace.specs.Laws.{deck_entries}
 use Rattle.vr_trace.specs.Numbering.{with_volume}
-use Rattle.vr_worker.specs.Asked.{FollowsOne, HasEntered, IsNext, MayGoOn, bound_to, if_done}
+use Rattle.vr_worker.specs.Asked.{HasEntered, MayGoOn, bound_to, if_done}
+use Rattle.vr_trace.specs.Growing.{FollowsOne, IsNext}
 use Rattle.vr_worker.specs.Latched.{ComesNext, HasTaken, IsOfOne, IsSince}
 use Rattle.vr_worker.specs.Latched.ComesNext.{AfterLast, AfterVolume}
 use Rattle.vr_worker.proofs.Nexts.{follows-more, grown-on, last-entry, still-there}

@@ -10,7 +10,7 @@ use Rattle.vr_ledger.specs.Turn.{TurnNow}
 use Rattle.vr_trace.specs.Numbering.{with_volume}
 use Rattle.vr_worker.specs.Asked.{MayAsk, is_ok}
 use Rattle.vr_worker.specs.Latched.{ComesNext, HasTaken}
-use Rattle.vr_worker.specs.declared.no.RunNo.{RunNo}
+use Rattle.vr_trace.specs.declared.no.RunNo.{RunNo}
 use Rattle.vr_worker.proofs.Nexts.{learned-none, learned-then, next-after, next-more}
 use Rattle.vr_worker.proofs.Parts.{part-then}
 use Rattle.vr_worker.proofs.Stamps.{last_stamp-both, stamped-both}

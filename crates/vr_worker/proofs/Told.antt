@@ -14,7 +14,7 @@ use Rattle.vr_trace.specs.Laws.{deck_entries}
 use Rattle.vr_worker.specs.Ready.{AreSameSeats, AreTold, HasTurnAt, HasTurns, HaveRun}
 use Rattle.vr_worker.specs.Ready.{IsSameSeat, IsToldAt, IsUnrun}
 use Rattle.vr_worker.specs.declared.deck.Seat.{Seat}
-use Rattle.vr_worker.specs.declared.no.RunNo.{RunNo}
+use Rattle.vr_trace.specs.declared.no.RunNo.{RunNo}
 use Rattle.vr_worker.proofs.Places.{at-push}
 use Rattle.vr_worker.proofs.Runs.{run-none}
 

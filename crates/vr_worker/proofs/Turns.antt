@@ -16,7 +16,7 @@ use Rattle.vr_trace.specs.Numbering.{with_volume}
 use Rattle.vr_worker.specs.Asked.{is_ok, undoes}
 use Rattle.vr_worker.specs.Deck.{AreCalm, AreTurns, HaveGrown}
 use Rattle.vr_worker.specs.Latched.{HasLearned, HasTaken}
-use Rattle.vr_worker.specs.declared.no.RunNo.{RunNo}
+use Rattle.vr_trace.specs.declared.no.RunNo.{RunNo}
 use Rattle.vr_worker.proofs.Nexts.{learned-none, learned-then}
 use Rattle.vr_worker.proofs.Parts.{on-both, on-other, on-same}
 

@@ -1,6 +1,6 @@
 -- What one event of a deck's request adds to the history of a volume. The rules are this project's own.
-use Rattle.std.specs.Prelude.{◌≡◌, ◌⊎◌, ◌+◌, ℕ, Bool, true, false, cond, IsTrue, List, [], ◌∷◌}
-use Rattle.std.specs.Prelude.{◌++◌, All, Contains, Result, Ok, Err, map, max}
+use Rattle.std.specs.Prelude.{◌≡◌, ◌⊎◌, ℕ, Bool, true, false, cond, IsTrue, List, [], ◌∷◌}
+use Rattle.std.specs.Prelude.{◌++◌, All, Result, Ok, Err, map, max}
 use Rattle.vr_types.specs.declared.bound.Bound.{Bound}
 use Rattle.vr_types.specs.declared.request.Request.{Request}
 use Rattle.vr_history.specs.Legal.{is_backout}
@@ -9,9 +9,10 @@ use Rattle.vr_history.specs.declared.entry.Entry.{Entry}
 use Rattle.vr_history.specs.declared.entry.What.{What}
 use Rattle.vr_history.specs.declared.entry.What.TheVariants.{Asked, Undone, Claimed, Split, Faulted}
 use Rattle.vr_ledger.specs.Entries.{IsOf}
+use Rattle.vr_trace.specs.Growing.{FollowsOne, IsNext}
 use Rattle.vr_trace.specs.Laws.{deck_entries}
 use Rattle.vr_trace.specs.Numbering.{with_volume}
-use Rattle.vr_worker.specs.declared.no.RunNo.{RunNo}
+use Rattle.vr_trace.specs.declared.no.RunNo.{RunNo}
 
 -- Of a deck's own entries, the last that is a request or a before-image put back is the latter: its
 -- unit has begun to undo, and hasn't ended that.
@@ -53,14 +54,6 @@ bound_to volume line request = record { volume = volume; line = line; request = 
 
 abbrev pub if_done : Bool → Bound → List Bound
 if_done done bound = cond done (bound ∷ []) []
-
--- the stamp of an entry comes next after this one
-abbrev pub IsNext : ℕ → Entry → Type 0
-IsNext stamp entry = entry.stamp ≡ stamp + 1
-
--- or next after that of one of these entries
-abbrev pub FollowsOne : List Entry → Entry → Type 0
-FollowsOne entries entry = (other : Entry) × Contains entries other × IsNext other.stamp entry
 
 -- The entries of the event are the deck's, at the stamps that come next after the greater of its
 -- own last one and the volume's, and answer the request where it is done, and none where it isn't.

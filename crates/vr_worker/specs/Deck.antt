@@ -9,7 +9,7 @@ use Rattle.vr_trace.specs.Laws.{entries_on, entry_of}
 use Rattle.vr_worker.specs.Asked.{undoes}
 use Rattle.vr_worker.specs.Latched.{ComesNext, HasLearned}
 use Rattle.vr_worker.specs.declared.deck.Seat.{Seat}
-use Rattle.vr_worker.specs.declared.no.RunNo.{RunNo}
+use Rattle.vr_trace.specs.declared.no.RunNo.{RunNo}
 
 -- a turn of the deck at this ledger
 abbrev pub IsTurnAt : TableId → ℕ → TurnNow → Type 0

@@ -1,16 +1,13 @@
 -- The decks of a step, and what they leave of the volumes. The rules are this project's own.
 use Rattle.std.specs.Prelude.{◌≡◌, ◌⊎◌, ◌<◌, ◌≤◌, ◌-◌, ◌^◌, ◌==◌, ℕ, List, [], false, All, Contains}
 use Rattle.std.specs.Prelude.{Result}
-use Rattle.std.specs.Prelude.{OnOk, drop, get_or, length, map, take, count_by}
-use Rattle.vr_history.specs.Merged.{Numbered, last_stamp, merged, part_of_deck}
+use Rattle.std.specs.Prelude.{OnOk, get_or, length, map, take, count_by}
+use Rattle.vr_history.specs.Merged.{last_stamp, merged, part_of_deck}
 use Rattle.vr_history.specs.declared.entry.Entry.{Entry}
-use Rattle.vr_trace.specs.Code.{greatest}
-use Rattle.vr_trace.specs.Laws.{AreRising, deck_entries, history_at, of_deck}
-use Rattle.vr_trace.specs.Numbering.{with_volume}
-use Rattle.vr_worker.specs.Asked.{IsNext}
+use Rattle.vr_trace.specs.Laws.{AreRising, deck_entries, of_deck}
 use Rattle.vr_worker.specs.Latched.{IsSince}
 use Rattle.vr_worker.specs.declared.deck.DeckRun.{DeckRun}
-use Rattle.vr_worker.specs.declared.no.RunNo.{RunNo}
+use Rattle.vr_trace.specs.declared.no.RunNo.{RunNo}
 
 -- the volume at each place has the number of the place
 abbrev pub ArePlaced : {V : Type 0} → (V → ℕ) → List V → Type 0
@@ -40,51 +37,6 @@ pub record AreSince {V : Type 0} (entries : V → List Entry) (follows : V → V
   pub count : length new ≡ length old
   pub each : (place : ℕ) (volume : V) → place < length old
       → IsSince entries follows decks (get_or old place volume) (get_or new place volume)
-
--- the greatest of the last stamps of volumes, 0 where nothing was entered
-abbrev pub greatest_last : {V : Type 0} → (V → List Entry) → List V → ℕ
-greatest_last {V} entries volumes = greatest (λ (volume : V). last_stamp 0 (entries volume)) volumes
-
--- the stamps of entries are at most this one
-abbrev pub AreUpTo : ℕ → List Entry → Type 0
-AreUpTo stamp entries = All (λ (entry : Entry). entry.stamp ≤ stamp) entries
-
--- or all above it
-abbrev pub AreAbove : ℕ → List Entry → Type 0
-AreAbove stamp entries = All (λ (entry : Entry). stamp < entry.stamp) entries
-
--- what a history that grew has more than it had
-abbrev pub gained : List Entry → List Entry → List Entry
-gained old new = drop (length old) new
-
--- The greatest of the last stamps is no less than any stamp of the volumes as they were, and less
--- than that of each entry that one of them gained.
-pub record ComeLater {V : Type 0} (entries : V → List Entry) (old new : List V) : Type 0 where
-  pub had : All (λ (volume : V). AreUpTo (greatest_last entries old) (entries volume)) old
-  pub gains : (place : ℕ) (volume : V) → place < length old
-      → AreAbove (greatest_last entries old)
-      (gained (entries (get_or old place volume)) (entries (get_or new place volume)))
-
--- one of the entries of the volumes' histories, with its volume
-abbrev pub IsEntered : List (List Entry) → Numbered → Type 0
-IsEntered histories this = Contains (history_at histories this.volume) this.entry
-
--- An entry has the stamp that comes next after that of another one, of its volume or of its deck.
-pub record FollowsOneOf (histories : List (List Entry)) (this : Numbered) : Type 0 where
-  pub other : Numbered
-  pub entered : IsEntered histories other
-  pub next : IsNext other.entry.stamp this.entry
-  pub shares : (other.volume ≡ this.volume) ⊎ (other.entry.unit.deck ≡ this.entry.unit.deck)
-
--- No stamp is left out: each entry that a volume gained has the one that comes next after the
--- greatest of the last stamps of the volumes as they were, or after that of an entry of its volume
--- or its deck.
-abbrev pub ComeNext : {V : Type 0} → (V → List Entry) → List V → List V → Type 0
-ComeNext {V} entries old new = (place : ℕ) (volume : V) (entry : Entry) → place < length old
-    → Contains (gained (entries (get_or old place volume)) (entries (get_or new place volume)))
-    entry
-    → IsNext (greatest_last entries old) entry
-    ⊎ FollowsOneOf (map entries new) (with_volume place entry)
 
 -- A deck's part of the merged history of the volumes is the first of its requests, each once and in
 -- order: all of them, where the step is done. Over all volumes, the stamps of its entries rise.

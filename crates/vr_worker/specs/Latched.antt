@@ -9,7 +9,8 @@ use Rattle.vr_ledger.specs.Entries.{HasGrown}
 use Rattle.vr_ledger.specs.Ledger.{LedgerNow}
 use Rattle.vr_ledger.specs.Turn.{TurnNow}
 use Rattle.vr_trace.specs.Numbering.{with_volume}
-use Rattle.vr_worker.specs.Asked.{FollowsOne, IsNext, MayGoOn, bound_to, if_done}
+use Rattle.vr_worker.specs.Asked.{MayGoOn, bound_to, if_done}
+use Rattle.vr_trace.specs.Growing.{FollowsOne, IsNext}
 
 -- a volume with its ledger
 pub record LatchedNow (V : Type 0) : Type 0 where

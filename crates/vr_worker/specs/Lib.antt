@@ -6,4 +6,5 @@ pub mod Ready
 pub mod Asks
 pub mod Runs
 pub mod Steps
+pub mod OneStep
 pub mod Reports

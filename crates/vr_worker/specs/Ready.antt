@@ -12,7 +12,7 @@ use Rattle.vr_worker.specs.Decks.{ArePlaced}
 use Rattle.vr_worker.specs.Latched.{IsSince}
 use Rattle.vr_worker.specs.declared.deck.DeckRun.{DeckRun}
 use Rattle.vr_worker.specs.declared.deck.Seat.{Seat}
-use Rattle.vr_worker.specs.declared.no.RunNo.TheVariants.{Memory}
+use Rattle.vr_trace.specs.declared.no.RunNo.TheVariants.{Memory}
 
 -- the deck that has this seat
 abbrev pub deck_of : Seat → DeckRun

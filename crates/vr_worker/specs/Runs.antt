@@ -1,10 +1,10 @@
 -- The decks of a step as they run, and what they asked. The rules are this project's own.
 use Rattle.std.specs.Prelude.{◌≡◌, ◌==◌, ◌≤◌, ℕ, List, [], ◌++◌, All, Result, OnOk, count_by}
-use Rattle.std.specs.Prelude.{Contains, false, map}
+use Rattle.std.specs.Prelude.{false, map}
 use Rattle.vr_types.specs.declared.bound.Bound.{Bound}
 use Rattle.vr_catalog.specs.declared.entry.CatEntry.{CatEntry}
 use Rattle.vr_bind.specs.Bound.{bound_requests}
-use Rattle.vr_history.specs.Merged.{Numbered, merged, part_of_deck}
+use Rattle.vr_history.specs.Merged.{merged, part_of_deck}
 use Rattle.vr_history.specs.declared.entry.Entry.{Entry}
 use Rattle.vr_job_text.specs.declared.text.Deck.{Deck}
 use Rattle.vr_trace.specs.Laws.{AreRising, deck_entries, of_deck}
@@ -67,9 +67,3 @@ HaveAsked catalogs decks result old new = (number : ℕ)
 abbrev pub StayRising : List (List Entry) → List (List Entry) → Type 0
 StayRising old new = (number : ℕ) → AreRising (of_deck number (merged old))
     → AreRising (of_deck number (merged new))
-
--- The merged history went on at its end, by entries of these decks.
-pub record WentOn (decks : List ℕ) (old new : List (List Entry)) : Type 0 where
-  pub more : List Numbered
-  pub grew : merged new ≡ merged old ++ more
-  pub own : All (λ (this : Numbered). Contains decks this.entry.unit.deck) more

@@ -4,11 +4,11 @@ ghost use Rattle.vr_worker.specs.Asked.{MayAsk, is_done, is_ok};
 ghost use Rattle.vr_worker.specs.Latched.{HasTaken};
 
 use crate::latched::{Latched, Names};
-use crate::no::RunNo;
 use crate::served::Served;
 use std::sync::{Mutex, Wait};
 use vr_ledger::Turn;
 use vr_outside::{Gate, Spot};
+use vr_trace::RunNo;
 use vr_types::SharedRequest;
 
 /// Never returns. It may be called only where a latch guards a volume of another number than the one

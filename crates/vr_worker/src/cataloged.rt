@@ -1,12 +1,18 @@
-//! A volume whose catalog stays.
+//! A volume that decks and the utilities share in turn.
 ghost use Rattle.std.specs.Prelude.{◌≡◌};
 
 use crate::served::Served;
-use vr_ams_list::ShownVolume;
+use vr_ams_define::OwnedVolume;
 
-/// A volume that answers the requests of decks, and that the commands of IDCAMS see.
-pub trait Cataloged: Served + ShownVolume {
-    /// No request changes its catalog.
-    ghost stays_same: { (a b : Self) → Self.follows a b
-        → (Self.shown b).catalog ≡ (Self.shown a).catalog };
+/// A volume that answers the requests of decks, and that the commands of IDCAMS see and change, at
+/// other times.
+pub trait Cataloged: Served + OwnedVolume {
+    /// It has one history.
+    ghost same_history: { (volume : Self) → Self.history volume ≡ Self.entries volume };
+
+    /// What a command leaves is a later state.
+    ghost goes_follows: { (a b : Self) → Self.goes a b → Self.follows a b };
+
+    /// A command leaves its number.
+    ghost goes_number: { (a b : Self) → Self.goes a b → Self.number b ≡ Self.number a };
 }

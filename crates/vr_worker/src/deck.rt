@@ -4,11 +4,11 @@ ghost use Rattle.vr_worker.specs.Deck.{AreCalm, AreTurns, HasRun, IsRunSeat};
 
 use crate::asking::run_request;
 use crate::latched::{Latched, Names};
-use crate::no::RunNo;
 use crate::served::Served;
 use std::sync::{Mutex, Wait};
 use vr_ledger::Turn;
 use vr_outside::Gate;
+use vr_trace::RunNo;
 use vr_types::Bound;
 
 /// A deck of a step: its number, and its requests in order.

@@ -1,13 +1,14 @@
 //! The decks of a step, each on a thread of its own.
-ghost use Rattle.std.specs.Prelude.{◌≡◌, ◌^◌, All, IsErrOf, IsTrue, Ok, OnOk, map};
-ghost use Rattle.vr_worker.specs.Decks.{AreNew, ArePlaced, AreSince, AreUpTo, ComeLater, ComeNext};
+ghost use Rattle.std.specs.Prelude.{◌≡◌, ◌^◌, All, IfOk, IsErrOf, IsTrue, Ok, OnOk, map};
+ghost use Rattle.vr_worker.specs.Decks.{AreNew, ArePlaced, AreSince};
+ghost use Rattle.vr_trace.specs.Growing.{AreUpTo, ComeLater, ComeNext};
 ghost use Rattle.vr_worker.specs.Decks.{HasAsked, HasLastUnit, HasUsedUp, IsUsedUp};
-ghost use Rattle.vr_worker.specs.Decks.{greatest_last, numbers_of};
+ghost use Rattle.vr_worker.specs.Decks.{numbers_of};
+ghost use Rattle.vr_trace.specs.Growing.{greatest_last};
 ghost use Rattle.vr_worker.specs.Ready.{IsBegun, IsDone, decks_of, history_of};
-ghost use Rattle.vr_worker.specs.declared.no.RunNo.TheVariants.{Stamps};
+ghost use Rattle.vr_trace.specs.declared.no.RunNo.TheVariants.{Stamps};
 
 use crate::deck::{DeckRun, Seat};
-use crate::no::RunNo;
 use crate::readying::{Ready, make_ready};
 use crate::running::run_named;
 use crate::served::Served;
@@ -18,6 +19,7 @@ use std::thread::Threads;
 use vr_history::{Entry, History};
 use vr_ledger::Ledger;
 use vr_outside::Gate;
+use vr_trace::RunNo;
 use vr_types::OutOfMemory;
 
 /// The least stamp with which no event begins.
@@ -76,12 +78,12 @@ fn has_used_up<V: Served>(volumes: &[V]) -> bool
 }
 
 /// An end for want of stamps or units of recovery, where a volume shows it.
-fn shown<V: Served>(end: Result<(), RunNo>, volumes: &[V]) -> Result<(), RunNo>
-    ensures done { OnOk result (end ≡ Ok tt) }
+pub(crate) fn shown<T, V: Served>(end: Result<T, RunNo>, volumes: &[V]) -> Result<T, RunNo>
+    ensures done { IfOk result (λ value. end ≡ Ok value) }
     ensures stamps { IsErrOf result Stamps → HasUsedUp V.entries volumes.now }
 {
     match end {
-        Ok(()) => Ok(()),
+        Ok(value) => Ok(value),
         Err(RunNo::Memory) => Err(RunNo::Memory),
         Err(RunNo::Stamps) => {
             if has_used_up(volumes) {

@@ -7,10 +7,10 @@ ghost use Rattle.vr_trace.specs.Laws.{deck_entries};
 ghost use Rattle.vr_worker.specs.Asked.{MayAsk, is_done};
 ghost use Rattle.vr_worker.specs.Latched.{HasTaken, IsLatched, IsSince};
 
-use crate::no::RunNo;
 use crate::served::Served;
 use std::marker::{Brand, Model, PhantomData};
 use vr_ledger::{Ledger, Turn};
+use vr_trace::RunNo;
 use vr_types::SharedRequest;
 
 /// What a step knows of each volume by its number: the volume as the step began, and its ledger; and

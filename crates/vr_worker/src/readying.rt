@@ -3,15 +3,16 @@ ghost use Rattle.std.specs.Prelude.{◌≡◌, ◌∷◌, [], All, IfOk, OnOk, m
 ghost use Rattle.vr_history.specs.Merged.{IsStamped, last_stamp};
 ghost use Rattle.vr_ledger.specs.Decks.{times};
 ghost use Rattle.vr_ledger.specs.Ledger.{LedgerNow};
-ghost use Rattle.vr_worker.specs.Decks.{AreUpTo, IsOnce, greatest_last};
+ghost use Rattle.vr_worker.specs.Decks.{IsOnce};
+ghost use Rattle.vr_trace.specs.Growing.{AreUpTo, greatest_last};
 ghost use Rattle.vr_worker.specs.Ready.{IsBegun, IsUnused, decks_of, history_of, turn_at, with_out};
 
 use crate::deck::{DeckRun, Seat};
-use crate::no::RunNo;
 use crate::served::Served;
 use std::alloc::Global;
 use vr_history::History;
 use vr_ledger::{Ledger, Turn};
+use vr_trace::RunNo;
 use vr_types::OutOfMemory;
 
 /// The ledgers of the volumes, and the decks as their threads begin.
@@ -33,8 +34,9 @@ fn last_of(history: &History) -> u64
 }
 
 /// The greatest of the last stamps of the volumes, 0 where nothing was entered.
-fn greatest_of<V: Served>(volumes: &[V]) -> u64
+pub(crate) fn greatest_of<V: Served>(volumes: &[V]) -> u64
     ensures last { result ≡ greatest_last V.entries volumes.now }
+    ensures stamped { All (λ (volume : V). IsStamped 0 (V.entries volume)) volumes.now }
     ensures had { All (λ (volume : V). AreUpTo (greatest_last V.entries volumes.now)
         (V.entries volume)) volumes.now }
 {

@@ -4,8 +4,8 @@ ghost use Rattle.vr_history.specs.declared.entry.Entry.{Entry};
 ghost use Rattle.vr_trace.specs.Laws.{deck_entries};
 ghost use Rattle.vr_worker.specs.Asked.{HasEntered, MayAsk, is_done};
 
-use crate::no::RunNo;
 use vr_history::History;
+use vr_trace::RunNo;
 use vr_types::SharedRequest;
 
 /// A volume that answers the requests of decks event by event.

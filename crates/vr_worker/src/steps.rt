@@ -1,31 +1,29 @@
 //! The steps of a job, one after another.
-ghost use Rattle.std.specs.Prelude.{◌≡◌, ◌<◌, ◌^◌, [], ◌∷◌, ◌++◌, All, IfOk, IsErrOf, OnErr, OnOk};
-ghost use Rattle.std.specs.Prelude.{length, map};
-ghost use Rattle.vr_ams_list.specs.Running.{report_of};
+ghost use Rattle.std.specs.Prelude.{◌≡◌, ◌<◌, ◌^◌, [], All, IfOk, IsErrOf, length, map};
 ghost use Rattle.vr_job_text.specs.Job.{deck_steps};
 ghost use Rattle.vr_job_text.specs.Numbers.{AreNumbered};
+ghost use Rattle.vr_job_text.specs.declared.job.JobStep.TheVariants.{Decks};
+ghost use Rattle.vr_trace.specs.declared.no.RunNo.TheVariants.{Stamps};
 ghost use Rattle.vr_worker.specs.Asks.{catalogs_of};
-ghost use Rattle.vr_worker.specs.Reports.{AreReported, utility_count};
-ghost use Rattle.vr_worker.specs.Runs.{AreFresh, AreRuns, HaveAsked, StayRising, WentOn};
-ghost use Rattle.vr_worker.specs.Runs.{deck_numbers};
-ghost use Rattle.vr_worker.specs.Steps.{AreGapless, AreSinceSteps, ComeInSteps, HasAsked};
-ghost use Rattle.vr_worker.specs.Decks.{ArePlaced, AreSince, ComeNext, HasUsedUp};
-ghost use Rattle.vr_worker.specs.declared.no.RunNo.TheVariants.{Stamps};
+ghost use Rattle.vr_worker.specs.Decks.{ArePlaced, HasUsedUp};
+ghost use Rattle.vr_worker.specs.OneStep.{AddsReport, HasRunStep, MayRunStep};
+ghost use Rattle.vr_worker.specs.Reports.{HaveRunSteps};
+ghost use Rattle.vr_worker.specs.Runs.{AreFresh, AreRuns};
+ghost use Rattle.vr_worker.specs.Steps.{AreGapless, AreSinceSteps, ComeInSteps};
 
 use crate::cataloged::Cataloged;
 use crate::deck::DeckRun;
 use crate::decks::run_decks;
-use crate::no::RunNo;
+use crate::utilities::report_step;
 use std::alloc::Global;
 use std::mem;
 use std::sync::Wait;
 use std::thread::Threads;
-use vr_ams_list::run_commands;
 use vr_bind::bind;
 use vr_catalog::Catalog;
-use vr_job_text::{Deck, JobStep, Step, UtilityStep};
+use vr_job_text::{Deck, JobStep, Step};
 use vr_outside::Gate;
-use vr_trace::StepReports;
+use vr_trace::{RunNo, StepReports};
 use vr_types::OutOfMemory;
 
 /// The catalogs of volumes, from volume 0 on.
@@ -86,15 +84,8 @@ fn run_step<R: Threads + Wait + Sync, V: Cataloged + Send, G: Gate + Sync>(
     requires fresh { AreFresh V.entries step.now.decks volumes.old.items }
     requires few { length volumes.old.items < 2 ^ 32 }
     ensures placed { ArePlaced V.number volumes.new.items }
-    ensures since { AreSince V.entries V.follows (deck_numbers step.now.decks) volumes.old.items
-        volumes.new.items }
-    ensures asked { HaveAsked (catalogs_of V.shown volumes.old.items) step.now.decks result
-        (map V.entries volumes.old.items) (map V.entries volumes.new.items) }
-    ensures rising { StayRising (map V.entries volumes.old.items)
-        (map V.entries volumes.new.items) }
-    ensures later { WentOn (deck_numbers step.now.decks) (map V.entries volumes.old.items)
-        (map V.entries volumes.new.items) }
-    ensures next { ComeNext V.entries volumes.old.items volumes.new.items }
+    ensures left { HasRunStep V.shown V.entries V.follows (Decks step.now) result
+        volumes.old.items volumes.new.items }
     ensures stamps { IsErrOf result Stamps → HasUsedUp V.entries volumes.new.items }
 {
     let runs = bind_step(alloc, step, volumes.as_slice())?;
@@ -104,28 +95,37 @@ fn run_step<R: Threads + Wait + Sync, V: Cataloged + Send, G: Gate + Sync>(
     end.result
 }
 
-/// Runs the commands of a step of IDCAMS over the volumes, and adds its report.
-fn report_step<V: Cataloged>(
+/// Runs a step over the volumes, as the steps before it left them.
+fn run_any<R: Threads + Wait + Sync, V: Cataloged + Send, G: Gate + Sync>(
+    rt: &R,
     alloc: Global,
-    volumes: &[V],
-    step: &UtilityStep,
+    volumes: &mut Vec<V>,
+    step: &JobStep,
     reports: &mut StepReports,
-) -> Result<(), OutOfMemory>
-    ensures ok { OnOk result (reports.new
-        ≡ reports.old ++ report_of (map V.shown volumes.now) step.now.commands ∷ []) }
-    ensures err { OnErr result (reports.new ≡ reports.old) }
+    gate: &G,
+) -> Result<(), RunNo>
+    requires placed { ArePlaced V.number volumes.old.items }
+    requires fresh { MayRunStep V.entries step.now volumes.old.items }
+    requires few { length volumes.old.items < 2 ^ 32 }
+    ensures placed { ArePlaced V.number volumes.new.items }
+    ensures left { HasRunStep V.shown V.entries V.follows step.now result volumes.old.items
+        volumes.new.items }
+    ensures reported { AddsReport V.shown V.geometry V.answers step.now result volumes.old.items
+        volumes.new.items reports.old reports.new }
+    ensures stamps { IsErrOf result Stamps → HasUsedUp V.entries volumes.new.items }
 {
-    let report = run_commands(alloc, volumes, step.commands.as_slice())?;
-    reports.push(report)?;
-    Ok(())
+    match step {
+        JobStep::Decks(step) => run_step(rt, alloc, volumes, step, gate),
+        JobStep::Utilities(step) => report_step(alloc, volumes.as_mut_slice(), step, reports),
+    }
 }
 
 /// Runs the steps over the volumes, which have no history yet, one step after another, to the end
 /// or until stamps or memory run out. Each deck is bound over the catalogs of all volumes as its
 /// step begins, and runs on a thread of its own where one can be made. What a step enters comes
 /// after all that the steps before it entered, on whichever volumes. The commands of a step of
-/// IDCAMS run over the volumes as the steps before it left them, and its report is added to the
-/// others.
+/// IDCAMS run over the volumes as the steps before it left them, and may change them; its report is
+/// added to the others.
 pub fn run_steps<R: Threads + Wait + Sync, V: Cataloged + Send, G: Gate + Sync>(
     rt: &R,
     alloc: Global,
@@ -140,22 +140,16 @@ pub fn run_steps<R: Threads + Wait + Sync, V: Cataloged + Send, G: Gate + Sync>(
     requires few { length volumes.old.items < 2 ^ 32 }
     requires none { reports.old ≡ [] }
     ensures placed { ArePlaced V.number volumes.new.items }
-    ensures since { AreSinceSteps V.entries V.follows (deck_steps steps.now) volumes.old.items
+    ensures since { AreSinceSteps V.entries V.follows steps.now volumes.old.items
         volumes.new.items }
-    ensures in_steps { ComeInSteps (deck_steps steps.now) (map V.entries volumes.new.items) }
-    ensures gapless { AreGapless (deck_steps steps.now) (map V.entries volumes.new.items) }
-    ensures asked { HasAsked (catalogs_of V.shown volumes.old.items) (deck_steps steps.now) result
-        (map V.entries volumes.new.items) }
+    ensures in_steps { ComeInSteps steps.now (map V.entries volumes.new.items) }
+    ensures gapless { AreGapless steps.now (map V.entries volumes.new.items) }
+    ensures done { HaveRunSteps V.shown V.geometry V.answers V.entries V.follows steps.now result
+        reports.new volumes.old.items volumes.new.items }
     ensures stamps { IsErrOf result Stamps → HasUsedUp V.entries volumes.new.items }
-    ensures reported { AreReported V.shown V.entries V.follows volumes.old.items volumes.new.items
-        steps.now reports.new }
-    ensures all_reported { OnOk result (length reports.new ≡ utility_count steps.now) }
 {
     for step in steps {
-        match step {
-            JobStep::Decks(step) => run_step(rt, alloc, volumes, step, gate)?,
-            JobStep::Utilities(step) => report_step(alloc, volumes.as_slice(), step, reports)?,
-        }
+        run_any(rt, alloc, volumes, step, reports, gate)?;
     }
     Ok(())
 }

@@ -13,10 +13,11 @@ use Rattle.vr_ledger.proofs.CallerLemmas.{entries_of-more}
 use Rattle.vr_ledger.specs.Entries.{IsOf}
 use Rattle.vr_trace.specs.Laws.{deck_entries}
 use Rattle.vr_trace.specs.Numbering.{with_volume}
-use Rattle.vr_worker.specs.Asked.{FollowsOne, HasEntered, IsNext, MayAsk, MayGoOn, bound_to}
+use Rattle.vr_worker.specs.Asked.{HasEntered, MayAsk, MayGoOn, bound_to}
+use Rattle.vr_trace.specs.Growing.{FollowsOne, IsNext}
 use Rattle.vr_worker.specs.Asked.{if_done, undoes}
 use Rattle.vr_worker.specs.Asked.{is_done, undoes_from, undoing_after}
-use Rattle.vr_worker.specs.declared.no.RunNo.{RunNo}
+use Rattle.vr_trace.specs.declared.no.RunNo.{RunNo}
 use Rattle.vr_worker_cases.specs.Event.{event_of, what_of}
 
 undoes-append : (before : Bool) (own : List Entry) (entry : Entry)

@@ -8,8 +8,9 @@ use std::sync::Wait;
 use std::thread::Threads;
 use vr_history::{Entry, History, What};
 use vr_outside::{BothHeld, OpenGate};
+use vr_trace::RunNo;
 use vr_types::OutOfMemory;
-use vr_worker::{RunEnd, RunNo};
+use vr_worker::RunEnd;
 
 /// The entries of volume 0, where deck 1 is held between the two events of its request there until
 /// deck 2 asked two there.

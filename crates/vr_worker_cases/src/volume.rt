@@ -5,8 +5,9 @@ ghost use Rattle.vr_worker_cases.specs.Event.{Always, event_of};
 
 use std::alloc::Global;
 use vr_history::{Entry, History, What};
+use vr_trace::RunNo;
 use vr_types::{OutOfMemory, PartNo, Reply, Request, SharedRequest, Unit};
-use vr_worker::{RunNo, Served};
+use vr_worker::Served;
 
 /// The least stamp with which no event begins.
 const STAMP_LIMIT: u64 = 1 << 62;

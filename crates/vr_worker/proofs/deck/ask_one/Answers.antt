@@ -1,5 +1,5 @@
 use Rattle.std.proofs.Common.{[], ◌∷◌, Err}
-use Rattle.vr_worker.specs.declared.no.RunNo.TheVariants.{Memory}
+use Rattle.vr_trace.specs.declared.no.RunNo.TheVariants.{Memory}
 use Rattle.vr_worker.proofs.Runs.{run-none, run-one}
 use Rattle.vr_worker.proofs.Turns.{calm-one}
 use Rattle.vr_worker.proofs.deck.ask_one.Goals as goal

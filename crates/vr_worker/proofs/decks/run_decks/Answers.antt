@@ -3,7 +3,8 @@ use Rattle.vr_worker.proofs.Asks.{none-asked}
 use Rattle.vr_worker.proofs.Laters.{none-later}
 use Rattle.vr_worker.proofs.Gapless.{none-next}
 use Rattle.vr_worker.proofs.Volumes.{since-themselves}
-use Rattle.vr_worker.specs.Decks.{AreUpTo, greatest_last, numbers_of}
+use Rattle.vr_worker.specs.Decks.{numbers_of}
+use Rattle.vr_trace.specs.Growing.{AreUpTo, greatest_last}
 use Rattle.vr_worker.proofs.decks.run_decks.Goals as goal
 
 pub returns-in-Err-clause-since : goal.returns-in-Err-clause-since

@@ -1,7 +1,8 @@
 use Rattle.std.proofs.Common.{refl}
 use Rattle.vr_worker.proofs.Asks.{all-asked, all-ready, all-told, come-next, gain-above}
 use Rattle.vr_worker.proofs.Volumes.{first-later, first-latched, since-all}
-use Rattle.vr_worker.specs.Decks.{greatest_last, numbers_of}
+use Rattle.vr_worker.specs.Decks.{numbers_of}
+use Rattle.vr_trace.specs.Growing.{greatest_last}
 use Rattle.vr_worker.specs.Ready.{decks_of}
 use Rattle.vr_worker.proofs.decks.run_ready.Goals as goal
 

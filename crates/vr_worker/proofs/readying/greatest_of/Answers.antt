@@ -2,7 +2,7 @@ use Rattle.std.proofs.Common.{◌∙◌, ◌∷◌, ◌++◌, [], ℕ, All, ap, 
 use Rattle.std.proofs.lemmas.List.{take_all, take_more}
 use Rattle.std.proofs.lemmas.List.Elements.{All-more}
 use Rattle.vr_history.specs.Merged.{IsStamped, last_stamp}
-use Rattle.vr_worker.specs.Decks.{greatest_last}
+use Rattle.vr_trace.specs.Growing.{greatest_last}
 use Rattle.vr_worker.proofs.Laters.{greatest-more, none-above}
 use Rattle.vr_worker.proofs.readying.greatest_of.Goals as goal
 
@@ -26,10 +26,12 @@ loop-volume-preserved g c =
           (subst (IsStamped 0) c.history.ensures c.last_of.ensures.stamped));
     }
 
+pub returns-clause-stamped : goal.returns-clause-stamped
+returns-clause-stamped g c = subst
+    (All (λ (one : g.row.V.Denot). IsStamped 0 (g.V.Served.entries one)))
+    (take_all c.loop-volume.volume-index c.args.volumes.now c.loop-volume-test.false)
+    c.loop-volume.invariant.stamped
+
 pub returns-clause-had : goal.returns-clause-had
 returns-clause-had g c =
-    let entries = g.V.Served.entries in
-    none-above entries c.args.volumes.now (subst
-    (All (λ (one : g.row.V.Denot). IsStamped 0 (entries one)))
-    (take_all c.loop-volume.volume-index c.args.volumes.now c.loop-volume-test.false)
-    c.loop-volume.invariant.stamped)
+    none-above g.V.Served.entries c.args.volumes.now (returns-clause-stamped g c)

@@ -1,6 +1,6 @@
 use Rattle.std.proofs.Common.{◌≡◌, All, take}
 use Rattle.vr_history.specs.Merged.{IsStamped}
-use Rattle.vr_worker.specs.Decks.{greatest_last}
+use Rattle.vr_trace.specs.Growing.{greatest_last}
 use Rattle.vr_worker.proofs.readying.greatest_of.Given as goal
 
 abbrev pub invariant-loop-volume : goal.invariant-loop-volume
