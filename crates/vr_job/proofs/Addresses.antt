@@ -2,8 +2,8 @@
 -- item where one was settled as a crash came.
 use Rattle.std.proofs.Common.{◌≡◌, ◌≢◌, ◌⊎◌, ⊎_elim, ◌∙◌, ◌+◌, ◌<◌, ◌≤◌, ℕ, suc, Bool, true, false, cond}
 use Rattle.std.proofs.Common.{List, [], ◌∷◌, ◌++◌, Option, Some, None, All, ap, arith, bytes_eq}
-use Rattle.std.proofs.Common.{length, map, refl, subst, sym}
-use Rattle.std.specs.Prelude.{Contains, nat_eq, option_map}
+use Rattle.std.proofs.Common.{◌==◌, if◌then◌else◌, length, map, refl, subst, sym}
+use Rattle.std.specs.Prelude.{Contains, nat_eq, option_and_then, option_map}
 use Rattle.std.specs.List.{AllByRecursion, AllPairs, IsDistinct}
 use Rattle.std.proofs.lemmas.Bool.{ne_eqb, true≢false}
 use Rattle.std.proofs.lemmas.List.{get_or_append_left, get_or-append-add, length-append}
@@ -11,7 +11,7 @@ use Rattle.std.proofs.lemmas.List.Elements.{All-cons, All-nil, Contains-append_l
 use Rattle.std.proofs.lemmas.List.Elements.{Contains-append_right}
 use Rattle.std.proofs.lemmas.Map.Made.{Contains-tail}
 use Rattle.std.proofs.lemmas.Slice.Eq.{bytes_eq-Decides}
-use Rattle.vr_types.specs.Content.{Content, Item, item_at, places_of}
+use Rattle.vr_types.specs.Content.{Content, Item, Standing, item_at, places_of, with_item}
 use Rattle.vr_types.specs.Faults.{Faults}
 use Rattle.vr_types.specs.Geometry.{area_count}
 use Rattle.vr_types.specs.Seen.{Seen}
@@ -20,7 +20,8 @@ use Rattle.vr_types.specs.declared.unit.Kind.TheVariants.{Entry as EntrySequence
 use Rattle.vr_types.specs.declared.unit.PartNo.{PartNo}
 use Rattle.vr_types.specs.declared.unit.Unit.{Unit as UnitOfRecovery}
 use Rattle.vr_altkey.proofs.CallerLemmas.{item_first}
-use Rattle.vr_catalog.specs.Catalog.{definition_of, entries_in}
+use Rattle.vr_catalog.specs.Catalog.{cluster_definition, definition_of, entries_in, entry_with_part}
+use Rattle.vr_catalog.specs.Definition.{catalog_definition}
 use Rattle.vr_catalog.specs.declared.definition.Definition.{Definition}
 use Rattle.vr_catalog.specs.declared.entry.CatEntry.{CatEntry}
 use Rattle.vr_history.specs.Addresses.{AreOwned, IsEntrySequenced, IsEntrySequencedThroughout}
@@ -36,10 +37,11 @@ use Rattle.vr_recover.specs.Addresses.{HasItem, IsSettledAt}
 use Rattle.vr_recover.specs.Opening.{HasContents}
 use Rattle.vr_recover.proofs.CallerLemmas.{entry-addressed}
 use Rattle.vr_volume.specs.Crashes.{IsUnlogged}
-use Rattle.vr_job.specs.Committed.{KeepTheCatalog}
+use Rattle.vr_job.specs.Committed.{KeepTheCatalog, KeepsCatalog}
 use Rattle.vr_job.specs.VolumeRun.{IsRun, opening_of}
+use Rattle.vr_job.proofs.Additions.{IsWith, catalog-changed, entry-adds, part-with, spelled}
+use Rattle.vr_job.proofs.Additions.{with-record}
 use Rattle.vr_job.proofs.Ascending.{history-ascends}
-use Rattle.vr_job.proofs.Committed.{entry-keeps}
 use Rattle.vr_job.proofs.Keeping.{keep-first}
 use Rattle.vr_job.proofs.Logging.{history-logged, settled-unlogged}
 use Rattle.vr_job.proofs.RunCommitted.{steps-first}
@@ -84,20 +86,63 @@ are-owned geometry owners count = record {
 
 -- ---- the catalog has the part throughout
 
--- these records of a catalog have it as an entry-sequenced one
-abbrev HasAsEntries : ℕ → Content → Type 0
-HasAsEntries part catalog = option_map (λ (definition : Definition). definition.kind)
-    (definition_of (entries_in catalog) part) ≡ Some EntrySequenced
+-- these entries of a catalog have it as an entry-sequenced one
+abbrev HasAsEntries : ℕ → List CatEntry → Type 0
+HasAsEntries part entries = option_map (λ (definition : Definition). definition.kind)
+    (definition_of entries part) ≡ Some EntrySequenced
 
-has-throughout : (geometry : Geometry) (part : ℕ) (catalog : Content) → HasAsEntries part catalog
-    → (state : State) (entries : List Entry) → state.contents 0 ≡ catalog
-    → KeepTheCatalog geometry state entries
+-- the catalog itself, or a cluster that an entry is
+abbrev definition_by : Bool → Option CatEntry → Option Definition
+definition_by itself found = if itself then Some catalog_definition else option_and_then
+    (λ (entry : CatEntry). cluster_definition entry.entry_kind entry) found
+
+-- entries more, of parts that none has, leave what it is
+as-entries-with : (part : ℕ) (more old new : List CatEntry) → IsWith more old new
+    → AllByRecursion (λ (entry : CatEntry). entry_with_part old entry.part.0 ≡ None) more
+    → HasAsEntries part old → HasAsEntries part new
+as-entries-with part more old new is fresh has = by-test (part == 0) has
+  where
+    no-kind : None ≡ Some EntrySequenced → ⊥
+    no-kind same = cc
+
+    by-test : (itself : Bool)
+        → option_map (λ (definition : Definition). definition.kind)
+        (definition_by itself (entry_with_part old part)) ≡ Some EntrySequenced
+        → option_map (λ (definition : Definition). definition.kind)
+        (definition_by itself (entry_with_part new part)) ≡ Some EntrySequenced
+    by-test true so = so
+    by-test false so = ap (λ (found : Option CatEntry).
+        option_map (λ (definition : Definition). definition.kind) (definition_by false found))
+        (part-with part more old new is fresh (λ none. no-kind
+        (sym (ap (λ (found : Option CatEntry).
+        option_map (λ (definition : Definition). definition.kind) (definition_by false found)) none)
+        ∙ so))) ∙ so
+
+-- an entry leaves it so
+as-entries-after : (geometry : Geometry) (part : ℕ) (state : State) (entry : Entry)
+    → KeepsCatalog geometry state entry → IsEntrySequenced part state
+    → IsEntrySequenced part (state_after geometry state entry)
+as-entries-after geometry part state entry keeps has =
+    subst (λ (catalog : Content). HasAsEntries part (entries_in catalog))
+    (sym (catalog-changed geometry state entry.unit entry.stamp entry.what))
+    (⊎_elim
+    (λ stays. subst (λ (catalog : Content). HasAsEntries part (entries_in catalog))
+    (sym (stays state.contents)) has)
+    (λ added. subst (λ (catalog : Content). HasAsEntries part (entries_in catalog))
+    (sym (added.is state.contents))
+    (as-entries-with part (spelled added.bytes) (entries_in (state.contents 0))
+    (entries_in (with_item (state.contents 0) added.place (Standing added.bytes)))
+    (with-record added.bytes added.place (state.contents 0) added.absent) added.fresh has))
+    (entry-adds geometry state entry.unit entry.what keeps))
+
+has-throughout : (geometry : Geometry) (part : ℕ) (state : State) (entries : List Entry)
+    → IsEntrySequenced part state → KeepTheCatalog geometry state entries
     → IsEntrySequencedThroughout geometry part state entries
-has-throughout geometry part catalog has state [] is keep = tt
-has-throughout geometry part catalog has state (entry ∷ entries) is keep = (
-  subst (HasAsEntries part) (sym is) has,
-  has-throughout geometry part catalog has (state_after geometry state entry) entries
-      (entry-keeps geometry state entry.unit entry.stamp entry.what keep.0 ∙ is) keep.1,
+has-throughout geometry part state [] has keep = tt
+has-throughout geometry part state (entry ∷ entries) has keep = (
+  has,
+  has-throughout geometry part (state_after geometry state entry) entries
+      (as-entries-after geometry part state entry keep.0 has) keep.1,
 )
 
 -- ---- places
@@ -157,8 +202,9 @@ apart-both one other place apart here there =
 -- ---- a run
 
 module _ {D : Type 0} (tells : Bool) (seen : D → Seen) (faults : D → Faults) (number : ℕ)
-    (catalog : List CatEntry) (end : End) (entries : List Entry) (old ended new : D)
-    (run : IsRun tells seen faults number catalog end entries old ended new) where
+    (shape : Geometry) (catalog : List CatEntry) (end : End) (entries : List Entry)
+    (old ended new : D)
+    (run : IsRun tells seen faults number shape catalog end entries old ended new) where
   -- what it opened
   pub run-contents : HasContents number run.geometry run.contents (seen old)
   run-contents = record {
@@ -182,7 +228,7 @@ module _ {D : Type 0} (tells : Bool) (seen : D → Seen) (faults : D → Faults)
       areas = are-owned run.geometry run.owners run.owners_are.count;
     };
     steps = steps;
-    throughout = has-throughout run.geometry part (run.contents 0) is opening history refl keep;
+    throughout = has-throughout run.geometry part opening history is keep;
   }
 
   pub never-given : (part : ℕ) → IsEntrySequenced part opening → (place : List ℕ)

@@ -17,21 +17,20 @@ use Rattle.vr_history.specs.declared.entry.Entry.{Entry}
 use Rattle.vr_history.specs.declared.entry.What.{What}
 use Rattle.vr_history.specs.declared.entry.What.TheVariants.{Asked, Undone, Claimed, Split, Faulted}
 use Rattle.vr_trace.specs.Code.{deck_code, decks_code, entry_code, greatest, history_code, job_code}
-use Rattle.vr_trace.specs.Code.{reply_severity, report_code, severity, severity_of, step_code}
+use Rattle.vr_trace.specs.Code.{reply_severity, report_code, severity, severity_of}
 use Rattle.vr_trace.specs.declared.kept.KeptDeck.{KeptDeck}
 use Rattle.vr_trace.specs.declared.kept.KeptStep.{KeptStep}
 use Rattle.vr_trace.specs.declared.kept.KeptStep.TheVariants.{Decks, Utilities}
 use Rattle.vr_trace.specs.declared.report.StepReport.{StepReport}
-use Rattle.vr_ams_list.proofs.CallerLemmas.{report-few}
+use Rattle.vr_ams_run.proofs.CallerLemmas.{report-few}
 use Rattle.vr_catalog.specs.declared.entry.CatEntry.{CatEntry}
-use Rattle.vr_job_text.specs.Job.{deck_steps}
 use Rattle.vr_job_text.specs.declared.job.JobStep.{JobStep}
 use Rattle.vr_job_text.specs.declared.job.JobStep.TheVariants as steps
-use Rattle.vr_job_text.specs.declared.text.Step.{Step}
 use Rattle.vr_job.specs.Done.{AreFew, HasRun, IsNothing, IsRunDone, NotBegun, NotRun}
-use Rattle.vr_job.specs.Reported.{AreReportedFrom}
+use Rattle.vr_job.specs.Reported.{AnswersBy, AreReportedFrom, shape_at, shown_at}
 use Rattle.vr_types.specs.Faults.{Faults}
 use Rattle.vr_types.specs.Seen.{Seen}
+use Rattle.vr_types.specs.declared.geometry.Geometry.{Geometry}
 use Rattle.vr_job_ends.specs.Ends.{IsStatus, status_by, steps_shown}
 use Rattle.vr_job_ends.specs.declared.job_end.End.{End}
 use Rattle.vr_job_ends.specs.declared.job_end.End.TheVariants.{Ran}
@@ -102,17 +101,20 @@ reports-few (report ∷ reports) few =
     max-le (All-head IsFew report reports few) (reports-few reports (All-tail IsFew report reports few))
 
 -- those of the steps of a job
-reported-few : (before : List Step) (catalogs : List (List CatEntry))
-    (histories : List (List Entry)) (job : List JobStep) (reports : List StepReport)
-    → AreReportedFrom before catalogs histories job reports → All IsFew reports
-reported-few before catalogs histories [] reports is = subst (All IsFew) (sym is) (All-nil IsFew)
-reported-few before catalogs histories (steps.Decks step ∷ job) reports is =
-    reported-few (before ++ step ∷ []) catalogs histories job reports is
-reported-few before catalogs histories (steps.Utilities step ∷ job) [] is = All-nil IsFew
-reported-few before catalogs histories (steps.Utilities step ∷ job) (report ∷ reports) is =
-    All-cons IsFew report reports
-    (subst IsFew (sym is.0.is) (report-few is.0.shown step.commands))
-    (reported-few before catalogs histories job reports is.1)
+reported-few : (before : List JobStep) (geometries : List Geometry)
+    (catalogs : List (List CatEntry)) (histories : List (List Entry)) (job : List JobStep)
+    (reports : List StepReport) → AreReportedFrom before geometries catalogs histories job reports
+    → All IsFew reports
+reported-few before geometries catalogs histories [] reports is =
+    subst (All IsFew) (sym is) (All-nil IsFew)
+reported-few before geometries catalogs histories (steps.Decks step ∷ job) reports is =
+    reported-few (before ++ steps.Decks step ∷ []) geometries catalogs histories job reports is
+reported-few before geometries catalogs histories (steps.Utilities step ∷ job) [] is = All-nil IsFew
+reported-few before geometries catalogs histories (steps.Utilities step ∷ job) (report ∷ reports)
+    is = All-cons IsFew report reports
+    (report-few shown_at shape_at AnswersBy step.commands is.0.volumes is.0.left report is.0.is)
+    (reported-few (before ++ steps.Utilities step ∷ []) geometries catalogs histories job reports
+    is.1)
 
 job-few : (histories : List (List Entry)) (kept : List KeptStep) (reports : List StepReport)
     → All IsFew reports → job_code histories kept reports ≤ 16
@@ -145,4 +147,4 @@ done-few tells seen faults in_memory lines left left' fails fails' old new trace
     (NotRun line end_is nothing begun ends) = none-few trace nothing
 done-few tells seen faults in_memory lines left left' fails fails' old new trace end
     (HasRun job begun has_begun read run) =
-    reported-few [] _ trace.histories job.steps trace.reports run.run.reported
+    reported-few [] _ _ trace.histories job.steps trace.reports run.run.reported

@@ -1,15 +1,15 @@
 -- What is committed in the state of a history whose entries keep the catalog is what the history
 -- committed.
-use Rattle.std.proofs.Common.{◌≡◌, ◌∙◌, ◌+◌, ◌<◌, ◌≤◌, ◌==◌, ◌&&◌, ◌||◌, ℕ, Bool, true, false, cond}
-use Rattle.std.proofs.Common.{if◌then◌else◌, List, [], ◌∷◌, ◌++◌, Option, Some, None, ap, arith}
-use Rattle.std.proofs.Common.{eq-eqb, filter, map, not, refl, subst, sym}
-use Rattle.std.specs.Prelude.{All, option_map, option_to_list}
+use Rattle.std.proofs.Common.{◌≡◌, ◌≢◌, ◌∙◌, ◌+◌, ◌<◌, ◌≤◌, ◌==◌, ◌&&◌, ◌||◌, ⊎_elim, ℕ, Bool, true}
+use Rattle.std.proofs.Common.{false, cond, if◌then◌else◌, List, [], ◌∷◌, ◌++◌, Option, Some, None}
+use Rattle.std.proofs.Common.{ap, arith, eq-eqb, filter, map, not, refl, subst, sym}
+use Rattle.std.specs.Prelude.{All}
 use Rattle.std.specs.List.{AllByRecursion, list_any}
 use Rattle.std.specs.Option.{option_map_or}
 use Rattle.std.proofs.lemmas.Bool.{true≢false}
 use Rattle.std.proofs.lemmas.Bool.Decides.{nat_tests}
 use Rattle.std.proofs.lemmas.List.Elements.{All-cons, All-nil}
-use Rattle.vr_types.specs.Content.{Content}
+use Rattle.vr_types.specs.Content.{Content, Item, Standing, item_at, with_item}
 use Rattle.vr_types.specs.Image.{Image}
 use Rattle.vr_types.specs.Locks.{same_unit}
 use Rattle.vr_types.specs.declared.geometry.Geometry.{Geometry}
@@ -18,6 +18,7 @@ use Rattle.vr_types.specs.declared.request.Request.{Request}
 use Rattle.vr_types.specs.declared.request.Request.TheVariants.{Get, Point, Add, Update, Erase}
 use Rattle.vr_types.specs.declared.request.Request.TheVariants.{EndReq, Commit, Backout}
 use Rattle.vr_types.specs.declared.unit.Unit.{Unit as UnitOfRecovery}
+use Rattle.vr_altkey.proofs.CallerLemmas.{placed_elsewhere, placed_here}
 use Rattle.vr_catalog.specs.Catalog.{entries_in, parts_in}
 use Rattle.vr_catalog.specs.declared.entry.CatEntry.{CatEntry}
 use Rattle.vr_log.specs.declared.record.EndKind.TheVariants.{Committed}
@@ -27,7 +28,7 @@ use Rattle.vr_history.specs.Change.{Change}
 use Rattle.vr_history.specs.Committed.{changed, commits, committed, counted_entry, is_counted}
 use Rattle.vr_history.specs.Committed.{left_at_end}
 use Rattle.vr_history.specs.Effects.{changes, has_part, is_other, keeps_other, last_kept}
-use Rattle.vr_history.specs.Effects.{placed_in, takes_out, with_change, without_last}
+use Rattle.vr_history.specs.Effects.{takes_out, without_last}
 use Rattle.vr_history.specs.Laws.{HasPartThroughout, record_now}
 use Rattle.vr_history.specs.Legal.{AreSteps, state_of}
 use Rattle.vr_history.specs.State.{BeforeImage, Owned, State, is_kept, opening_state}
@@ -41,107 +42,122 @@ use Rattle.vr_volume.specs.Crashes.{committed_with, is_among, kept_but}
 use Rattle.vr_volume.specs.Volume.{Recovers}
 use Rattle.vr_volume.specs.PutBack.{put_back, standing}
 use Rattle.vr_volume.proofs.Histories.{committed-everywhere, record-back}
-use Rattle.vr_job.specs.Committed.{HasCommitted, IsOffCatalog, KeepTheCatalog, KeepsCatalog}
+use Rattle.vr_job.specs.Committed.{HasCommitted, KeepTheCatalog, KeepsCatalog}
+use Rattle.vr_job.proofs.Additions.{StaysOrAdded, catalog-changed, entry-adds, has-with, spelled}
+use Rattle.vr_job.proofs.Additions.{with-record}
 use Rattle.vr_job.proofs.Ascending.{AllAscend, history-ascends}
 use Rattle.vr_job.proofs.Effects.{IsDone, IsEnded, IsMade, done-is, ends, raised, refused-stays}
 use Rattle.vr_job.proofs.Effects.IsDone.{DoneChange, DoneEnd, DoneNothing}
 use Rattle.vr_job.proofs.Effects.MadeOr.{NoChange, OneChange}
 
--- ---- the catalog stays
-
-turned : (part other : ℕ) → (part == other) ≡ false → (other == part) ≡ false
-turned part other apart = grind (arith, nat_tests, apart)
-
--- a change elsewhere leaves it
-change-keeps : (change : Change) (contents : ℕ → Content) → IsOffCatalog change
-    → with_change change contents 0 ≡ contents 0
-change-keeps change contents off = ap (λ (b : Bool). if b then
-    placed_in change.place change.new (contents 0) else contents 0)
-    (turned change.part 0 off)
-
-changes-keep : (changes : List Change) (contents : ℕ → Content)
-    → AllByRecursion IsOffCatalog changes → changed contents changes 0 ≡ contents 0
-changes-keep [] contents off = refl
-changes-keep (change ∷ changes) contents off =
-    changes-keep changes (with_change change contents) off.1 ∙ change-keeps change contents off.0
+-- ---- the catalog has each part of it throughout
 
 left-keeps : (ends : Bool) (contents : ℕ → Content) → left_at_end ends contents 0 ≡ contents 0
 left-keeps true contents = refl
 left-keeps false contents = refl
 
-cond-keeps : (counts : Bool) (one other : ℕ → Content) → one 0 ≡ other 0
-    → cond counts one other 0 ≡ other 0
-cond-keeps true one other same = same
-cond-keeps false one other same = refl
+-- The catalog of the state has the part, and so has that of what counts; and a place without an
+-- item in the one has none in the other.
+record IsThere (part : ℕ) (now counted : Content) : Type 0 where
+  here : has_part (parts_in (entries_in now)) part ≡ true
+  counts : has_part (parts_in (entries_in counted)) part ≡ true
+  absent : (place : List ℕ) → item_at now place ≡ None → item_at counted place ≡ None
 
--- an entry leaves it in what counts
-counted-keeps : (geometry : Geometry) (state : State) (entry : Entry) (counts : Bool)
-    (contents : ℕ → Content) → KeepsCatalog geometry state entry
-    → cond counts (counted_entry geometry state entry contents) contents 0 ≡ contents 0
-counted-keeps geometry state entry counts contents keeps =
-    cond-keeps counts (counted_entry geometry state entry contents) contents
-    (left-keeps (commits entry.what)
-    (changed contents (place_changes geometry state entry.unit entry.what))
-    ∙ changes-keep (place_changes geometry state entry.unit entry.what) contents keeps)
+there-same : (part : ℕ) (now now' counted counted' : Content) → now' ≡ now → counted' ≡ counted
+    → IsThere part now counted → IsThere part now' counted'
+there-same part now now' counted counted' same also is =
+    subst (λ (one : Content). IsThere part one counted') (sym same)
+    (subst (λ (other : Content). IsThere part now other) (sym also) is)
 
-module _ (geometry : Geometry) (state : State) (unit : UnitOfRecovery) where
-  -- and in the state
-  done-keeps : (request : Request) (feedback : ℕ) (place bytes : Option (List ℕ)) (new : State)
-      → IsDone geometry state unit request new
-      → AllByRecursion IsOffCatalog
-      (place_changes geometry state unit (Asked request (Done feedback place bytes)))
-      → new.contents 0 ≡ state.contents 0
-  done-keeps request feedback place bytes new (DoneNothing stays) keeps =
-      ap (λ (contents : ℕ → Content). contents 0) stays.contents
-  done-keeps request feedback place bytes new (DoneEnd ended) keeps = ended.catalog
-  done-keeps request feedback place bytes new (DoneChange (NoChange none stays)) keeps =
-      ap (λ (contents : ℕ → Content). contents 0) stays.contents
-  done-keeps request feedback place bytes new (DoneChange (OneChange change is made)) keeps =
-      ap (λ (contents : ℕ → Content). contents 0) made.contents
-      ∙ change-keeps change state.contents
-      (subst (λ (it : Option Change). AllByRecursion IsOffCatalog
-      (option_to_list it)) is keeps).0
+some-item : (item : Item) → Some item ≡ None → ⊥
+some-item item same = cc
 
-  back-keeps : (kept : Option BeforeImage)
-      → AllByRecursion IsOffCatalog (option_to_list
-      (option_map (change_back state) kept))
-      → (option_map_or (λ (it : BeforeImage). takes_out unit
-      (changes (change_back state it) state)) kept state).contents 0
-      ≡ state.contents 0
-  back-keeps None keeps = refl
-  back-keeps (Some kept) keeps = change-keeps (change_back state kept) state.contents keeps.0
+-- where a record is put in the catalog of the state, another place is without an item as before
+module _ (part : ℕ) (place bytes : List ℕ) (now counted : Content)
+    (none : item_at now place ≡ None) (is : IsThere part now counted) where
+  apart : (other : List ℕ) → item_at (with_item now place (Standing bytes)) other ≡ None
+      → other ≢ place
+  apart other without same = some-item (Standing bytes)
+      (sym (placed_here place (Some (Standing bytes)) now)
+      ∙ ap (item_at (with_item now place (Standing bytes))) (sym same) ∙ without)
 
-  pub entry-keeps : (stamp : ℕ) (what : What)
-      → AllByRecursion IsOffCatalog (place_changes geometry state unit what)
-      → (after_what geometry state unit stamp what).contents 0
-      ≡ state.contents 0
-  entry-keeps stamp (Asked request (Done feedback place bytes)) keeps =
-      done-keeps request feedback place bytes _
-      (done-is geometry state unit request feedback place bytes) keeps
-  entry-keeps stamp (Asked request (Refused refusal)) keeps =
-      ap (λ (contents : ℕ → Content). contents 0)
-      (refused-stays geometry state unit request (Refused refusal) refusal refl).contents
-  entry-keeps stamp (Undone part place) keeps = back-keeps (last_kept state unit) keeps
-  entry-keeps stamp (Claimed part area) keeps = refl
-  entry-keeps stamp (Split part) keeps = refl
-  entry-keeps stamp (Faulted fault) keeps = refl
+  before : (other : List ℕ) → item_at (with_item now place (Standing bytes)) other ≡ None
+      → item_at now other ≡ None
+  before other without =
+      sym (placed_elsewhere place (Some (Standing bytes)) now other (apart other without))
+      ∙ without
+
+  -- it is there whether the record counts
+  there-counted : IsThere part (with_item now place (Standing bytes))
+      (with_item counted place (Standing bytes))
+  there-counted = record {
+    here = has-with part (spelled bytes) (entries_in now)
+        (entries_in (with_item now place (Standing bytes))) (with-record bytes place now none)
+        is.here;
+    counts = has-with part (spelled bytes) (entries_in counted)
+        (entries_in (with_item counted place (Standing bytes)))
+        (with-record bytes place counted (is.absent place none)) is.counts;
+    absent = λ other without.
+        placed_elsewhere place (Some (Standing bytes)) counted other (apart other without)
+        ∙ is.absent other (before other without);
+  }
+
+  -- or not
+  there-alone : IsThere part (with_item now place (Standing bytes)) counted
+  there-alone = record {
+    here = there-counted.here;
+    counts = is.counts;
+    absent = λ other without. is.absent other (before other without);
+  }
+
+-- over an entry
+there-after : (geometry : Geometry) (part : ℕ) (state : State) (entry : Entry)
+    (contents : ℕ → Content) (counts : Bool) → KeepsCatalog geometry state entry
+    → IsThere part (state.contents 0) (contents 0)
+    → IsThere part ((state_after geometry state entry).contents 0)
+    (cond counts (counted_entry geometry state entry contents) contents 0)
+there-after geometry part state entry contents counts keeps is = by-counts counts
+    (entry-adds geometry state entry.unit entry.what keeps)
+  where
+    changes : List Change
+    changes = place_changes geometry state entry.unit entry.what
+
+    now : (state_after geometry state entry).contents 0 ≡ changed state.contents changes 0
+    now = catalog-changed geometry state entry.unit entry.stamp entry.what
+
+    counted : counted_entry geometry state entry contents 0 ≡ changed contents changes 0
+    counted = left-keeps (commits entry.what) (changed contents changes)
+
+    by-counts : (counts : Bool) → StaysOrAdded state changes
+        → IsThere part ((state_after geometry state entry).contents 0)
+        (cond counts (counted_entry geometry state entry contents) contents 0)
+    by-counts true adds = ⊎_elim
+        (λ stays. there-same part (state.contents 0) _ (contents 0) _ (now ∙ stays state.contents)
+        (counted ∙ stays contents) is)
+        (λ added. there-same part (with_item (state.contents 0) added.place (Standing added.bytes)) _
+        (with_item (contents 0) added.place (Standing added.bytes)) _
+        (now ∙ added.is state.contents) (counted ∙ added.is contents)
+        (there-counted part added.place added.bytes (state.contents 0) (contents 0) added.absent
+        is)) adds
+    by-counts false adds = ⊎_elim
+        (λ stays. there-same part (state.contents 0) _ (contents 0) _ (now ∙ stays state.contents)
+        refl is)
+        (λ added. there-same part (with_item (state.contents 0) added.place (Standing added.bytes)) _
+        (contents 0) _ (now ∙ added.is state.contents) refl
+        (there-alone part added.place added.bytes (state.contents 0) (contents 0) added.absent
+        is)) adds
 
 -- so each part of it is there throughout
 part-throughout : (geometry : Geometry) (part : ℕ) (counts : UnitOfRecovery → Bool)
-    (first : Content) → has_part (parts_in (entries_in first)) part ≡ true → (state : State)
-    (contents : ℕ → Content) (entries : List Entry) → state.contents 0 ≡ first
-    → contents 0 ≡ first → KeepTheCatalog geometry state entries
+    (state : State) (contents : ℕ → Content) (entries : List Entry)
+    → IsThere part (state.contents 0) (contents 0) → KeepTheCatalog geometry state entries
     → HasPartThroughout geometry part counts state contents entries
-part-throughout geometry part counts first has state contents [] now counted keep = tt
-part-throughout geometry part counts first has state contents (entry ∷ entries) now counted keep = (
-  (
-    subst (λ (c : Content). has_part (parts_in (entries_in c)) part ≡ true) (sym now) has,
-    subst (λ (c : Content). has_part (parts_in (entries_in c)) part ≡ true) (sym counted) has,
-  ),
-  part-throughout geometry part counts first has (state_after geometry state entry)
+part-throughout geometry part counts state contents [] is keep = tt
+part-throughout geometry part counts state contents (entry ∷ entries) is keep = (
+  (is.here, is.counts),
+  part-throughout geometry part counts (state_after geometry state entry)
       (cond (counts entry.unit) (counted_entry geometry state entry contents) contents) entries
-      (entry-keeps geometry state entry.unit entry.stamp entry.what keep.0 ∙ now)
-      (counted-keeps geometry state entry (counts entry.unit) contents keep.0 ∙ counted) keep.1,
+      (there-after geometry part state entry contents (counts entry.unit) keep.0 is) keep.1,
 )
 
 -- ---- a unit that keeps a before-image has not ended
@@ -473,8 +489,8 @@ module _ (geometry : Geometry) (contents : ℕ → Content) (owned : List Owned)
       ∙ record-back part (kept_by (commits-of counted) end.befores) (end.contents part) place
       (history-ascends geometry opening entries ascend part)
       ∙ committed-everywhere geometry contents owned entries counted (commits-of counted) part steps
-      (part-throughout geometry part (is_counted counted entries) (contents 0) has opening contents
-      entries refl refl keep)
+      (part-throughout geometry part (is_counted counted entries) opening contents entries
+      (record { here = has; counts = has; absent = λ at none. none }) keep)
       (count-alike counted end.befores (all-now geometry opening entries steps tt)
       (from-one end.befores (all-now geometry opening entries steps tt))) place
 

@@ -1,12 +1,14 @@
 -- An image that a shorter history allows, a longer one allows.
 use Rattle.std.proofs.Common.{◌≡◌, inl, inr, ⊎_elim, ◌∙◌, ℕ, List, [], ◌++◌, None, refl, ap, subst}
-use Rattle.std.proofs.Common.{append_assoc}
+use Rattle.std.proofs.Common.{append_assoc, sym}
+use Rattle.std.proofs.lemmas.List.{append-nil}
 use Rattle.vr_types.specs.Image.{Image}
 use Rattle.vr_types.specs.Seen.{Seen}
 use Rattle.vr_types.specs.Moments.{Guards}
 use Rattle.vr_types.proofs.CallerLemmas.{guards-then, guards-weaken}
 use Rattle.vr_types.specs.declared.geometry.Geometry.{Geometry}
 use Rattle.vr_types.specs.declared.unit.Unit.{Unit as UnitOfRecovery}
+use Rattle.vr_history.specs.Legal.{state_of}
 use Rattle.vr_history.specs.State.{State}
 use Rattle.vr_history.specs.declared.entry.Entry.{Entry}
 use Rattle.vr_volume.specs.Crashes.{RecoversTo}
@@ -14,7 +16,7 @@ use Rattle.vr_record_file.specs.Now.{state_now}
 use Rattle.vr_event.specs.Volume.{IsHeld, IsWhole, VolumeNow}
 use Rattle.vr_store.proofs.CallerLemmas.{stored-left}
 use Rattle.vr_job.specs.Crash.{AreInCommit, IsLeftBy}
-use Rattle.vr_job.specs.Events.{LeavesAtRest}
+use Rattle.vr_job.specs.Events.{IsLeftWhile, LeavesAtRest}
 
 commit-more : (counted : List UnitOfRecovery) (entries more : List Entry)
     → AreInCommit counted entries → AreInCommit counted (entries ++ more)
@@ -36,7 +38,7 @@ left-more geometry number opening entries more image is = record {
 -- an image that recovers to what is committed by the history so far
 pub left-now : (geometry : Geometry) (number : ℕ) (opening : State) (entries made : List Entry)
     (image : Image)
-    → RecoversTo geometry number (Rattle.vr_history.specs.Legal.state_of geometry opening entries) []
+    → RecoversTo geometry number (state_of geometry opening entries) []
     image → IsLeftBy geometry number opening (entries ++ made) image
 left-now geometry number opening entries made image is = record {
   before = entries;
@@ -45,6 +47,23 @@ left-now geometry number opening entries made image is = record {
   counted = [];
   commits = inl refl;
   recovers = is;
+}
+
+-- while an event goes on that begins no definition: by the history before it
+pub left-while : (geometry : Geometry) (number : ℕ) (opening : State) (entries made : List Entry)
+    (counted : List UnitOfRecovery) (image : Image) → AreInCommit counted made
+    → RecoversTo geometry number (state_of geometry opening entries) counted image
+    → IsLeftWhile geometry number opening entries made image
+left-while geometry number opening entries made counted image commits recovers = record {
+  first = [];
+  rest = made;
+  made_are = refl;
+  begun = inl refl;
+  counted = counted;
+  commits = commits;
+  recovers = subst (λ (es : List Entry).
+      RecoversTo geometry number (state_of geometry opening es) counted image)
+      (sym (append-nil entries)) recovers;
 }
 
 -- calls, one after another

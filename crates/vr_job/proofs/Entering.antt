@@ -22,9 +22,10 @@ use Rattle.vr_event.specs.declared.act.Act.TheVariants.{Again, Done}
 use Rattle.vr_trace.specs.Laws.{deck_entries}
 use Rattle.vr_trace.specs.Numbering.{with_volume}
 use Rattle.vr_worker.specs.Asked as asked
-use Rattle.vr_worker.specs.Asked.{FollowsOne, HasEntered, IsNext, MayAsk, MayGoOn, bound_to}
+use Rattle.vr_worker.specs.Asked.{HasEntered, MayAsk, MayGoOn, bound_to}
+use Rattle.vr_trace.specs.Growing.{FollowsOne, IsNext}
 use Rattle.vr_worker.specs.Asked.{if_done, undoes, undoes_from}
-use Rattle.vr_worker.specs.declared.no.RunNo.{RunNo}
+use Rattle.vr_trace.specs.declared.no.RunNo.{RunNo}
 use Rattle.vr_job.specs.Serving.{is_done}
 
 -- ---- whose they are, and what they answer
@@ -140,7 +141,7 @@ made-goes (Again given) asking line request made own is may = ⊎_elim
 -- ---- what is entered
 
 -- each of its stamps comes next
-next-each : (before : ℕ) (made : List Entry) → AreNext before made
+pub next-each : (before : ℕ) (made : List Entry) → AreNext before made
     → All (λ (entry : Entry). IsNext before entry ⊎ FollowsOne made entry) made
 next-each before [] next = All-nil (λ (entry : Entry). IsNext before entry ⊎ FollowsOne [] entry)
 next-each before (first ∷ made) next = All-cons

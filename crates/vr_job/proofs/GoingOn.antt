@@ -1,11 +1,11 @@
 -- What one event leaves of a volume, and what goes on from it.
 use Rattle.std.proofs.Common.{◌≡◌, ◌≢◌, inl, inr, ⊎_elim, ◌∙◌, ℕ, Bool, true, List, [], ◌∷◌, ◌++◌}
-use Rattle.std.proofs.Common.{Option, Some, None, refl, sym, ap, subst, ◌≤◌, ◌⊎◌, append_assoc, arith}
-use Rattle.std.proofs.Common.{◌==◌, false, length, max}
+use Rattle.std.proofs.Common.{Option, Some, None, refl, sym, ap, subst, ◌⊎◌, append_assoc, arith}
+use Rattle.std.proofs.Common.{◌==◌, false, max}
 use Rattle.std.specs.Prelude.{is_some}
 use Rattle.std.specs.List.{AllByRecursion}
+use Rattle.std.proofs.lemmas.Bool.{true≢false}
 use Rattle.std.proofs.lemmas.List.{append-nil, append_cancel_left}
-use Rattle.vr_types.specs.declared.bound.Bound.{Bound}
 use Rattle.vr_types.specs.Faults.{Faults}
 use Rattle.vr_types.specs.Image.{Image}
 use Rattle.vr_types.specs.Moments.{Guards}
@@ -19,32 +19,29 @@ use Rattle.vr_types.specs.declared.request.Request.{Request}
 use Rattle.vr_types.specs.declared.unit.Unit.{Unit as UnitOfRecovery}
 use Rattle.vr_types.proofs.CallerLemmas.{guards-then, guards-weaken}
 use Rattle.vr_history.specs.Legal.{AreSteps, state_of}
-use Rattle.vr_history.specs.Merged.{IsStamped, last_stamp, request_in}
+use Rattle.vr_history.specs.Merged.{IsStamped, last_stamp}
 use Rattle.vr_history.specs.State.{State}
 use Rattle.vr_history.specs.declared.entry.Entry.{Entry}
-use Rattle.vr_history.specs.declared.entry.What.{What}
 use Rattle.vr_history.specs.declared.entry.What.TheVariants.{Asked, Faulted}
 use Rattle.vr_record_file.specs.Now.{FileNow, asked_failing, entry_next, failed, has_deck, number_of}
 use Rattle.vr_record_file.specs.Now.{IsOfClusterByDeck, state_now}
 use Rattle.vr_record_file.specs.declared.numbers.DeckNumber.{DeckNumber}
 use Rattle.vr_event.specs.Acting.{IsActed, IsLeftIn}
-use Rattle.vr_event.specs.Made.{HasMade, MadeBy}
+use Rattle.vr_event.specs.Made.{HasMade}
 use Rattle.vr_event.specs.Volume.{IsHeld, IsWhole, VolumeNow}
 use Rattle.vr_event.specs.declared.act.Act.{Act}
-use Rattle.vr_event.specs.declared.act.Act.TheVariants.{Again, Done}
 use Rattle.vr_event.proofs.CallerLemmas.{acted_made}
 use Rattle.vr_volume.specs.Crashes.{RecoversTo}
 use Rattle.vr_worker.proofs.CallerLemmas.{stamped-above}
-use Rattle.vr_worker.specs.Asked.{bound_to}
 use Rattle.vr_job.specs.Committed.{KeepTheCatalog}
 use Rattle.vr_job.specs.Crash.{HaveDoneCommit, IsCommit, IsDoneCommit, IsLeftBy}
 use Rattle.vr_job.specs.Events.{FaultsFollow, HasStopped, IsLeftWhile, IsOfEvents, KeepsAtRest}
-use Rattle.vr_job.specs.Events.{LeavesAtRest, OwnsAtRest, requests_in}
+use Rattle.vr_job.specs.Events.{LeavesAtRest, OwnsAtRest}
 use Rattle.vr_job.specs.Faultless.{AreFaultless, has_stopped}
 use Rattle.vr_job.specs.Going.{GoesOn, HasRun, went-then}
 use Rattle.vr_job.specs.Serving.{IsServing, StaysServing}
-use Rattle.vr_job.proofs.Crashing.{held-left, left-more}
-use Rattle.vr_job.proofs.Entering.{step-none}
+use Rattle.vr_job.proofs.Crashing.{held-left, left-more, left-while}
+use Rattle.vr_job.proofs.DeckEvents.{catalog-stays, made-decks, made-once, made-own}
 use Rattle.vr_job.proofs.Faultless.{NoFault, acted-faultless}
 use Rattle.vr_job.proofs.Keeping.{event-keeps}
 use Rattle.vr_job.proofs.Kept.{AreSized, held-kept}
@@ -59,7 +56,7 @@ use Rattle.vr_job.proofs.Unfailed.{acted-unfailed, acted-unread}
 use Rattle.vr_job.proofs.WriteFaults.{acted-rose}
 
 -- stamps rise on
-stamped-more : (before : ℕ) (entries more : List Entry) → IsStamped before entries
+pub stamped-more : (before : ℕ) (entries more : List Entry) → IsStamped before entries
     → IsStamped (last_stamp before entries) more → IsStamped before (entries ++ more)
 stamped-more before [] more first second = second
 stamped-more before (entry ∷ entries) more first second =
@@ -69,31 +66,6 @@ stamped-more before (entry ∷ entries) more first second =
 
 some-none : (stamp : ℕ) → ◌≡◌ {A = Option ℕ} (Some stamp) None → ⊥
 some-none stamp same = cc
-
--- an event answers one request at most
-alone : (entry : Entry) → request_in 0 entry.line entry.what ≡ [] → requests_in (entry ∷ []) ≡ []
-alone entry none = ap (λ (them : List Bound). them ++ []) none
-
-made-once : (act : Act) (unit : UnitOfRecovery) (line : ℕ) (request : Request) (made : List Entry)
-    → MadeBy act unit line request made → length (requests_in made) ≤ 1
-made-once Done unit line request made is =
-    omega (arith, ap (λ (them : List Bound). length them) one)
-  where
-    rest-none : requests_in is.rest ≡ []
-    rest-none = ⊎_elim (λ none. ap requests_in none)
-        (λ fault. ap requests_in fault.is
-        ∙ alone fault.fault (ap (request_in 0 fault.fault.line) fault.what_is)) is.follows
-
-    one : requests_in made ≡ bound_to 0 is.entry.line request ∷ []
-    one = ap requests_in is.is
-        ∙ ap (λ (them : List Bound). request_in 0 is.entry.line is.entry.what ++ them) rest-none
-        ∙ ap (λ (w : What). request_in 0 is.entry.line w ++ []) is.what_is
-made-once (Again given) unit line request made is =
-    omega (arith, ap (λ (them : List Bound). length them) none)
-  where
-    none : requests_in made ≡ []
-    none = ⊎_elim (λ no. ap requests_in no)
-        (λ one. ap requests_in one.1 ∙ alone one.0 (step-none 0 unit line request one.0 one.2)) is
 
 module _ {B : Type 0} (seen : B → Seen) (faults : B → Faults) (old new : VolumeNow B) (act : Act)
     (after : ℕ) (unit : UnitOfRecovery) (line : ℕ) (request : Request)
@@ -105,13 +77,14 @@ module _ {B : Type 0} (seen : B → Seen) (faults : B → Faults) (old new : Vol
       new.file acted
 
   -- what goes on over it, whether or not the device reports its contents,
-  pub event-on : IsWhole seen new → new.number ≡ old.number
+  pub event-on : IsWhole seen new → new.number ≡ old.number → (unit.deck == 0) ≡ false
       → (old.file.stopped ≢ None → new.blocks ≡ old.blocks) → GoesOn seen faults old new
-  event-on whole number untouched = record {
+  event-on whole number own untouched = record {
     whole = whole;
     number = number;
     geometry = made-in.geometry;
-    catalog = made-in.catalog;
+    catalog = made-in.catalog ∙ sym (catalog-stays old.file.catalog made-in.made
+        (made-decks act unit line request made-in.made made-in.by own));
     decks = λ deck has. made-in.decks deck ∙ has;
     made = made-in.made;
     entries = made-in.entries;
@@ -144,7 +117,7 @@ module _ {B : Type 0} (seen : B → Seen) (faults : B → Faults) (old new : Vol
         ++ entry_next old.file.entries after unit line (Asked request reply) ∷ rest
         → IsCommit (Asked request reply)
         → RecoversTo geometry old.number
-        (Rattle.vr_history.specs.Legal.state_of geometry opening old.file.entries) (unit ∷ []) image
+        (state_of geometry opening old.file.entries) (unit ∷ []) image
         → IsLeftBy geometry old.number opening new.file.entries image
     commit-left geometry image reply rest entries commit recovers = record {
       before = old.file.entries;
@@ -207,24 +180,25 @@ module _ {B : Type 0} (seen : B → Seen) (faults : B → Faults) (old new : Vol
         → IsCommit (Asked request reply)
         → RecoversTo old.file.geometry old.number (state_now opening old.file) (unit ∷ []) image
         → IsLeftWhile old.file.geometry old.number opening old.file.entries made-in.made image
-    commit-while image reply rest entries commit recovers = record {
-      counted = unit ∷ [];
-      commits = inr (
-        _,
-        rest,
-        append_cancel_left old.file.entries made-in.made _ (sym made-in.entries ∙ entries),
-        commit,
-        refl,
-      );
-      recovers = recovers;
-    }
+    commit-while image reply rest entries commit recovers =
+        left-while old.file.geometry old.number opening old.file.entries made-in.made (unit ∷ [])
+        image
+        (inr (
+          _,
+          rest,
+          append_cancel_left old.file.entries made-in.made _ (sym made-in.entries ∙ entries),
+          commit,
+          refl,
+        ))
+        recovers
 
     in-while : (image : Image)
         → IsLeftIn old.file.geometry old.number (state_now opening old.file) after unit line request
         old.file new.file image
         → IsLeftWhile old.file.geometry old.number opening old.file.entries made-in.made image
     in-while image is = ⊎_elim
-        (λ rests. record { counted = []; commits = inl refl; recovers = rests })
+        (λ rests. left-while old.file.geometry old.number opening old.file.entries made-in.made []
+        image (inl refl) rests)
         (λ commit. ⊎_elim
         (λ ended. commit-while image (DoneReply 0 None None) []
         (ap (λ (f : FileNow). f.entries) ended)
@@ -308,6 +282,7 @@ module _ {B : Type 0} (seen : B → Seen) (faults : B → Faults) (old new : Vol
           new.file.entries
       one-event whole-new held = record {
         events = record {
+          deck = unit.deck;
           blocks = old.blocks;
           entries = old.file.entries;
           made = made-in.made;
@@ -315,6 +290,8 @@ module _ {B : Type 0} (seen : B → Seen) (faults : B → Faults) (old new : Vol
         are = (
           record {
             entries_are = made-in.entries;
+            own = made-own act unit line request made-in.made made-in.by;
+            utilities = λ none. absurd (true≢false (ap (λ (deck : ℕ). deck == 0) (sym none) ∙ own));
             once = made-once act unit line request made-in.made made-in.by;
             during = by_while old.file.stopped refl;
             after = rests;
@@ -331,12 +308,13 @@ module _ {B : Type 0} (seen : B → Seen) (faults : B → Faults) (old new : Vol
             refused_read = acted-reads old.file new.file made-in.made made-in.entries
                 (faults old.blocks) (faults new.blocks) act after unit line request acted;
             failed_write = λ stop. acted-rose old.file new.file made-in.made made-in.entries stop
+                (made-decks act unit line request made-in.made made-in.by own)
                 (faults old.blocks) (faults new.blocks) act after unit line request acted;
             unfailed = λ faultless. acted-unfailed old.file new.file made-in.made made-in.entries
                 faultless (faults old.blocks) (faults new.blocks) act after unit line request acted;
-            unread = λ faultless none. acted-unread old.file new.file made-in.made made-in.entries
-                faultless none (faults old.blocks) (faults new.blocks) act after unit line request
-                acted;
+            unread = λ faultless none. inl (acted-unread old.file new.file made-in.made
+                made-in.entries faultless none (faults old.blocks) (faults new.blocks) act after unit
+                line request acted);
             lacks = event-lacking seen faults opening old new act after unit line request acted
                 made-in.made made-in.entries (steps held) whole run.held lacks;
           },

@@ -1,8 +1,8 @@
 -- That no event of a deck changes the catalog: the before-images that units of decks keep are of
 -- clusters alone.
 use Rattle.std.proofs.Common.{◌≡◌, ◌∙◌, ◌==◌, ◌&&◌, ◌||◌, ⊎_elim, ℕ, Bool, true, false, cond, List}
-use Rattle.std.proofs.Common.{[], ◌∷◌, ◌++◌, Option, Some, None, ap, bytes_eq, filter, refl, subst}
-use Rattle.std.proofs.Common.{sym}
+use Rattle.std.proofs.Common.{[], ◌∷◌, ◌++◌, Option, Some, None, ap, bytes_eq, filter, inl, refl}
+use Rattle.std.proofs.Common.{subst, sym}
 use Rattle.std.specs.Prelude.{option_map, option_to_list}
 use Rattle.std.specs.List.{AllByRecursion, list_any}
 use Rattle.std.proofs.lemmas.Bool.{false≢true}
@@ -27,7 +27,7 @@ use Rattle.vr_record_file.specs.Now.{IsOfCluster, IsOfClusterByDeck}
 use Rattle.vr_event.specs.Made.{MadeBy}
 use Rattle.vr_event.specs.declared.act.Act.{Act}
 use Rattle.vr_event.specs.declared.act.Act.TheVariants.{Again, Done}
-use Rattle.vr_job.specs.Committed.{IsOffCatalog, KeepTheCatalog}
+use Rattle.vr_job.specs.Committed.{IsOffCatalog, KeepTheCatalog, MayChange}
 use Rattle.vr_job.proofs.Effects.{IsMade, MadeOr, make-or}
 use Rattle.vr_job.proofs.Effects.MadeOr.{NoChange, OneChange}
 
@@ -159,8 +159,14 @@ module _ (geometry : Geometry) (state : State) (unit : UnitOfRecovery)
   entry-off stamp (Split part) after = tt
   entry-off stamp (Faulted fault) after = tt
 
+-- what a deck may change, an entry may
+off-may : (state : State) (unit : UnitOfRecovery) (changes : List Change)
+    → AllByRecursion IsOffCatalog changes → AllByRecursion (MayChange state unit) changes
+off-may state unit [] off = tt
+off-may state unit (change ∷ changes) off = (inl off.0, off-may state unit changes off.1)
+
 -- one history after another
-keep-then : (geometry : Geometry) (state : State) (entries more : List Entry)
+pub keep-then : (geometry : Geometry) (state : State) (entries more : List Entry)
     → KeepTheCatalog geometry state entries
     → KeepTheCatalog geometry (state_of geometry state entries) more
     → KeepTheCatalog geometry state (entries ++ more)
@@ -175,7 +181,7 @@ keep-first geometry state [] more keep = tt
 keep-first geometry state (entry ∷ entries) more keep =
     (keep.0, keep-first geometry (state_after geometry state entry) entries more keep.1)
 
-state-both : (geometry : Geometry) (state : State) (entries more : List Entry)
+pub state-both : (geometry : Geometry) (state : State) (entries more : List Entry)
     → state_of geometry state (entries ++ more)
     ≡ state_of geometry (state_of geometry state entries) more
 state-both geometry state [] more = refl
@@ -191,12 +197,14 @@ made-keep : (geometry : Geometry) (state : State) (act : Act) (unit : UnitOfReco
 made-keep geometry state Done unit line request made is own before after =
     subst (KeepTheCatalog geometry state) (sym is.is) (⊎_elim (λ none. alone none)
     (λ fault. (
-      subst (λ (what : What). AllByRecursion IsOffCatalog
+      subst (λ (what : What). AllByRecursion (MayChange state is.entry.unit)
           (place_changes geometry state is.entry.unit what))
           (sym (is.what_is ∙ ap (λ (reply : Reply). Asked request reply) fault.refused)) tt,
       subst (KeepTheCatalog geometry (state_after geometry state is.entry)) (sym fault.is) (
-        subst (λ (what : What). AllByRecursion IsOffCatalog (place_changes geometry
-            (state_after geometry state is.entry) fault.fault.unit what)) (sym fault.what_is) tt,
+        subst (λ (what : What).
+            AllByRecursion (MayChange (state_after geometry state is.entry) fault.fault.unit)
+            (place_changes geometry (state_after geometry state is.entry) fault.fault.unit what))
+            (sym fault.what_is) tt,
         tt,
       ),
     )) is.follows)
@@ -204,22 +212,24 @@ made-keep geometry state Done unit line request made is own before after =
     alone : is.rest ≡ [] → KeepTheCatalog geometry state (is.entry ∷ is.rest)
     alone none = subst (λ (rest : List Entry). KeepTheCatalog geometry state (is.entry ∷ rest))
         (sym none) (
-          entry-off geometry state is.entry.unit
+          off-may state is.entry.unit (place_changes geometry state is.entry.unit is.entry.what)
+              (entry-off geometry state is.entry.unit
               (subst (λ (u : UnitOfRecovery). (u.deck == 0) ≡ false) (sym is.unit_is) own) before
               is.entry.stamp is.entry.what
               (subst (λ (them : List Entry).
               AllByRecursion IsOfClusterByDeck (state_of geometry state them).befores)
-              (is.is ∙ ap (λ (rest : List Entry). is.entry ∷ rest) none) after),
+              (is.is ∙ ap (λ (rest : List Entry). is.entry ∷ rest) none) after)),
           tt,
         )
 made-keep geometry state (Again given) unit line request made is own before after = ⊎_elim
     (λ none. subst (KeepTheCatalog geometry state) (sym none) tt)
     (λ one. subst (KeepTheCatalog geometry state) (sym one.1) (
-      entry-off geometry state one.0.unit
+      off-may state one.0.unit (place_changes geometry state one.0.unit one.0.what)
+          (entry-off geometry state one.0.unit
           (subst (λ (u : UnitOfRecovery). (u.deck == 0) ≡ false) (sym one.2.0) own) before
           one.0.stamp one.0.what
           (subst (λ (them : List Entry).
-          AllByRecursion IsOfClusterByDeck (state_of geometry state them).befores) one.1 after),
+          AllByRecursion IsOfClusterByDeck (state_of geometry state them).befores) one.1 after)),
       tt,
     )) is
 

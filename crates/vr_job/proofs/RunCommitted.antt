@@ -1,5 +1,6 @@
 -- What a run leaves of a volume is what its history committed.
-use Rattle.std.proofs.Common.{◌≡◌, ◌++◌, ◌∷◌, inl, ℕ, List, [], refl, subst}
+use Rattle.std.proofs.Common.{◌≡◌, ◌∙◌, ◌++◌, ◌∷◌, inl, ℕ, List, [], ap, append_assoc, refl, subst}
+use Rattle.std.proofs.Common.{sym}
 use Rattle.vr_types.specs.Content.{Content}
 use Rattle.vr_types.specs.Image.{Image}
 use Rattle.vr_types.specs.declared.geometry.Geometry.{Geometry}
@@ -63,17 +64,29 @@ module _ (geometry : Geometry) (number : ℕ) (catalog : List CatEntry) (content
   }
 
   -- and what is left while an event goes on
-  pub while-committed : (before more made : List Entry) (image : Image) → entries ≡ before ++ more
+  pub while-committed : (before made later : List Entry) (image : Image)
+      → entries ≡ before ++ (made ++ later)
       → IsLeftWhile geometry number (opening_state contents owned) before made image
       → IsCommittedWhile geometry number catalog (opening_state contents owned) before made image
-  while-committed before more made image both left = record {
+  while-committed before made later image both left = record {
+    first = left.first;
+    rest = left.rest;
+    made_are = left.made_are;
+    begun = left.begun;
     counted = left.counted;
     commits = left.commits;
-    has = has-committed geometry contents owned before
-        (steps-first geometry (opening_state contents owned) before more
-        (subst (AreSteps geometry (opening_state contents owned)) both steps)) ascend number
-        catalog is
-        (keep-first geometry (opening_state contents owned) before more
-        (subst (KeepTheCatalog geometry (opening_state contents owned)) both keep))
+    has = has-committed geometry contents owned (before ++ left.first)
+        (steps-first geometry (opening_state contents owned) (before ++ left.first)
+        (left.rest ++ later) (subst (AreSteps geometry (opening_state contents owned)) cut steps))
+        ascend number catalog is
+        (keep-first geometry (opening_state contents owned) (before ++ left.first)
+        (left.rest ++ later)
+        (subst (KeepTheCatalog geometry (opening_state contents owned)) cut keep))
         left.counted image left.recovers.recovers;
   }
+    where
+      cut : entries ≡ (before ++ left.first) ++ (left.rest ++ later)
+      cut = both
+          ∙ ap (λ (them : List Entry). before ++ (them ++ later)) left.made_are
+          ∙ ap (λ (them : List Entry). before ++ them) (append_assoc left.first left.rest later)
+          ∙ sym (append_assoc before left.first (left.rest ++ later))

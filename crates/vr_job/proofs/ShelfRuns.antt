@@ -1,18 +1,17 @@
 -- What the run of a job comes to on the volumes of a shelf.
-use Rattle.std.proofs.Common.{◌≡◌, ◌∙◌, ◌<◌, ◌≤◌, ◌+◌, ◌^◌, inl, inr, ⊎_elim, ℕ, zero, suc, Bool}
+use Rattle.std.proofs.Common.{◌≡◌, ◌∙◌, ◌<◌, ◌+◌, inl, inr, ⊎_elim, ℕ, zero, suc, Bool}
 use Rattle.std.proofs.Common.{List, [], ◌∷◌, ◌++◌, Result, Ok, Err, Some, None, Option, arith, refl}
-use Rattle.std.proofs.Common.{sym, ap, subst, get_or, length, map}
+use Rattle.std.proofs.Common.{sym, ap, subst, drop, get_or, length, map, take}
 use Rattle.std.specs.Prelude.{All, Contains, IsErr, IsOk, IsTrue, is_ok, is_some, slice_get}
-use Rattle.std.proofs.lemmas.List.{append-nil, map-append}
+use Rattle.std.proofs.lemmas.List.{append-nil, length-map, map-append}
 use Rattle.std.proofs.lemmas.List.Elements.{All-cons, All-nil}
 use Rattle.vr_types.specs.Faults.{Faults}
 use Rattle.vr_types.specs.Seen.{Seen}
+use Rattle.vr_types.specs.declared.geometry.Geometry.{Geometry}
 use Rattle.vr_catalog.specs.declared.entry.CatEntry.{CatEntry}
 use Rattle.vr_history.specs.Merged.{in_order, numbered_from, part_of_deck}
 use Rattle.vr_history.specs.declared.entry.Entry.{Entry}
-use Rattle.vr_job_text.specs.Job.{deck_steps}
 use Rattle.vr_job_text.specs.declared.job.JobStep.{JobStep}
-use Rattle.vr_job_text.specs.declared.text.Step.{Step}
 use Rattle.vr_event.specs.Volume.{VolumeNow}
 use Rattle.vr_recover.specs.declared.open_no.OpenNo.{OpenNo}
 use Rattle.vr_recover.specs.declared.open_no.OpenNo.TheVariants as opens
@@ -26,20 +25,21 @@ use Rattle.vr_trace.specs.Laws.{AreRising, entry_of, of_deck}
 use Rattle.vr_trace.specs.declared.ending.EndLine.{EndLine}
 use Rattle.vr_trace.specs.declared.ending.EndLine.TheVariants.{DeviceFault, StampsUsedUp}
 use Rattle.vr_trace.specs.declared.report.StepReport.{StepReport}
-use Rattle.vr_worker.specs.declared.no.RunNo.{RunNo}
-use Rattle.vr_worker.specs.declared.no.RunNo.TheVariants as nos
+use Rattle.vr_trace.specs.declared.no.RunNo.{RunNo}
+use Rattle.vr_trace.specs.declared.no.RunNo.TheVariants as nos
 use Rattle.vr_job.specs.Faultless.{has_stopped}
 use Rattle.vr_job.specs.Going.{Follows, ShowsStop}
 use Rattle.vr_job.specs.OpenEnds.{IsOpenLine, open_line}
-use Rattle.vr_job.specs.Reported.{AreReportedFrom}
-use Rattle.vr_job.specs.Shelf.{Answer, AreClosing, AreOpen, Closing, HaveClosed, HaveOpened, HaveRun, HaveRunWhere}
-use Rattle.vr_job.specs.Shelf.{IsClosing, IsRest, IsUnsynced, Opening, catalog_of, end_of, entries_on}
-use Rattle.vr_job.specs.ShelfRun.{AreEmpty, AreVolumeRuns, AsAsked, ByClosing, ByOpening, IsShelfEnd, IsShelfRun}
-use Rattle.vr_job.specs.ShelfRun.{VolumeOf, WereRun, run_end, run_line}
+use Rattle.vr_job.specs.Reported.{AreBound, AreReportedFrom, IsCatalogAt}
+use Rattle.vr_job.specs.Shelf.{Answer, AreClosing, AreOpen, Closing, HaveClosed, HaveOpened}
+use Rattle.vr_job.specs.Shelf.{HaveRun, HaveRunWhere, IsClosing, IsRest, IsUnsynced, Opening}
+use Rattle.vr_job.specs.Shelf.{catalog_of, end_of, entries_on, shape_of}
+use Rattle.vr_job.specs.ShelfRun.{AreEmpty, AreVolumeRuns, AsAsked, ByClosing, ByOpening}
+use Rattle.vr_job.specs.ShelfRun.{IsShelfEnd, IsShelfRun, VolumeOf, WereRun, run_end, run_line}
 use Rattle.vr_job.specs.VolumeRun.{HasFaultCause, IsFaultEnd, IsNotOpen}
 use Rattle.vr_job.specs.VolumeRun.{IsOpen, IsUnopened, IsVolumeRun}
 use Rattle.vr_job.proofs.Devices.{same-some}
-use Rattle.vr_job.proofs.Reported.{reported-from, reported-none}
+use Rattle.vr_job.proofs.Reported.{are-bound, reported-from, reported-none}
 use Rattle.vr_job.proofs.VolumeRuns.{ended-rose, volume-run, was-run}
 
 -- ---- ends
@@ -97,16 +97,16 @@ line-stamps nos.Stamps same = refl
 line-stamps nos.Memory same = absurd cc
 
 -- nothing is of no step
-of-none : (steps : List Step) → AreOfSteps steps []
+of-none : (steps : List JobStep) → AreOfSteps steps []
 of-none [] = refl
 of-none (step ∷ steps) = ([], [], refl, (λ k entry near. absurd (omega (arith, near))), of-none steps)
 
-module _ {D : Type 0} (tells : Bool) (seen : D → Seen) (faults : D → Faults)
-    (job : List JobStep) where
-  -- its steps of decks
-  abbrev steps : List Step
-  steps = deck_steps job
+-- a volume that wasn't opened has no shape of which anything is said
+no_shape : Geometry
+no_shape = record { size = 0; blocks = 0; log = 0; area = 0 }
 
+module _ {D : Type 0} (tells : Bool) (seen : D → Seen) (faults : D → Faults)
+    (steps : List JobStep) where
   abbrev Since : VolumeNow D → VolumeNow D → Type 0
   Since = IsSinceSteps entries_on (Follows tells seen faults) steps
 
@@ -118,11 +118,21 @@ module _ {D : Type 0} (tells : Bool) (seen : D → Seen) (faults : D → Faults)
   AreSince (opening ∷ openings) (closing ∷ closings) = Since opening.volume closing.volume
       × AreSince openings closings
 
-  -- the volumes of a run
+  -- the volumes of a run, and what each has of these
+  abbrev shapes-in : List (VolumeOf D) → List Geometry
+  shapes-in volumes = map (λ (one : VolumeOf D). one.geometry) volumes
+
+  abbrev catalogs-in : List (VolumeOf D) → List (List CatEntry)
+  catalogs-in volumes = map (λ (one : VolumeOf D). one.catalog) volumes
+
+  abbrev histories-in : List (VolumeOf D) → List (List Entry)
+  histories-in volumes = map (λ (one : VolumeOf D). one.entries) volumes
+
   abbrev volumes-of : List (Opening D) → List (Closing D) → List (VolumeOf D)
   volumes-of [] closings = []
   volumes-of (opening ∷ openings) [] = []
   volumes-of (opening ∷ openings) (closing ∷ closings) = record {
+    geometry = opening.volume.file.geometry;
     catalog = opening.volume.file.catalog;
     entries = closing.entries;
     device = opening.device;
@@ -202,14 +212,23 @@ module _ {D : Type 0} (tells : Bool) (seen : D → Seen) (faults : D → Faults)
 
   catalogs-are : (openings : List (Opening D)) (closings : List (Closing D))
       → AreSince openings closings
-      → map catalog_of (volumes_in openings)
-      ≡ map (λ (one : VolumeOf D). one.catalog) (volumes-of openings closings)
+      → map catalog_of (volumes_in openings) ≡ catalogs-in (volumes-of openings closings)
   catalogs-are [] [] since = refl
   catalogs-are (one ∷ others) [] since = absurd since
   catalogs-are [] (one ∷ others) since = absurd since
   catalogs-are (opening ∷ openings) (closing ∷ closings) since =
       ap (λ (them : List (List CatEntry)). opening.volume.file.catalog ∷ them)
       (catalogs-are openings closings since.1)
+
+  shapes-are : (openings : List (Opening D)) (closings : List (Closing D))
+      → AreSince openings closings
+      → map shape_of (volumes_in openings) ≡ shapes-in (volumes-of openings closings)
+  shapes-are [] [] since = refl
+  shapes-are (one ∷ others) [] since = absurd since
+  shapes-are [] (one ∷ others) since = absurd since
+  shapes-are (opening ∷ openings) (closing ∷ closings) since =
+      ap (λ (them : List Geometry). opening.volume.file.geometry ∷ them)
+      (shapes-are openings closings since.1)
 
   -- what is owed of each by how the job ended
   abbrev AreOwed : End → ℕ → List (Opening D) → List (Closing D) → Type 0
@@ -375,6 +394,7 @@ module _ {D : Type 0} (tells : Bool) (seen : D → Seen) (faults : D → Faults)
   -- a volume that stays as it was
   abbrev untouched : D → VolumeOf D
   untouched device = record {
+    geometry = no_shape;
     catalog = [];
     entries = [];
     device = device;
@@ -403,7 +423,7 @@ module _ {D : Type 0} (tells : Bool) (seen : D → Seen) (faults : D → Faults)
 
   untouched-run : (line : EndLine) (unopened number : ℕ) (device : D)
       → IsOpenLine unopened line → unopened < number
-      → IsVolumeRun tells seen faults number steps [] (Line line) [] device device device
+      → IsVolumeRun tells seen faults number steps no_shape [] (Line line) [] device device device
   untouched-run line unopened number device shown past = record {
     stamped = tt;
     of_steps = of-none steps;
@@ -451,7 +471,7 @@ module _ {D : Type 0} (tells : Bool) (seen : D → Seen) (faults : D → Faults)
 
   unopened-run : (line : EndLine) (number : ℕ) (device left : D)
       → IsNotOpen tells seen faults number device left line
-      → IsVolumeRun tells seen faults number steps [] (Line line) [] device left left
+      → IsVolumeRun tells seen faults number steps no_shape [] (Line line) [] device left left
   unopened-run line number device left is = record {
     stamped = tt;
     of_steps = of-none steps;
@@ -547,18 +567,52 @@ module _ {D : Type 0} (tells : Bool) (seen : D → Seen) (faults : D → Faults)
   abbrev lacks : Result (Unit {0}) RunNo
   lacks = Err nos.Memory
 
-  -- nothing is asked
+  -- nothing is asked, and the catalogs are those that the volumes had
   none-asked : (volumes : List (VolumeOf D)) → AreEmpty volumes
-      → HasAsked (map (λ (one : VolumeOf D). one.catalog) volumes) steps
-      lacks (map (λ (one : VolumeOf D). one.entries) volumes)
+      → HasAsked (λ (number : ℕ). catalogs-in volumes) steps lacks (histories-in volumes)
   none-asked volumes empty = record {
     count = 0;
     next = λ deck. [];
-    asked = λ deck. ap (λ them. part_of_deck deck (in_order them)) (none-numbered 0 volumes empty);
-    prefixes = λ deck. (_, refl);
+    asked = λ deck own. ap (λ them. part_of_deck deck (in_order them))
+        (none-numbered 0 volumes empty);
+    prefixes = λ deck own. (_, refl);
     whole = tt;
     rising = λ deck. subst (λ them. AreRising (of_deck deck (in_order them)))
         (sym (none-numbered 0 volumes empty)) tt;
+  }
+
+  empty-at : (volumes : List (VolumeOf D)) (place : ℕ) (entries : List Entry) → AreEmpty volumes
+      → slice_get (histories-in volumes) place ≡ Some entries → entries ≡ []
+  empty-at [] place entries empty is = absurd cc
+  empty-at (volume ∷ volumes) zero entries empty is =
+      sym (same-some volume.entries entries is) ∙ empty.0
+  empty-at (volume ∷ volumes) (suc place) entries empty is =
+      empty-at volumes place entries empty.1 is
+
+  none-then : (volumes : List (VolumeOf D)) → AreEmpty volumes → (number place : ℕ)
+      (catalog given : List CatEntry) (entries : List Entry)
+      → slice_get (catalogs-in volumes) place ≡ Some catalog
+      → slice_get (histories-in volumes) place ≡ Some entries
+      → slice_get (catalogs-in volumes) place ≡ Some given
+      → IsCatalogAt number steps catalog entries given
+  none-then volumes empty number place catalog given entries first_is now_is given_is = record {
+    first = [];
+    cut = record {
+      rest = [];
+      entries_are = empty-at volumes place entries empty now_is;
+      of_before = of-none (take number steps);
+      of_after = of-none (drop number steps);
+    };
+    is = same-some given catalog (sym given_is ∙ first_is);
+  }
+
+  none-bound : (volumes : List (VolumeOf D)) → AreEmpty volumes
+      → AreBound steps (catalogs-in volumes) (histories-in volumes)
+      (λ (number : ℕ). catalogs-in volumes)
+  none-bound volumes empty = record {
+    count = λ number. length-map volumes (λ (one : VolumeOf D). one.catalog)
+        ∙ sym (length-map volumes (λ (one : VolumeOf D). one.entries));
+    each = none-then volumes empty;
   }
 
   -- and then nothing comes of any step
@@ -576,17 +630,20 @@ module _ {D : Type 0} (tells : Bool) (seen : D → Seen) (faults : D → Faults)
 
   -- ---- the whole
 
-  -- a volume that was opened shows that it hasn't stopped
-  open-shows : (openings : List (Opening D)) (number place : ℕ) (volume : VolumeNow D)
+  -- a volume that was opened has no history yet, and shows that it hasn't stopped
+  open-at : (openings : List (Opening D)) (number place : ℕ) (volume : VolumeNow D)
       → AreOpen tells seen faults number openings
-      → slice_get (volumes_in openings) place ≡ Some volume → ShowsStop volume.file
-  open-shows [] number place volume opens_so is = absurd cc
-  open-shows (opening ∷ openings) number zero volume opens_so is =
-      let same : opening.volume ≡ volume = cc in
-      subst (λ (v : VolumeNow D). ShowsStop v.file) same
-      (ap is_some opens_so.0.going ∙ ap has_stopped (sym opens_so.0.begins))
-  open-shows (opening ∷ openings) number (suc place) volume opens_so is =
-      open-shows openings (number + 1) place volume opens_so.1 is
+      → slice_get (volumes_in openings) place ≡ Some volume
+      → (volume.file.entries ≡ []) × ShowsStop volume.file
+  open-at [] number place volume opens_so is = absurd cc
+  open-at (opening ∷ openings) number zero volume opens_so is =
+      subst (λ (v : VolumeNow D). (v.file.entries ≡ []) × ShowsStop v.file)
+      (same-some opening.volume volume is) (
+        opens_so.0.begins,
+        ap is_some opens_so.0.going ∙ ap has_stopped (sym opens_so.0.begins),
+      )
+  open-at (opening ∷ openings) number (suc place) volume opens_so is =
+      open-at openings (number + 1) place volume opens_so.1 is
 
   module _ (devices unopened shelf : List D) (volumes ran : List (VolumeNow D))
       (histories : List (List Entry)) (reports : List StepReport)
@@ -596,11 +653,11 @@ module _ {D : Type 0} (tells : Bool) (seen : D → Seen) (faults : D → Faults)
     closings = closed.each
 
     abbrev Run : End → Type 0
-    Run end = IsShelfRun tells seen faults job end reports
+    Run end = IsShelfRun tells seen faults steps end reports
         (histories ++ map (λ (device : D). []) unopened) devices (shelf ++ unopened)
 
     module _ (value : Unit {0}) (opened : HaveOpened tells seen faults devices volumes unopened (Ok value))
-        (has_run : HaveRun tells seen faults job by reports volumes ran) where
+        (has_run : HaveRun tells seen faults steps by reports volumes ran) where
       abbrev openings : List (Opening D)
       openings = opened.first
 
@@ -615,20 +672,61 @@ module _ {D : Type 0} (tells : Bool) (seen : D → Seen) (faults : D → Faults)
       abbrev all : List (VolumeOf D)
       all = volumes-of openings closings
 
-      kept-are : histories ++ map (λ (device : D). []) unopened
-          ≡ map (λ (one : VolumeOf D). one.entries) all
+      kept-are : histories ++ map (λ (device : D). []) unopened ≡ histories-in all
       kept-are = ap (λ (them : List D). histories ++ map (λ (device : D). []) them)
           opened.rest_is.1
           ∙ append-nil histories ∙ closed.histories_are ∙ entries-are openings closings since
 
+      opens-at : (place : ℕ) (volume : VolumeNow D) → slice_get volumes place ≡ Some volume
+          → (volume.file.entries ≡ []) × ShowsStop volume.file
+      opens-at place volume there = open-at openings 0 place volume opened.opens
+          (ap (λ (them : List (VolumeNow D)). slice_get them place) (sym opened.volumes_are)
+          ∙ there)
+
+      begins : (place : ℕ) (volume : VolumeNow D) → slice_get volumes place ≡ Some volume
+          → volume.file.entries ≡ []
+      begins place volume there = (opens-at place volume there).0
+
       shows : (place : ℕ) (volume : VolumeNow D) → slice_get volumes place ≡ Some volume
           → ShowsStop volume.file
-      shows place volume there = open-shows openings 0 place volume opened.opens
-          (ap (λ (them : List (VolumeNow D)). slice_get them place) (sym opened.volumes_are) ∙ there)
+      shows place volume there = (opens-at place volume there).1
 
-      ran-entries : map entries_on ran ≡ map (λ (one : VolumeOf D). one.entries) all
+      first-catalogs : map catalog_of volumes ≡ catalogs-in all
+      first-catalogs = ap (λ (them : List (VolumeNow D)). map catalog_of them) opened.volumes_are
+          ∙ catalogs-are openings closings since
+
+      first-shapes : map shape_of volumes ≡ shapes-in all
+      first-shapes = ap (λ (them : List (VolumeNow D)). map shape_of them) opened.volumes_are
+          ∙ shapes-are openings closings since
+
+      abbrev by_number : ℕ → List (List CatEntry)
+      by_number = has_run.done.catalogs
+
+      -- the histories as they are handed out
+      abbrev kept : List (List Entry)
+      kept = histories ++ map (λ (device : D). []) unopened
+
+      ran-entries : map entries_on ran ≡ kept
       ran-entries = ap (λ (them : List (VolumeNow D)). map entries_on them) closed.volumes_are
           ∙ closing-entries closings closed.closing ∙ entries-are openings closings since
+          ∙ sym kept-are
+
+      bound-so : AreBound steps (catalogs-in all) kept by_number
+      bound-so = subst (λ (them : List (List Entry)).
+          AreBound steps (catalogs-in all) them by_number) ran-entries
+          (subst (λ (them : List (List CatEntry)).
+          AreBound steps them (map entries_on ran) by_number) first-catalogs
+          (are-bound tells seen faults volumes ran begins shows steps by_number has_run.done.bound))
+
+      reported-so : AreReportedFrom [] (shapes-in all) (catalogs-in all) kept steps reports
+      reported-so = subst (λ (them : List (List Entry)). AreReportedFrom [] (shapes-in all)
+          (catalogs-in all) them steps reports) ran-entries
+          (subst (λ (them : List (List CatEntry)). AreReportedFrom [] (shapes-in all) them
+          (map entries_on ran) steps reports) first-catalogs
+          (subst (λ (them : List Geometry). AreReportedFrom [] them (map catalog_of volumes)
+          (map entries_on ran) steps reports) first-shapes
+          (reported-from tells seen faults volumes ran begins shows by_number [] steps reports
+          has_run.done.reported)))
 
       -- however the job ended
       with-end : (end : End) → AreOwed end 0 openings closings
@@ -646,27 +744,13 @@ module _ {D : Type 0} (tells : Bool) (seen : D → Seen) (faults : D → Faults)
         histories_are = kept-are;
         runs = each-run end 0 openings closings opened.opens since closed.closing owed;
         by = by;
-        asked = subst (HasAsked (map (λ (one : VolumeOf D). one.catalog) all) steps by)
-            (sym kept-are)
-            (subst (λ (them : List (List CatEntry)). HasAsked them steps by
-            (map (λ (one : VolumeOf D). one.entries) all))
-            (ap (λ (them : List (VolumeNow D)). map catalog_of them) opened.volumes_are
-            ∙ catalogs-are openings closings since)
-            (subst (HasAsked (map catalog_of volumes) steps by) ran-entries has_run.asked));
-        in_steps = subst (ComeInSteps steps) (sym kept-are)
-            (subst (ComeInSteps steps) ran-entries has_run.in_steps);
-        gapless = subst (AreGapless steps) (sym kept-are)
-            (subst (AreGapless steps) ran-entries has_run.gapless);
-        reported = subst (λ (them : List (List Entry)). AreReportedFrom []
-            (map (λ (one : VolumeOf D). one.catalog) all) them job reports) (sym kept-are)
-            (subst (λ (them : List (List CatEntry)). AreReportedFrom [] them
-            (map (λ (one : VolumeOf D). one.entries) all) job reports)
-            (ap (λ (them : List (VolumeNow D)). map catalog_of them) opened.volumes_are
-            ∙ catalogs-are openings closings since)
-            (subst (λ (them : List (List Entry)). AreReportedFrom [] (map catalog_of volumes) them
-            job reports) ran-entries
-            (reported-from tells seen faults volumes ran shows [] job reports has_run.reported)));
-        all_reported = has_run.all_reported;
+        catalogs = by_number;
+        bound = bound-so;
+        asked = subst (HasAsked by_number steps by) ran-entries has_run.done.asked;
+        in_steps = subst (ComeInSteps steps) ran-entries has_run.in_steps;
+        gapless = subst (AreGapless steps) ran-entries has_run.gapless;
+        reported = reported-so;
+        all_reported = has_run.done.all_reported;
         stamps = λ used.
             let shown = has_run.stamps (stamps used) in
             let there = subst (λ (them : List (VolumeNow D)). Contains them shown.volume)
@@ -684,7 +768,7 @@ module _ {D : Type 0} (tells : Bool) (seen : D → Seen) (faults : D → Faults)
     -- all volumes were run
     ran-all : (value : Unit {0})
         (opened : HaveOpened tells seen faults devices volumes unopened (Ok value))
-        (has_run : HaveRun tells seen faults job by reports volumes ran) (end : End)
+        (has_run : HaveRun tells seen faults steps by reports volumes ran) (end : End)
         → AreOwed end 0 opened.first closings → IsTrue tells
         → WereRun tells seen faults end 0 (volumes-of opened.first closings)
     ran-all value opened has_run end owed told = each-ran end 0 opened.first closings opened.opens
@@ -693,7 +777,7 @@ module _ {D : Type 0} (tells : Bool) (seen : D → Seen) (faults : D → Faults)
     opened-run : (value : Unit {0})
         → HaveOpened tells seen faults devices volumes unopened (Ok value)
         → (asked : Result (Unit {0}) RunNo) → by ≡ asked
-        → HaveRun tells seen faults job by reports volumes ran → (failed : Option ℕ)
+        → HaveRun tells seen faults steps by reports volumes ran → (failed : Option ℕ)
         → unsynced ≡ failed → Run (end_of (Ok value) asked failed)
     opened-run value opened (Err fault) is has_run failed same =
         let owed = owed-asked fault 0 opened.first closings in
@@ -745,15 +829,18 @@ module _ {D : Type 0} (tells : Bool) (seen : D → Seen) (faults : D → Faults)
             untouched-runs end (length openings) (length openings + 1) after fault.line (omega arith),
           ));
       by = Err nos.Memory;
-      asked = subst (HasAsked (map (λ (one : VolumeOf D). one.catalog) all) steps lacks)
+      catalogs = λ (number : ℕ). catalogs-in all;
+      bound = subst (λ (them : List (List Entry)). AreBound steps (catalogs-in all) them
+          (λ (number : ℕ). catalogs-in all)) (sym kept-are) (none-bound all all-empty);
+      asked = subst (HasAsked (λ (number : ℕ). catalogs-in all) steps lacks)
           (sym kept-are) (none-asked all all-empty);
       in_steps = subst (ComeInSteps steps) (sym kept-are) (none-in-steps all all-empty);
       gapless = subst (AreGapless steps) (sym kept-are)
           (gapless-none (λ (one : VolumeOf D). one.entries) steps all (each-empty all all-empty));
-      reported = subst (AreReportedFrom [] (map (λ (one : VolumeOf D). one.catalog) all)
-          (histories ++ map (λ (device : D). []) unopened) job) (sym none)
-          (reported-none [] (map (λ (one : VolumeOf D). one.catalog) all)
-          (histories ++ map (λ (device : D). []) unopened) job);
+      reported = subst (AreReportedFrom [] (shapes-in all) (catalogs-in all)
+          (histories ++ map (λ (device : D). []) unopened) steps) (sym none)
+          (reported-none [] (shapes-in all) (catalogs-in all)
+          (histories ++ map (λ (device : D). []) unopened) steps);
       all_reported = tt;
       stamps = λ used. absurd (open-line-stamps (length openings) fault.line.0
           (sym fault.line.1 ∙ line-is end StampsUsedUp used));
@@ -788,7 +875,14 @@ module _ {D : Type 0} (tells : Bool) (seen : D → Seen) (faults : D → Faults)
         since = each-itself openings closings 0 opened.opens together
 
         one : VolumeOf D
-        one = record { catalog = []; entries = []; device = device; ended = left; left = left }
+        one = record {
+          geometry = no_shape;
+          catalog = [];
+          entries = [];
+          device = device;
+          ended = left;
+          left = left;
+        }
 
         first : List (VolumeOf D)
         first = volumes-of openings closings
@@ -816,7 +910,7 @@ module _ {D : Type 0} (tells : Bool) (seen : D → Seen) (faults : D → Faults)
     -- volumes that were opened, run and closed
     pub shelf-run : (opened : Answer)
         → HaveOpened tells seen faults devices volumes unopened opened
-        → HaveRunWhere (is_ok opened) tells seen faults job by reports volumes ran
+        → HaveRunWhere (is_ok opened) tells seen faults steps by reports volumes ran
         → Run (end_of opened by unsynced)
     shelf-run (Ok value) opened has_run =
         opened-run value opened by refl has_run unsynced refl

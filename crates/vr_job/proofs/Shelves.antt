@@ -12,7 +12,7 @@ use Rattle.vr_job_text.specs.declared.job.JobStep.{JobStep}
 use Rattle.vr_trace.specs.declared.report.StepReport.{StepReport}
 use Rattle.vr_trace.specs.declared.ending.EndLine.{EndLine}
 use Rattle.vr_worker.specs.Decks.{ArePlaced}
-use Rattle.vr_worker.specs.declared.no.RunNo.{RunNo}
+use Rattle.vr_trace.specs.declared.no.RunNo.{RunNo}
 use Rattle.vr_job.specs.Shelf.{Answer, AreBeingClosed, AreClosing, AreOpen, AreOpening, Closing, HasClosedNext}
 use Rattle.vr_job.specs.Shelf.{HasOpenedNext, HasOpenedOrKept, HaveClosed, HaveOpened, HaveRunWhere}
 use Rattle.vr_job.specs.Shelf.{IsClosing}

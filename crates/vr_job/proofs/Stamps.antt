@@ -3,12 +3,12 @@ use Rattle.std.proofs.Common.{◌≡◌, ◌≤◌, ℕ, zero, suc, List, arith,
 use Rattle.std.proofs.lemmas.Bool.{cases_lt}
 use Rattle.vr_history.specs.Merged.{Numbered}
 use Rattle.vr_history.specs.declared.entry.Entry.{Entry}
-use Rattle.vr_job_text.specs.declared.text.Step.{Step}
-use Rattle.vr_worker.specs.Decks.{IsEntered}
+use Rattle.vr_job_text.specs.declared.job.JobStep.{JobStep}
+use Rattle.vr_trace.specs.Growing.{IsEntered}
 use Rattle.vr_worker.specs.Steps.{AreGapless}
 
 -- down from that of an entry
-pub stamp-taken : (steps : List Step) (histories : List (List Entry)) → AreGapless steps histories
+pub stamp-taken : (steps : List JobStep) (histories : List (List Entry)) → AreGapless steps histories
     → (last : ℕ) (this : Numbered) → IsEntered histories this → this.entry.stamp ≡ last
     → (stamp : ℕ) → 1 ≤ stamp → stamp ≤ last
     → (other : Numbered) × IsEntered histories other × (other.entry.stamp ≡ stamp)

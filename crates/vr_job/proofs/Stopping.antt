@@ -14,7 +14,8 @@ use Rattle.vr_types.specs.declared.reply.Refusal.TheVariants.{Stopped, WriteFaul
 use Rattle.vr_types.specs.declared.reply.Reply.{Reply}
 use Rattle.vr_types.specs.declared.reply.Reply.TheVariants.{Done as DoneReply, Refused}
 use Rattle.vr_types.specs.declared.request.Request.{Request}
-use Rattle.vr_types.specs.declared.request.Request.TheVariants.{Commit}
+use Rattle.vr_types.specs.declared.request.FileRef.{FileRef}
+use Rattle.vr_types.specs.declared.request.Request.TheVariants.{Add, Commit}
 use Rattle.vr_types.specs.declared.unit.AreaNo.{AreaNo}
 use Rattle.vr_types.specs.declared.unit.PartNo.{PartNo}
 use Rattle.vr_types.specs.declared.unit.Unit.{Unit as UnitOfRecovery}
@@ -30,7 +31,8 @@ use Rattle.vr_event.specs.Made.{HasStopped as HasStoppedWith, IsStepFor, MadeBy}
 use Rattle.vr_event.specs.declared.act.Act.{Act}
 use Rattle.vr_event.specs.declared.act.Act.TheVariants.{Again, Done}
 use Rattle.vr_job.specs.Crash.{HaveDoneCommit, IsDoneCommit}
-use Rattle.vr_job.specs.Events.{FaultsFollow, HasStopped, IsStop}
+use Rattle.vr_job.specs.Definitions.{AreBegun, IsRecorded}
+use Rattle.vr_job.specs.Events.{FaultsFollow, HasStopped, IsStop, IsStopAfter}
 use Rattle.vr_job.specs.Faultless.{AreFaultless, IsFaulted}
 
 -- ---- a COMMIT that is answered 0 comes where its volume goes on
@@ -114,7 +116,9 @@ faults-follow Done unit line request made is = ⊎_elim
     (λ none. inr (one-faultless made is.entry
     (is.is ∙ ap (λ (rest : List Entry). is.entry ∷ rest) none)
     (λ fault. faulted-not-asked request is.reply (subst IsFaulted is.what_is fault))))
-    (λ faulted. inl (record {
+    (λ faulted. inl (inl (record {
+      before = [];
+      begun = inl refl;
       request = request;
       failing = is.entry;
       fault = faulted.fault;
@@ -123,7 +127,7 @@ faults-follow Done unit line request made is = ⊎_elim
       fault_is = faulted.what_is;
       unit_is = faulted.unit_is ∙ sym is.unit_is;
       line_is = faulted.line_is ∙ sym is.line_is;
-    })) is.follows
+    }))) is.follows
 faults-follow (Again given) unit line request made is = inr (⊎_elim
     (λ none. none-faultless made none)
     (λ one. one-faultless made one.0 one.1 (⊎_elim
@@ -140,9 +144,36 @@ refused-not-done request same = cc
 faulted-not-done : Faulted Write ≡ Asked Commit (DoneReply 0 None None) → ⊥
 faulted-not-done same = cc
 
+claimed-not-done : (part : PartNo) (area : AreaNo) → IsDoneCommit (Claimed part area) → ⊥
+claimed-not-done part area done = cc
+
+add-not-done : (file : FileRef) (named : Option (List ℕ)) (bytes : List ℕ) (reply : Reply)
+    → IsDoneCommit (Asked (Add file named bytes) reply) → ⊥
+add-not-done file named bytes reply done = cc
+
+-- nor among what a definition begins with
+begun-not-done : (first more : List Entry) → AreBegun first → HaveDoneCommit (first ++ more)
+    → HaveDoneCommit more
+begun-not-done first more begun done = ⊎_elim
+    (λ none. subst (λ (them : List Entry). HaveDoneCommit (them ++ more)) none done)
+    (λ recorded. in-both recorded.0 recorded.1 recorded.2 recorded.3 recorded.4) begun
+  where
+    in-both : (unit : UnitOfRecovery) (part : PartNo) (area : AreaNo) (bytes : List ℕ)
+        → IsRecorded unit part area bytes first → HaveDoneCommit more
+    in-both unit part area bytes is = ⊎_elim
+        (λ claims. absurd (claimed-not-done part area (subst IsDoneCommit is.claim_is claims)))
+        (λ rest. ⊎_elim
+        (λ adds. absurd (add-not-done is.file None bytes _ (subst IsDoneCommit is.add_is adds)))
+        (λ later. later) rest)
+        (subst (λ (them : List Entry). HaveDoneCommit (them ++ more)) is.made_are done)
+
 -- no COMMIT is answered 0 in an event in which the volume stops
 pub stop-none : (made : List Entry) → IsStop made → HaveDoneCommit made → ⊥
-stop-none made stop done = in-pair (subst HaveDoneCommit stop.made_are done)
+stop-none made stop done = ⊎_elim
+    (λ after. in-pair after (begun-not-done after.before (after.failing ∷ after.fault ∷ [])
+    after.begun (subst HaveDoneCommit after.made_are done)))
+    (λ alone. ⊎_elim (λ first. faulted alone.fault.what alone.fault_is first) (λ none. none)
+    (subst HaveDoneCommit alone.made_are done)) stop
   where
     refused : (what : What) (request : Request) → what ≡ Asked request (Refused WriteFault)
         → IsDoneCommit what → ⊥
@@ -151,9 +182,10 @@ stop-none made stop done = in-pair (subst HaveDoneCommit stop.made_are done)
     faulted : (what : What) → what ≡ Faulted Write → IsDoneCommit what → ⊥
     faulted what is done = faulted-not-done (sym is ∙ done)
 
-    in-pair : HaveDoneCommit (stop.failing ∷ stop.fault ∷ []) → ⊥
-    in-pair is = ⊎_elim (λ first. refused stop.failing.what stop.request stop.failing_is first)
-        (λ rest. ⊎_elim (λ second. faulted stop.fault.what stop.fault_is second)
+    in-pair : (after : IsStopAfter made) → HaveDoneCommit (after.failing ∷ after.fault ∷ []) → ⊥
+    in-pair after is = ⊎_elim
+        (λ first. refused after.failing.what after.request after.failing_is first)
+        (λ rest. ⊎_elim (λ second. faulted after.fault.what after.fault_is second)
         (λ none. none) rest) is
 
 -- ---- a COMMIT that was answered 0
@@ -185,9 +217,6 @@ commit-first (Again given) unit line request made is done = absurd (⊎_elim
     split-done : (part : PartNo) → IsDoneCommit (Split part) → ⊥
     split-done part done = cc
 
-    claimed-done : (part : PartNo) (area : AreaNo) → IsDoneCommit (Claimed part area) → ⊥
-    claimed-done part area done = cc
-
     undone-done : (part : PartNo) (place : List ℕ) → IsDoneCommit (Undone part place) → ⊥
     undone-done part place done = cc
 
@@ -195,7 +224,7 @@ commit-first (Again given) unit line request made is done = absurd (⊎_elim
     step-done entry step done = ⊎_elim
         (λ split. split-done split.0 (subst IsDoneCommit split.1 done))
         (λ later. ⊎_elim
-        (λ claim. claimed-done claim.0 claim.1 (subst IsDoneCommit claim.2 done))
+        (λ claim. claimed-not-done claim.0 claim.1 (subst IsDoneCommit claim.2 done))
         (λ back. undone-done back.1 back.2 (subst IsDoneCommit back.3 done)) later) step.2
 
 second-faulted : (entry fault : Entry) → AreFaultless (entry ∷ fault ∷ []) → IsFaulted fault.what

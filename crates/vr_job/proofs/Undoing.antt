@@ -1,17 +1,19 @@
 -- That a unit which has begun to undo shows it in its deck's own entries, after an event too.
-use Rattle.std.proofs.Common.{◌≡◌, ◌≢◌, ◌∙◌, inl, inr, ⊎_elim, ℕ, ◌==◌, ◌&&◌, ◌||◌, Bool, true, false, cond}
-use Rattle.std.proofs.Common.{List, [], ◌∷◌, ◌++◌, not, ap, eq-eqb, ne_eqb, refl, subst, sym}
+use Rattle.std.proofs.Common.{◌≡◌, ◌≢◌, ◌∙◌, inl, inr, ⊎_elim, ℕ, ◌==◌, ◌&&◌, ◌||◌, Bool, true}
+use Rattle.std.proofs.Common.{false, cond, List, [], ◌∷◌, ◌++◌, not, ap, eq-eqb, ne_eqb, refl, subst, sym}
 use Rattle.std.specs.Prelude.{◌⊎◌, All, IsTrue}
 use Rattle.std.proofs.lemmas.Bool.{and_from, and_parts, both_ways, eqb-true, not-true, or_cases}
 use Rattle.std.proofs.lemmas.List.{append-nil}
 use Rattle.vr_types.specs.Locks.{same_unit}
 use Rattle.vr_types.specs.Seen.{Seen}
+use Rattle.vr_types.specs.declared.fault.DeviceFault.{DeviceFault}
 use Rattle.vr_types.specs.declared.request.Request.{Request}
 use Rattle.vr_types.specs.declared.unit.Unit.{Unit as UnitOfRecovery}
 use Rattle.vr_history.specs.Legal.{is_backout}
 use Rattle.vr_history.specs.State.{State}
 use Rattle.vr_history.specs.declared.entry.Entry.{Entry}
 use Rattle.vr_history.specs.declared.entry.What.{What}
+use Rattle.vr_history.specs.declared.entry.What.TheVariants.{Faulted}
 use Rattle.vr_ledger.proofs.CallerLemmas.{entries_of-append, entries_of-kept, entries_of-more}
 use Rattle.vr_ledger.specs.Entries.{IsOf}
 use Rattle.vr_record_file.specs.Now.{FileNow, is_undoing, is_undoing_from, number_of, undoing_after}
@@ -63,11 +65,10 @@ shows-same old new entries numbers shows unit undoing =
       ap (λ (es : List Entry). undoes (deck_entries unit.deck es)) entries ∙ had.1,
     )
 
--- ---- where a step is entered
+-- ---- where an entry more leaves a unit that has begun to undo so
 
-module _ (asking : UnitOfRecovery) (line : ℕ) (request : Request) (old new : FileNow)
-    (entry : Entry) (entries : new.entries ≡ old.entries ++ entry ∷ []) (numbers : new.numbers ≡ old.numbers)
-    (step : IsStepFor asking line request entry) (current : asking ≡ unit_of asking.deck old)
+module _ (old new : FileNow) (entry : Entry)
+    (entries : new.entries ≡ old.entries ++ entry ∷ []) (numbers : new.numbers ≡ old.numbers)
     (shows : ShowUndoing old) where
   abbrev Shown : UnitOfRecovery → Type 0
   Shown unit = (unit ≡ unit_of unit.deck new)
@@ -79,15 +80,10 @@ module _ (asking : UnitOfRecovery) (line : ℕ) (request : Request) (old new : F
     number = number_of them unit.deck;
   }) (sym numbers)
 
-  -- the entry leaves a deck as one that undoes
-  keeps : asked.undoing_after true entry.what ≡ true
-  keeps = ⊎_elim (λ split. ap (asked.undoing_after true) split.1)
-      (λ later. ⊎_elim (λ claim. ap (asked.undoing_after true) claim.2)
-      (λ back. ap (asked.undoing_after true) back.3) later) step.2
-
   -- a unit that had begun before
-  before-shown : (unit : UnitOfRecovery) → is_undoing unit old.entries ≡ true → Shown unit
-  before-shown unit undoing = (
+  before-shown : asked.undoing_after true entry.what ≡ true → (unit : UnitOfRecovery)
+      → is_undoing unit old.entries ≡ true → Shown unit
+  before-shown keeps unit undoing = (
     still unit (shows unit undoing).0,
     ap (λ (es : List Entry). undoes (deck_entries unit.deck es)) entries
         ∙ ap undoes (entries_of-append unit.deck old.entries (entry ∷ []))
@@ -102,37 +98,60 @@ module _ (asking : UnitOfRecovery) (line : ℕ) (request : Request) (old new : F
       by_test true = keeps
       by_test false = refl
 
-  -- the one that asks, which puts a before-image back
-  asking-shown : ((before : Bool) → asked.undoing_after before entry.what ≡ true)
-      → All (IsOf asking.deck) (entry ∷ []) → Shown asking
-  asking-shown undone own = (
-    still asking current,
-    ap (λ (es : List Entry). undoes (deck_entries asking.deck es)) entries
-        ∙ ap undoes (entries_of-more asking.deck old.entries (entry ∷ []) own)
-        ∙ undoes-append false (deck_entries asking.deck old.entries) (entry ∷ [])
-        ∙ undone (undoes (deck_entries asking.deck old.entries)),
-  )
+  -- whether a unit has begun by then
+  undoing-then : (unit : UnitOfRecovery) → is_undoing unit new.entries
+      ≡ undoing_after unit (is_undoing unit old.entries) entry entry.what
+  undoing-then unit =
+      ap (is_undoing unit) entries ∙ undoing-append unit false old.entries (entry ∷ [])
 
-  step-shows : All (IsOf asking.deck) (entry ∷ []) → ShowUndoing new
-  step-shows own unit undoing = ⊎_elim
-      (λ split. before-shown unit
-      (sym (whole ∙ ap (undoing_after unit was entry) split.1) ∙ undoing))
-      (λ later. ⊎_elim
-      (λ claim. before-shown unit
-      (sym (whole ∙ ap (undoing_after unit was entry) claim.2) ∙ undoing))
-      (λ back. ⊎_elim (before-shown unit)
-      (λ same. subst Shown (sym (one-unit unit asking same))
-      (asking-shown (λ before. ap (asked.undoing_after before) back.3) own))
-      (or_cases was (same_unit unit asking) (sym (whole
-      ∙ ap (undoing_after unit was entry) back.3
-      ∙ ap (λ (u : UnitOfRecovery). was || same_unit unit u) step.0) ∙ undoing)))
-      later) step.2
+  -- a fault of the device does
+  pub fault-shows : (fault : DeviceFault) → entry.what ≡ Faulted fault → ShowUndoing new
+  fault-shows fault is unit undoing = before-shown (ap (asked.undoing_after true) is) unit
+      (sym (undoing-then unit
+      ∙ ap (undoing_after unit (is_undoing unit old.entries) entry) is) ∙ undoing)
+
+  -- ---- where a step is entered
+
+  module _ (asking : UnitOfRecovery) (line : ℕ) (request : Request)
+      (step : IsStepFor asking line request entry) (current : asking ≡ unit_of asking.deck old)
     where
-      was : Bool
-      was = is_undoing unit old.entries
+      -- the entry leaves a deck as one that undoes
+      keeps : asked.undoing_after true entry.what ≡ true
+      keeps = ⊎_elim (λ split. ap (asked.undoing_after true) split.1)
+          (λ later. ⊎_elim (λ claim. ap (asked.undoing_after true) claim.2)
+          (λ back. ap (asked.undoing_after true) back.3) later) step.2
 
-      whole : is_undoing unit new.entries ≡ undoing_after unit was entry entry.what
-      whole = ap (is_undoing unit) entries ∙ undoing-append unit false old.entries (entry ∷ [])
+      -- the one that asks, which puts a before-image back
+      asking-shown : ((before : Bool) → asked.undoing_after before entry.what ≡ true)
+          → All (IsOf asking.deck) (entry ∷ []) → Shown asking
+      asking-shown undone own = (
+        still asking current,
+        ap (λ (es : List Entry). undoes (deck_entries asking.deck es)) entries
+            ∙ ap undoes (entries_of-more asking.deck old.entries (entry ∷ []) own)
+            ∙ undoes-append false (deck_entries asking.deck old.entries) (entry ∷ [])
+            ∙ undone (undoes (deck_entries asking.deck old.entries)),
+      )
+
+      pub step-shows : All (IsOf asking.deck) (entry ∷ []) → ShowUndoing new
+      step-shows own unit undoing = ⊎_elim
+          (λ split. before-shown keeps unit
+          (sym (whole ∙ ap (undoing_after unit was entry) split.1) ∙ undoing))
+          (λ later. ⊎_elim
+          (λ claim. before-shown keeps unit
+          (sym (whole ∙ ap (undoing_after unit was entry) claim.2) ∙ undoing))
+          (λ back. ⊎_elim (before-shown keeps unit)
+          (λ same. subst Shown (sym (one-unit unit asking same))
+          (asking-shown (λ before. ap (asked.undoing_after before) back.3) own))
+          (or_cases was (same_unit unit asking) (sym (whole
+          ∙ ap (undoing_after unit was entry) back.3
+          ∙ ap (λ (u : UnitOfRecovery). was || same_unit unit u) step.0) ∙ undoing)))
+          later) step.2
+        where
+          was : Bool
+          was = is_undoing unit old.entries
+
+          whole : is_undoing unit new.entries ≡ undoing_after unit was entry entry.what
+          whole = undoing-then unit
 
 -- ---- where the request is entered
 
@@ -169,7 +188,7 @@ module _ (asking : UnitOfRecovery) (line : ℕ) (request : Request) (old new : F
       (same-unit unit asking
       (its ∙ ap (λ (deck : ℕ). unit_of deck old) same ∙ sym current))
 
-  asked-shows : ShowUndoing new
+  pub asked-shows : ShowUndoing new
   asked-shows unit undoing = (
     had.0 ∙ ap (λ (n : ℕ). record { deck = unit.deck; number = n })
         (sym (others unit.deck (ne_eqb unit.deck asking.deck differs))),
@@ -204,8 +223,9 @@ event-shows (Again given) after asking line request old new is current shows = �
     (λ none. shows-same old new
     (is.entries ∙ ap (λ (m : List Entry). old.entries ++ m) none ∙ append-nil old.entries)
     (λ deck. ap (λ (them : List DeckNumber). number_of them deck) is.numbers) shows)
-    (λ one. step-shows asking line request old new one.0
-    (is.entries ∙ ap (λ (m : List Entry). old.entries ++ m) one.1) is.numbers one.2 current shows
+    (λ one. step-shows old new one.0
+    (is.entries ∙ ap (λ (m : List Entry). old.entries ++ m) one.1) is.numbers shows asking line
+    request one.2 current
     (subst (All (IsOf asking.deck)) one.1
     (made-own (Again given) asking line request is.made is.by)))
     is.by

@@ -16,7 +16,7 @@ use Rattle.vr_types.specs.declared.geometry.Geometry.{Geometry}
 use Rattle.vr_history.specs.Merged.{IsStamped}
 use Rattle.vr_history.specs.State.{State, opening_state}
 use Rattle.vr_history.specs.declared.entry.Entry.{Entry}
-use Rattle.vr_job_text.specs.declared.text.Step.{Step}
+use Rattle.vr_job_text.specs.declared.job.JobStep.{JobStep}
 use Rattle.vr_job_ends.specs.declared.job_end.End.{End}
 use Rattle.vr_job_ends.specs.declared.job_end.End.TheVariants.{Ran}
 use Rattle.vr_record_file.specs.Now.{state_now}
@@ -79,7 +79,7 @@ on-ok (Ok given) P synced is = is
 on-ok (Err failed) P synced is = absurd cc
 
 module _ {D : Type 0} (tells : Bool) (seen : D → Seen) (faults : D → Faults) (number : ℕ)
-    (steps : List Step) (first : D) (volume : VolumeNow D) (result : Result (Unit {0}) Failed)
+    (steps : List JobStep) (first : D) (volume : VolumeNow D) (result : Result (Unit {0}) Failed)
     (device : D) (entries : List Entry)
     (opens_so : IsOpen tells seen faults number first volume)
     (ended : HasEnded tells seen faults steps volume result device entries) where
@@ -213,11 +213,13 @@ module _ {D : Type 0} (tells : Bool) (seen : D → Seen) (faults : D → Faults)
 
     abbrev Ran-as : ℕ → List Entry → Type 0
     Ran-as n es =
-        IsRun tells seen faults n volume.file.catalog by es first end.blocks device
+        IsRun tells seen faults n volume.file.geometry volume.file.catalog by es first end.blocks
+        device
 
     at-end : Ran-as end.number end.file.entries
     at-end = record {
       geometry = end.file.geometry;
+      shape_is = sym same-geometry;
       contents = held.contents;
       owners = held.owners;
       volume = had.0.volume;
@@ -259,14 +261,15 @@ module _ {D : Type 0} (tells : Bool) (seen : D → Seen) (faults : D → Faults)
 
   -- where the device reports its contents, such a volume was run
   pub was-run : (by : End) → (by ≡ Ran → result ≡ Ok tt) → IsTrue tells
-      → IsRun tells seen faults number volume.file.catalog by entries first end.blocks device
+      → IsRun tells seen faults number volume.file.geometry volume.file.catalog by entries first
+      end.blocks device
   was-run by synced told = ended-run by synced told
 
   -- a volume that was opened, run and closed, by how the job ended
   pub volume-run : (by : End) → (by ≡ Ran → result ≡ Ok tt)
       → HasFaultCause number (faults first) (faults device) by
-      → IsVolumeRun tells seen faults number steps volume.file.catalog by entries first end.blocks
-      device
+      → IsVolumeRun tells seen faults number steps volume.file.geometry volume.file.catalog by
+      entries first end.blocks device
   volume-run by synced cause = record {
     stamped = ended-stamped;
     of_steps = subst (Rattle.vr_worker.specs.Steps.AreOfSteps steps) (sym ended.entries_are)

@@ -1,8 +1,11 @@
--- An event that stops its volume is one in which a write failed: any other enters one entry at
--- most.
-use Rattle.std.proofs.Common.{◌≡◌, ◌<◌, ◌∙◌, ⊎_elim, ℕ, List, [], ◌∷◌, ◌++◌, None, refl, sym, ap}
-use Rattle.std.proofs.Common.{arith, length}
-use Rattle.std.proofs.lemmas.List.{append-nil, append_cancel_left}
+-- An event of a deck that stops its volume is one in which a write failed: any other enters one
+-- entry at most.
+use Rattle.std.proofs.Common.{◌≡◌, ◌<◌, ◌≤◌, ◌==◌, ◌∙◌, ⊎_elim, ℕ, List, [], ◌∷◌, ◌++◌, None, refl}
+use Rattle.std.proofs.Common.{arith, ap, length, subst, sym}
+use Rattle.std.specs.Prelude.{All}
+use Rattle.std.proofs.lemmas.Bool.{true≢false}
+use Rattle.std.proofs.lemmas.List.{append-nil, append_cancel_left, length-append}
+use Rattle.std.proofs.lemmas.List.Elements.{All-head}
 use Rattle.vr_types.specs.Faults.{Faults}
 use Rattle.vr_types.specs.declared.reply.Reply.TheVariants.{Done as DoneReply}
 use Rattle.vr_types.specs.declared.request.Request.{Request}
@@ -15,12 +18,20 @@ use Rattle.vr_event.specs.Acting.{HasStepped, IsActed, IsAnsweredFor}
 use Rattle.vr_event.specs.declared.act.Act.{Act}
 use Rattle.vr_event.specs.declared.act.Act.TheVariants.{Again, Done}
 use Rattle.vr_job.specs.Events.{IsStop}
+use Rattle.vr_job.proofs.DeckEvents.{IsOfDeck}
 
 module _ (old new : FileNow) (made : List Entry) (entries : new.entries ≡ old.entries ++ made)
-    (stop : IsStop made) where
-  -- it enters two
-  two-entered : length made ≡ 2
-  two-entered = ap (λ (them : List Entry). length them) stop.made_are
+    (stop : IsStop made) (decks : All IsOfDeck made) where
+  -- it enters two, since a fault alone is of the utilities
+  two-entered : 2 ≤ length made
+  two-entered = ⊎_elim
+      (λ after. omega (
+        arith,
+        ap (λ (them : List Entry). length them) after.made_are,
+        length-append after.before (after.failing ∷ after.fault ∷ []),
+      ))
+      (λ alone. absurd (true≢false (ap (λ (deck : ℕ). deck == 0) (sym alone.of_utilities)
+      ∙ All-head IsOfDeck alone.fault [] (subst (All IsOfDeck) alone.made_are decks)))) stop
 
   -- so neither none
   not-none : new ≡ old → ⊥

@@ -1,7 +1,7 @@
 -- The events of a run on a volume, one after another: what a crash leaves while each goes on, and once
 -- it is over. The rules are this project's own.
 use Rattle.std.specs.Prelude.{◌≡◌, ◌⊎◌, ◌<◌, ◌≤◌, ◌+◌, ℕ, List, [], ◌∷◌, ◌++◌, None, flat_map}
-use Rattle.std.specs.Prelude.{Contains, length}
+use Rattle.std.specs.Prelude.{All, Contains, length}
 use Rattle.vr_types.specs.Faults.{Faults}
 use Rattle.vr_types.specs.Image.{Image}
 use Rattle.vr_types.specs.Moments.{Guards}
@@ -12,6 +12,8 @@ use Rattle.vr_types.specs.declared.geometry.Geometry.{Geometry}
 use Rattle.vr_types.specs.declared.reply.Refusal.TheVariants.{NoSpace, WriteFault}
 use Rattle.vr_types.specs.declared.reply.Reply.TheVariants.{Refused}
 use Rattle.vr_types.specs.declared.request.Request.{Request}
+use Rattle.vr_types.specs.declared.unit.AreaNo.{AreaNo}
+use Rattle.vr_types.specs.declared.unit.PartNo.{PartNo}
 use Rattle.vr_types.specs.declared.unit.Unit.{Unit as UnitOfRecovery}
 use Rattle.vr_history.specs.Legal.{state_of}
 use Rattle.vr_history.specs.Merged.{request_in}
@@ -20,14 +22,17 @@ use Rattle.vr_history.specs.declared.entry.Entry.{Entry}
 use Rattle.vr_history.specs.declared.entry.What.TheVariants.{Asked, Faulted}
 use Rattle.vr_volume.specs.Crashes.{RecoversTo}
 use Rattle.vr_job.specs.Crash.{AreInCommit, HaveDoneCommit}
+use Rattle.vr_job.specs.Definitions.{AreBegun, IsCatalogStage, IsDefinition}
 use Rattle.vr_job.specs.Faultless.{AreFaultless}
 use Rattle.vr_job.specs.Kept.{KeepsItems}
 use Rattle.vr_job.specs.Lacking.{LacksArea}
 use Rattle.vr_job.specs.Owning.{HasOwners}
 use Rattle.vr_job.specs.ReadFaults.{read_faults}
 
--- An event: the blocks and the history as it began, and the entries that it made.
+-- An event: the deck that asked for it, 0 for the utilities, the blocks and the history as it
+-- began, and the entries that it made.
 pub record Event (B : Type 0) : Type 0 where
+  pub deck : ℕ
   pub blocks : B
   pub entries : List Entry
   pub made : List Entry
@@ -37,12 +42,18 @@ abbrev pub requests_in : List Entry → List Bound
 requests_in entries = flat_map (λ (entry : Entry). request_in 0 entry.line entry.what) entries
 
 -- While an event goes on, an image recovers to what is committed by the history before it, perhaps
--- with the unit whose COMMIT it enters.
+-- with the unit whose COMMIT it enters; of a definition, with the area and the record that it
+-- enters before.
 pub record IsLeftWhile (geometry : Geometry) (number : ℕ) (opening : State)
     (entries made : List Entry) (image : Image) : Type 0 where
+  pub first : List Entry
+  pub rest : List Entry
+  pub made_are : made ≡ first ++ rest
+  pub begun : AreBegun first
   pub counted : List UnitOfRecovery
-  pub commits : AreInCommit counted made
-  pub recovers : RecoversTo geometry number (state_of geometry opening entries) counted image
+  pub commits : AreInCommit counted rest
+  pub recovers : RecoversTo geometry number (state_of geometry opening (entries ++ first)) counted
+      image
 
 -- As long as the volume hasn't stopped, each image that a crash may leave recovers to what is committed
 -- by its history.
@@ -71,16 +82,29 @@ LackAreas geometry state now made = (entry : Entry) → Contains made entry
     → entry.what ≡ Asked request (Refused (NoSpace need free))
     → LacksArea geometry state entry.unit now request need free
 
--- A request is refused since a write failed, and the fault, of its unit and line, stops the volume.
-pub record IsStop (made : List Entry) : Type 0 where
+-- A request is refused since a write failed, and the fault, of its unit and line, stops the volume;
+-- of a definition the request is the COMMIT of its unit.
+pub record IsStopAfter (made : List Entry) : Type 0 where
+  pub before : List Entry
+  pub begun : AreBegun before
   pub request : Request
   pub failing : Entry
   pub fault : Entry
-  pub made_are : made ≡ failing ∷ fault ∷ []
+  pub made_are : made ≡ before ++ failing ∷ fault ∷ []
   pub failing_is : failing.what ≡ Asked request (Refused WriteFault)
   pub fault_is : fault.what ≡ Faulted Write
   pub unit_is : fault.unit ≡ failing.unit
   pub line_is : fault.line ≡ failing.line
+
+-- A fault of a write met the utilities while they entered nothing, and stops the volume.
+pub record IsStopAlone (made : List Entry) : Type 0 where
+  pub fault : Entry
+  pub made_are : made ≡ fault ∷ []
+  pub fault_is : fault.what ≡ Faulted Write
+  pub of_utilities : fault.unit.deck ≡ 0
+
+abbrev pub IsStop : List Entry → Type 0
+IsStop made = IsStopAfter made ⊎ IsStopAlone made
 
 -- The volume stopped in an event of its history, and what a crash may leave of it is left while that
 -- event goes on: an image recovers to what is committed by the history before it, perhaps with the unit
@@ -95,23 +119,43 @@ pub record HasStopped (geometry : Geometry) (number : ℕ) (opening : State) (en
   pub left : (image : Image) → Left now image
       → IsLeftWhile geometry number opening before made image
 
--- a fault that stops the volume comes right after a request that is refused for it
+-- a fault that stops the volume comes right after a request that is refused for it, or alone, of
+-- the utilities
 abbrev pub FaultsFollow : List Entry → Type 0
 FaultsFollow made = IsStop made ⊎ AreFaultless made
 
--- An event, with the blocks and the history as it left them: it answered one request at most; it
--- touched no block, or each image at each moment of it is as above; and it leaves the volume at
--- rest, with the items of the state wherever no live unit changed them, and each part as the owner
--- of the areas that the history gives it. A fault is entered after a request alone that was
--- answered 905. Where a COMMIT was answered 0, its unit is in every image that a crash may leave
--- from then on. A request is answered 904 only where a read failed in its event, and 905, so that
--- the volume stops, only where a write or a sync failed in it; and 28 only where its part lacks
--- room. No failure is hidden: an event in which the volume didn't stop is one in which no write or
--- sync failed, and where besides no request was answered 904 no read did.
+-- What the utilities enter in an event: a definition, or one in which a write failed, or stages of
+-- the catalog, or nothing.
+abbrev pub DefinesAtMost : List Entry → Type 0
+DefinesAtMost made = ((part : PartNo) × (area : AreaNo) × (bytes : List ℕ)
+    × IsDefinition part area bytes made)
+    ⊎ (IsStop made ⊎ All IsCatalogStage made)
+
+-- It answered one request at most, beside those with which a definition begins.
+pub record AnswersOnce (made : List Entry) : Type 0 where
+  pub first : List Entry
+  pub rest : List Entry
+  pub made_are : made ≡ first ++ rest
+  pub begun : AreBegun first
+  pub once : length (requests_in rest) ≤ 1
+
+-- An event, with the blocks and the history as it left them: all that it entered is of the deck
+-- that asked for it, and the utilities do nothing but define; it answered one request at most, or
+-- defined a cluster; it touched no block, or each image at each moment of it is as above; and it
+-- leaves the volume at rest, with the items of the state wherever no live unit changed them, and
+-- each part as the owner of the areas that the history gives it. A fault is entered after a request
+-- alone that was answered 905. Where a COMMIT was answered 0, its unit is in every image that a
+-- crash may leave from then on. A request is answered 904 only where a read failed in its event,
+-- and 905, so that the volume stops, only where a write or a sync failed in it; and 28 only where
+-- its part lacks room. No failure is hidden: an event in which the volume didn't stop is one in
+-- which no write or sync failed, and where besides no request was answered 904 no read did, unless
+-- the utilities asked and entered nothing: the line of their command has the fault.
 pub record IsEvent {B : Type 0} (seen : B → Seen) (counts : B → Faults) (geometry : Geometry)
     (number : ℕ) (opening : State) (event : Event B) (now : B) (entries : List Entry) : Type 0 where
   pub entries_are : entries ≡ event.entries ++ event.made
-  pub once : length (requests_in event.made) ≤ 1
+  pub own : All (λ (entry : Entry). entry.unit.deck ≡ event.deck) event.made
+  pub utilities : event.deck ≡ 0 → DefinesAtMost event.made
+  pub once : AnswersOnce event.made
   pub during : (now ≡ event.blocks) ⊎ Guards (seen event.blocks) (seen now)
       (IsLeftWhile geometry number opening event.entries event.made)
   pub after : LeavesAtRest seen geometry number opening now entries
@@ -124,7 +168,8 @@ pub record IsEvent {B : Type 0} (seen : B → Seen) (counts : B → Faults) (geo
   pub failed_write : IsStop event.made → (counts event.blocks).writes < (counts now).writes
   pub unfailed : AreFaultless event.made → (counts now).writes ≡ (counts event.blocks).writes
   pub unread : AreFaultless event.made → read_faults event.made ≡ 0
-      → (counts now).reads ≡ (counts event.blocks).reads
+      → ((counts now).reads ≡ (counts event.blocks).reads)
+      ⊎ ((event.deck ≡ 0) × (event.made ≡ []))
   pub lacks : LackAreas geometry (state_of geometry opening event.entries) (seen event.blocks)
       event.made
 

@@ -1,4 +1,6 @@
+pub mod Catalogs
 pub mod Crash
+pub mod Definitions
 pub mod Events
 pub mod Kept
 pub mod Lacking
@@ -9,6 +11,7 @@ pub mod ReadFaults
 pub mod Reported
 pub mod Going
 pub mod Serving
+pub mod Answering
 pub mod Opened
 pub mod OpenEnds
 pub mod Formats

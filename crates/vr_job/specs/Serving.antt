@@ -4,7 +4,7 @@ use Rattle.std.specs.Prelude.{◌≡◌, ℕ, Bool, true, false, IsTrue, is_some
 use Rattle.vr_types.specs.Faults.{Faults}
 use Rattle.vr_types.specs.Seen.{Seen}
 use Rattle.vr_types.specs.declared.unit.Unit.{Unit as UnitOfRecovery}
-use Rattle.vr_ams_list.specs.Shown.{Shown}
+use Rattle.vr_trace.specs.Shown.{Shown}
 use Rattle.vr_record_file.specs.Now.{FileNow, is_undoing, number_of}
 use Rattle.vr_event.specs.Volume.{Holds, IsWhole, VolumeNow}
 use Rattle.vr_event.specs.declared.act.Act.{Act}

@@ -1,24 +1,25 @@
 -- The volumes of a shelf as they are opened, run and closed, one after another. The rules are this
 -- project's own.
 use Rattle.std.specs.Prelude.{◌≡◌, ◌+◌, ℕ, Bool, List, [], ◌∷◌, ◌++◌, Option, Some, None, Ok, Err}
-use Rattle.std.specs.Prelude.{Result, IsErr, IsErrOf, OnOk, length, map, slice_get, true, false}
+use Rattle.std.specs.Prelude.{Result, IsErr, IsErrOf, length, map, slice_get, true, false}
 use Rattle.vr_types.specs.Faults.{Faults}
 use Rattle.vr_types.specs.Seen.{Seen}
 use Rattle.vr_types.specs.declared.fault.Failed.{Failed}
+use Rattle.vr_types.specs.declared.geometry.Geometry.{Geometry}
 use Rattle.vr_catalog.specs.declared.entry.CatEntry.{CatEntry}
 use Rattle.vr_history.specs.declared.entry.Entry.{Entry}
 use Rattle.vr_event.specs.Volume.{VolumeNow}
-use Rattle.vr_job_text.specs.Job.{deck_steps}
 use Rattle.vr_job_text.specs.declared.job.JobStep.{JobStep}
-use Rattle.vr_worker.specs.Reports.{AreReported, utility_count}
-use Rattle.vr_worker.specs.Steps.{AreGapless, AreSinceSteps, ComeInSteps, HasAsked}
+use Rattle.vr_worker.specs.Reports.{HaveRunSteps}
+use Rattle.vr_worker.specs.Steps.{AreGapless, AreSinceSteps, ComeInSteps}
 use Rattle.vr_trace.specs.declared.ending.EndLine.{EndLine}
 use Rattle.vr_trace.specs.declared.report.StepReport.{StepReport}
 use Rattle.vr_job_ends.specs.declared.job_end.End.{End}
 use Rattle.vr_job_ends.specs.declared.job_end.End.TheVariants.{Line, Ran, Unsynced}
 use Rattle.vr_worker.specs.Decks.{HasUsedUp}
-use Rattle.vr_worker.specs.declared.no.RunNo.{RunNo}
-use Rattle.vr_worker.specs.declared.no.RunNo.TheVariants as nos
+use Rattle.vr_trace.specs.declared.no.RunNo.{RunNo}
+use Rattle.vr_trace.specs.declared.no.RunNo.TheVariants as nos
+use Rattle.vr_job.specs.Answering.{IsAnswered}
 use Rattle.vr_job.specs.Going.{Follows}
 use Rattle.vr_job.specs.Serving.{shown_of}
 use Rattle.vr_job.specs.ShelfRun.{run_line}
@@ -90,6 +91,9 @@ pub record AreOpening {D : Type 0} (tells : Bool) (seen : D → Seen) (faults : 
 abbrev pub entries_on : {D : Type 0} → VolumeNow D → List Entry
 entries_on volume = volume.file.entries
 
+abbrev pub shape_of : {D : Type 0} → VolumeNow D → Geometry
+shape_of volume = volume.file.geometry
+
 abbrev pub catalog_of : {D : Type 0} → VolumeNow D → List CatEntry
 catalog_of volume = volume.file.catalog
 
@@ -98,12 +102,11 @@ pub record HaveRun {D : Type 0} (tells : Bool) (seen : D → Seen) (faults : D �
     (steps : List JobStep) (result : Result (Unit {0}) RunNo) (reports : List StepReport)
     (old new : List (VolumeNow D)) : Type 0
   where
-    pub since : AreSinceSteps entries_on (Follows tells seen faults) (deck_steps steps) old new
-    pub asked : HasAsked (map catalog_of old) (deck_steps steps) result (map entries_on new)
-    pub in_steps : ComeInSteps (deck_steps steps) (map entries_on new)
-    pub gapless : AreGapless (deck_steps steps) (map entries_on new)
-    pub reported : AreReported shown_of entries_on (Follows tells seen faults) old new steps reports
-    pub all_reported : OnOk result (length reports ≡ utility_count steps)
+    pub since : AreSinceSteps entries_on (Follows tells seen faults) steps old new
+    pub in_steps : ComeInSteps steps (map entries_on new)
+    pub gapless : AreGapless steps (map entries_on new)
+    pub done : HaveRunSteps shown_of shape_of (IsAnswered tells seen faults) entries_on
+        (Follows tells seen faults) steps result reports old new
     pub stamps : IsErrOf result nos.Stamps → HasUsedUp entries_on new
 
 -- So they were where all are open; else they are as they were.

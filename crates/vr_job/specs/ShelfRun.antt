@@ -4,11 +4,10 @@ use Rattle.std.specs.Prelude.{◌≡◌, ◌<◌, ◌+◌, ℕ, Bool, List, [], 
 use Rattle.std.specs.Prelude.{IsOk, IsTrue, OnOk, Some, length, map, slice_get}
 use Rattle.vr_types.specs.Faults.{Faults}
 use Rattle.vr_types.specs.Seen.{Seen}
+use Rattle.vr_types.specs.declared.geometry.Geometry.{Geometry}
 use Rattle.vr_catalog.specs.declared.entry.CatEntry.{CatEntry}
 use Rattle.vr_history.specs.declared.entry.Entry.{Entry}
-use Rattle.vr_job_text.specs.Job.{deck_steps}
 use Rattle.vr_job_text.specs.declared.job.JobStep.{JobStep}
-use Rattle.vr_job_text.specs.declared.text.Step.{Step}
 use Rattle.vr_trace.specs.declared.report.StepReport.{StepReport}
 use Rattle.vr_worker.specs.Decks.{IsUsedUp}
 use Rattle.vr_worker.specs.Steps.{AreGapless, ComeInSteps, HasAsked}
@@ -16,11 +15,11 @@ use Rattle.vr_job_ends.specs.declared.job_end.End.{End}
 use Rattle.vr_job_ends.specs.declared.job_end.End.TheVariants.{Line, Ran, Unsynced}
 use Rattle.vr_trace.specs.declared.ending.EndLine.{EndLine}
 use Rattle.vr_trace.specs.declared.ending.EndLine.TheVariants.{NoMemory, StampsUsedUp}
-use Rattle.vr_worker.specs.declared.no.RunNo.{RunNo}
-use Rattle.vr_worker.specs.declared.no.RunNo.TheVariants as nos
+use Rattle.vr_trace.specs.declared.no.RunNo.{RunNo}
+use Rattle.vr_trace.specs.declared.no.RunNo.TheVariants as nos
 use Rattle.vr_job.specs.OpenEnds.{IsOpenLine}
 use Rattle.vr_worker.specs.Reports.{utility_count}
-use Rattle.vr_job.specs.Reported.{AreReportedFrom}
+use Rattle.vr_job.specs.Reported.{AreBound, AreReportedFrom}
 use Rattle.vr_job.specs.VolumeRun.{IsRun, IsUnopened, IsVolumeRun}
 
 -- how a job ends whose requests weren't all answered
@@ -32,9 +31,11 @@ abbrev pub run_end : Result (Unit {0}) RunNo → End
 run_end (Ok value) = Ran
 run_end (Err fault) = Line (run_line fault)
 
--- A volume of a run: its catalog, its history, and its device before, as the requests left it
--- before it was closed (of a volume that was not opened, as it came back), and as it came back.
+-- A volume of a run: its shape, its catalog as it was opened, its history, and its device before,
+-- as the requests left it before it was closed (of a volume that was not opened, as it came back),
+-- and as it came back.
 pub record VolumeOf (D : Type 0) : Type 0 where
+  pub geometry : Geometry
   pub catalog : List CatEntry
   pub entries : List Entry
   pub device : D
@@ -42,12 +43,13 @@ pub record VolumeOf (D : Type 0) : Type 0 where
   pub left : D
 
 -- Each volume was run, the first of them having this number.
-abbrev pub AreVolumeRuns : {D : Type 0} → Bool → (D → Seen) → (D → Faults) → List Step → End → ℕ
+abbrev pub AreVolumeRuns : {D : Type 0} → Bool → (D → Seen) → (D → Faults) → List JobStep → End
+    → ℕ
     → List (VolumeOf D) → Type 0
 AreVolumeRuns tells seen faults steps end number [] = Unit {0}
 AreVolumeRuns tells seen faults steps end number (volume ∷ volumes) =
-    IsVolumeRun tells seen faults number steps volume.catalog end volume.entries volume.device
-    volume.ended volume.left
+    IsVolumeRun tells seen faults number steps volume.geometry volume.catalog end volume.entries
+    volume.device volume.ended volume.left
     × AreVolumeRuns tells seen faults steps end (number + 1) volumes
 
 -- Each volume, the first of them having this number, was opened, run and closed.
@@ -55,8 +57,8 @@ abbrev pub WereRun : {D : Type 0} → Bool → (D → Seen) → (D → Faults) �
     → Type 0
 WereRun tells seen faults end number [] = Unit {0}
 WereRun tells seen faults end number (volume ∷ volumes) =
-    IsRun tells seen faults number volume.catalog end volume.entries volume.device volume.ended
-    volume.left
+    IsRun tells seen faults number volume.geometry volume.catalog end volume.entries volume.device
+    volume.ended volume.left
     × WereRun tells seen faults end (number + 1) volumes
 
 -- the volume of this number
@@ -86,11 +88,12 @@ pub data IsShelfEnd {D : Type 0} (tells : Bool) (seen : D → Seen) (faults : D 
       (seen volume.left))
       → AreEmpty volumes → IsShelfEnd tells seen faults volumes by end
 
--- The decks of the job asked what they request by the catalogs of the volumes; over all volumes the
--- entries of one step come before those of the next, and no stamp is left out; the steps of IDCAMS that
--- ran have these reports, all of them where the job came through; each volume was run; as many devices
--- come back, each at its place, and so does the history of each volume; stamps were used up only where
--- a history shows it; and so the job ended.
+-- The decks of the job asked what they request, those of each step by the catalogs of the volumes
+-- as the steps before it left them; over all volumes the entries of one step come before those of
+-- the next, and no stamp is left out; the steps of IDCAMS that ran have these reports, all of them
+-- where the job came through; each volume was run; as many devices come back, each at its place,
+-- and so does the history of each volume; stamps were used up only where a history shows it; and
+-- so the job ended.
 pub record IsShelfRun {D : Type 0} (tells : Bool) (seen : D → Seen) (faults : D → Faults)
     (steps : List JobStep) (end : End) (reports : List StepReport) (histories : List (List Entry))
     (old new : List D) : Type 0
@@ -99,14 +102,16 @@ pub record IsShelfRun {D : Type 0} (tells : Bool) (seen : D → Seen) (faults : 
     pub old_are : old ≡ map (λ (volume : VolumeOf D). volume.device) volumes
     pub new_are : new ≡ map (λ (volume : VolumeOf D). volume.left) volumes
     pub histories_are : histories ≡ map (λ (volume : VolumeOf D). volume.entries) volumes
-    pub runs : AreVolumeRuns tells seen faults (deck_steps steps) end 0 volumes
+    pub runs : AreVolumeRuns tells seen faults steps end 0 volumes
     pub by : Result (Unit {0}) RunNo
-    pub asked : HasAsked (map (λ (volume : VolumeOf D). volume.catalog) volumes)
-        (deck_steps steps) by histories
-    pub in_steps : ComeInSteps (deck_steps steps) histories
-    pub gapless : AreGapless (deck_steps steps) histories
-    pub reported : AreReportedFrom [] (map (λ (volume : VolumeOf D). volume.catalog) volumes)
-        histories steps reports
+    pub catalogs : ℕ → List (List CatEntry)
+    pub bound : AreBound steps (map (λ (volume : VolumeOf D). volume.catalog) volumes) histories
+        catalogs
+    pub asked : HasAsked catalogs steps by histories
+    pub in_steps : ComeInSteps steps histories
+    pub gapless : AreGapless steps histories
+    pub reported : AreReportedFrom [] (map (λ (volume : VolumeOf D). volume.geometry) volumes)
+        (map (λ (volume : VolumeOf D). volume.catalog) volumes) histories steps reports
     pub all_reported : OnOk by (length reports ≡ utility_count steps)
     pub stamps : end ≡ Line StampsUsedUp
         → (number : ℕ) × (volume : VolumeOf D) × IsAt number volume volumes

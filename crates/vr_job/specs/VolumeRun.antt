@@ -17,7 +17,7 @@ use Rattle.vr_history.specs.Legal.{IsLegal, state_of}
 use Rattle.vr_history.specs.Merged.{IsStamped}
 use Rattle.vr_history.specs.State.{State, opening_state}
 use Rattle.vr_history.specs.declared.entry.Entry.{Entry}
-use Rattle.vr_job_text.specs.declared.text.Step.{Step}
+use Rattle.vr_job_text.specs.declared.job.JobStep.{JobStep}
 use Rattle.vr_event.specs.Opening.{owned_in}
 use Rattle.vr_event.specs.Volume.{IsWhole, VolumeNow}
 use Rattle.vr_mount.specs.Areas.{AreOwners}
@@ -47,27 +47,30 @@ use Rattle.vr_job.specs.Opened.{IsOpenHeld}
 abbrev pub opening_of : (ℕ → Content) → List (Option PartNo) → State
 opening_of contents owners = opening_state contents (owned_in owners)
 
--- The volume was opened: the blocks were one's of this number, which recovered to the records of
--- contents with this catalog. Each place of these contents has what the blocks had; or, where a unit
--- without an end had changed it, what putting its before-image back leaves. So what was withdrawn is
--- where the blocks had it, and where an added record of an entry-sequenced part was put back, and
--- nowhere else; and a part that isn't laid has nothing. An area is owned by the part of the catalog
--- that reaches it once it is opened, and by no other, and else it is free; the history is legal from
--- its opening, and no entry of it changes the catalog; and each image of each moment is one that a
--- crash left before, or recovers to the records of the contents and keeps what is withdrawn in them
--- where the log had nothing to put back, or is left by the history. No fault came as it was opened.
--- From the end of its opening on the run is events, in each of which an image recovers to what is
--- committed by the history before it, perhaps with the unit whose COMMIT it enters; so it came to
--- what the requests left, and then nothing more is put. As long as the device counted no write that
--- failed, the volume wasn't stopped; and where it wasn't, the device counted none up to what the
--- requests left, so that no write or sync that failed is hidden. Then each image that a crash may
--- leave at the end recovers to what is committed by all of the history; on a volume that stopped, to
--- what is committed by the history before the fault, with the unit in doubt only where its COMMIT
--- was answered 905. Where the job came through, a crash leaves what is read, unless the volume had
--- stopped: whatever the device has counted.
+-- The volume was opened: the blocks were one's of this number and shape, which recovered to the
+-- records of contents with this catalog. Each place of these contents has what the blocks had; or,
+-- where a unit without an end had changed it, what putting its before-image back leaves. So what
+-- was withdrawn is where the blocks had it, and where an added record of an entry-sequenced part
+-- was put back, and nowhere else; and a part that isn't laid has nothing. An area is owned by the
+-- part of the catalog that reaches it once it is opened, and by no other, and else it is free; the
+-- history is legal from its opening, and its entries add to the catalog at most; and each image of
+-- each moment is one that a crash left before, or recovers to the records of the contents and
+-- keeps what is withdrawn in them where the log had nothing to put back, or is left by the
+-- history. No fault came as it was opened. From the end of its opening on the run is events, in
+-- each of which an image recovers to what is committed by the history before it, perhaps with the
+-- unit whose COMMIT it enters; so it came to what the requests left, and then nothing more is put.
+-- As long as the device counted no write that failed, the volume wasn't stopped; and where it
+-- wasn't, the device counted none up to what the requests left, so that no write or sync that
+-- failed is hidden. Then each image that a crash may leave at the end recovers to what is
+-- committed by all of the history; on a volume that stopped, to what is committed by the history
+-- before the fault, with the unit in doubt only where its COMMIT was answered 905. Where the job
+-- came through, a crash leaves what is read, unless the volume had stopped: whatever the device
+-- has counted.
 pub record IsRun {D : Type 0} (tells : Bool) (seen : D → Seen) (faults : D → Faults) (number : ℕ)
-    (catalog : List CatEntry) (end : End) (entries : List Entry) (old ended new : D) : Type 0 where
+    (shape : Geometry) (catalog : List CatEntry) (end : End) (entries : List Entry)
+    (old ended new : D) : Type 0 where
   pub geometry : Geometry
+  pub shape_is : shape ≡ geometry
   pub contents : ℕ → Content
   pub owners : List (Option PartNo)
   pub volume : IsVolume number geometry (standing_all contents) (seen old)
@@ -147,7 +150,7 @@ pub record IsUntouched {D : Type 0} (number : ℕ) (end : End) (entries : List E
 -- and a job comes through only where none rose then, so that no sync that failed is hidden. Each reply
 -- 904 is one for which the count of failed reads rose: the history has at most as many as it rose by.
 pub record IsVolumeRun {D : Type 0} (tells : Bool) (seen : D → Seen) (faults : D → Faults)
-    (number : ℕ) (steps : List Step) (catalog : List CatEntry) (end : End)
+    (number : ℕ) (steps : List JobStep) (shape : Geometry) (catalog : List CatEntry) (end : End)
     (entries : List Entry) (old ended new : D) : Type 0 where
   pub stamped : IsStamped 0 entries
   pub of_steps : AreOfSteps steps entries
@@ -157,7 +160,7 @@ pub record IsVolumeRun {D : Type 0} (tells : Bool) (seen : D → Seen) (faults :
   pub cause : HasFaultCause number (faults old) (faults new) end
   pub faulted : (faults new).writes ≡ (faults old).writes → AreFaultless entries
   pub refused_reads : (faults old).reads + read_faults entries ≤ (faults new).reads
-  pub run : IsTrue tells → IsRun tells seen faults number catalog end entries old ended new
+  pub run : IsTrue tells → IsRun tells seen faults number shape catalog end entries old ended new
       ⊎ IsUnopened tells number end entries (seen old) (seen new)
       ⊎ IsUntouched number end entries old new
 
@@ -213,7 +216,7 @@ pub record IsClosed {D : Type 0} (tells : Bool) (seen : D → Seen) (faults : D 
 
 -- What a run on a volume that was opened leaves, with what is seen of the volume before it was closed.
 pub record HasEnded {D : Type 0} (tells : Bool) (seen : D → Seen) (faults : D → Faults)
-    (steps : List Step) (volume : VolumeNow D) (result : Result (Unit {0}) Failed) (device : D)
+    (steps : List JobStep) (volume : VolumeNow D) (result : Result (Unit {0}) Failed) (device : D)
     (entries : List Entry) : Type 0 where
   pub end : VolumeNow D
   pub later : Follows tells seen faults volume end

@@ -15,11 +15,11 @@ ghost use Rattle.vr_history.specs.State.{BeforeImage, State};
 ghost use Rattle.vr_history.specs.Step.{state_after};
 ghost use Rattle.vr_history.specs.declared.entry.Entry.{Entry};
 ghost use Rattle.vr_job_ends.specs.declared.job_end.End.{End};
-ghost use Rattle.vr_job_text.specs.declared.text.Step.{Step};
+ghost use Rattle.vr_job_text.specs.declared.job.JobStep.{JobStep};
 ghost use Rattle.vr_recover.specs.Addresses.{HasItem, IsSettledAt, IsSettledIn};
 ghost use Rattle.vr_recover.specs.Recovered.{KeepsAll};
 ghost use Rattle.vr_volume.specs.Crashes.{IsUnlogged, RecoversTo};
-ghost use Rattle.vr_worker.specs.Decks.{IsEntered};
+ghost use Rattle.vr_trace.specs.Growing.{IsEntered};
 ghost use Rattle.vr_worker.specs.Steps.{AreGapless};
 ghost use Rattle.vr_job.specs.Committed.{HasCommitted, IsCommittedBy, IsCommittedWhile};
 ghost use Rattle.vr_job.specs.Moved.{AreElsewhere, Ends, IsOn};
@@ -30,26 +30,27 @@ use vr_device::BlockDevice;
 /// What a run leaves of a volume is what its history committed, record by record, without what was
 /// withdrawn: each image at each moment is one that a crash left before, or recovers to what some
 /// first entries of the history committed, perhaps with the unit that is in its commit (`moments`).
-/// At the end it recovers to what all of it committed (`end`); on a volume that stopped, to what was
-/// committed before the event in which it did, with the unit in doubt only where its COMMIT was
-/// answered 905 (`stopped`). It is so in each part that the catalog has.
+/// At the end it recovers to what all of it committed (`end`); on a volume that stopped, to what
+/// was committed before the event in which it did, or of a definition after what that enters before
+/// its COMMIT, with the unit in doubt only where its COMMIT was answered 905 (`stopped`). It is so
+/// in each part that the catalog had as the volume was opened, whatever is added to it.
 pub fn leaves_what_is_committed<D: BlockDevice>()
-    ensures moments { (number : ℕ) (catalog : List CatEntry) (end : End) (entries : List Entry)
-        (old ended new : D)
-        → (run : IsRun D.tells D.seen D.faults number catalog end entries old ended new)
+    ensures moments { (number : ℕ) (shape : Geometry) (catalog : List CatEntry) (end : End)
+        (entries : List Entry) (old ended new : D)
+        → (run : IsRun D.tells D.seen D.faults number shape catalog end entries old ended new)
         → Guards (D.seen old) (D.seen new) (λ image. Left (D.seen old) image
         ⊎ IsCommittedBy run.geometry number catalog (opening_of run.contents run.owners) entries
         image) }
-    ensures end { (number : ℕ) (catalog : List CatEntry) (end : End) (entries : List Entry)
-        (old ended new : D)
-        → (run : IsRun D.tells D.seen D.faults number catalog end entries old ended new)
+    ensures end { (number : ℕ) (shape : Geometry) (catalog : List CatEntry) (end : End)
+        (entries : List Entry) (old ended new : D)
+        → (run : IsRun D.tells D.seen D.faults number shape catalog end entries old ended new)
         → (state_of run.geometry (opening_of run.contents run.owners) entries).stopped ≡ None
         → (image : Image) → Left (D.seen new) image
         → HasCommitted run.geometry number catalog (opening_of run.contents run.owners) entries []
         image }
-    ensures stopped { (number : ℕ) (catalog : List CatEntry) (end : End) (entries : List Entry)
-        (old ended new : D)
-        → (run : IsRun D.tells D.seen D.faults number catalog end entries old ended new)
+    ensures stopped { (number : ℕ) (shape : Geometry) (catalog : List CatEntry) (end : End)
+        (entries : List Entry) (old ended new : D)
+        → (run : IsRun D.tells D.seen D.faults number shape catalog end entries old ended new)
         → (stops : (state_of run.geometry (opening_of run.contents run.owners) entries).stopped
         ≢ None) → (image : Image) → Left (D.seen new) image
         → IsCommittedWhile run.geometry number catalog (opening_of run.contents run.owners)
@@ -65,11 +66,12 @@ pub fn leaves_what_is_committed<D: BlockDevice>()
 /// comes while a volume is opened, each record of the contents that it is opened with, and what was
 /// withdrawn in them, but where its log had a before-image (`opening`). And no history gives an
 /// address at which its opening has an item, standing or withdrawn (`given`). `crash` and `opening`
-/// hold of each part, `settles` and `given` of one that the catalog has as entry-sequenced.
+/// hold of each part, `settles` and `given` of one that the catalog of the opening has as
+/// entry-sequenced.
 pub fn no_address_is_given_again<D: BlockDevice>()
-    ensures settles { (number : ℕ) (catalog : List CatEntry) (end : End) (entries : List Entry)
-        (old ended new : D)
-        → (run : IsRun D.tells D.seen D.faults number catalog end entries old ended new)
+    ensures settles { (number : ℕ) (shape : Geometry) (catalog : List CatEntry) (end : End)
+        (entries : List Entry) (old ended new : D)
+        → (run : IsRun D.tells D.seen D.faults number shape catalog end entries old ended new)
         → (before after : List Entry) → entries ≡ before ++ after → (part : ℕ)
         → IsEntrySequenced part (opening_of run.contents run.owners) → (place : List ℕ)
         → HasItem (run.contents part) place ⊎ Contains (addresses_given part before) place
@@ -77,22 +79,22 @@ pub fn no_address_is_given_again<D: BlockDevice>()
         → (counted : List UnitOfRecovery)
         → IsSettledAt counted (state_of run.geometry (opening_of run.contents run.owners) before)
         part place }
-    ensures crash { (number : ℕ) (catalog : List CatEntry) (end : End) (entries : List Entry)
-        (old ended new : D)
-        → (run : IsRun D.tells D.seen D.faults number catalog end entries old ended new)
+    ensures crash { (number : ℕ) (shape : Geometry) (catalog : List CatEntry) (end : End)
+        (entries : List Entry) (old ended new : D)
+        → (run : IsRun D.tells D.seen D.faults number shape catalog end entries old ended new)
         → (state : State) (counted : List UnitOfRecovery)
         → RecoversTo run.geometry number state counted (D.seen old).cur → (part : ℕ)
         (place : List ℕ) → IsSettledAt counted state part place → HasItem (run.contents part) place }
-    ensures opening { (number : ℕ) (catalog : List CatEntry) (end : End) (entries : List Entry)
-        (old ended new : D)
-        → (run : IsRun D.tells D.seen D.faults number catalog end entries old ended new)
+    ensures opening { (number : ℕ) (shape : Geometry) (catalog : List CatEntry) (end : End)
+        (entries : List Entry) (old ended new : D)
+        → (run : IsRun D.tells D.seen D.faults number shape catalog end entries old ended new)
         → (images : List BeforeImage) (contents : ℕ → Content)
         → KeepsAll run.geometry number images contents (D.seen old).cur → (part : ℕ)
         (place : List ℕ) → IsSettledIn images contents part place
         → HasItem (run.contents part) place }
-    ensures given { (number : ℕ) (catalog : List CatEntry) (end : End) (entries : List Entry)
-        (old ended new : D)
-        → (run : IsRun D.tells D.seen D.faults number catalog end entries old ended new)
+    ensures given { (number : ℕ) (shape : Geometry) (catalog : List CatEntry) (end : End)
+        (entries : List Entry) (old ended new : D)
+        → (run : IsRun D.tells D.seen D.faults number shape catalog end entries old ended new)
         → (part : ℕ) → IsEntrySequenced part (opening_of run.contents run.owners)
         → (place : List ℕ) → HasItem (run.contents part) place
         → Contains (addresses_given part entries) place → ⊥ }
@@ -101,7 +103,7 @@ pub fn no_address_is_given_again<D: BlockDevice>()
 /// Where no stamp is left out, each one from 1 up to that of an entry is that of an entry, on one
 /// volume or another: so stamps are used up by entries alone.
 pub fn each_stamp_is_taken()
-    ensures { (steps : List Step) (histories : List (List Entry)) → AreGapless steps histories
+    ensures { (steps : List JobStep) (histories : List (List Entry)) → AreGapless steps histories
         → (this : Numbered) → IsEntered histories this → (stamp : ℕ) → 1 ≤ stamp
         → stamp ≤ this.entry.stamp
         → (other : Numbered) × IsEntered histories other × (other.entry.stamp ≡ stamp) }

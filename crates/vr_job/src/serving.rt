@@ -1,27 +1,37 @@
-//! A volume that the threads of decks share: one event of a request, under the volume's latch.
+//! A volume that the threads of decks share, and the utilities between them: one event of a
+//! request, under the volume's latch, or of a definition.
 ghost use Rattle.std.specs.Prelude.{◌≡◌, ◌<◌, ◌≤◌, ◌==◌, ◌+◌, ◌-◌, ◌^◌, [], IsTrue, OnErr, OnOk};
-ghost use Rattle.std.specs.Prelude.{false, true};
+ghost use Rattle.std.specs.Prelude.{false, true, IfOk, IsErr, None, is_some};
+ghost use Rattle.vr_ams_define.specs.Answers.{IsShownAfter};
+ghost use Rattle.vr_ams_define.specs.Grown.{HasEntered as HasDefinedOn};
+ghost use Rattle.vr_ams_define.specs.NewCluster.{IsNewCluster};
+ghost use Rattle.vr_event.specs.DefineSteps.{HasCome, LacksRoomWhere, MayDefineNow};
+ghost use Rattle.vr_event.specs.Defining.{HasDefineFaults, utility_unit};
 ghost use Rattle.vr_event.specs.Volume.{Holds, IsWhole};
 ghost use Rattle.vr_history.specs.Merged.{last_stamp};
 ghost use Rattle.vr_record_file.specs.Now.{has_deck, number_of};
 ghost use Rattle.vr_trace.specs.Laws.{deck_entries};
 ghost use Rattle.vr_worker.specs.Asked as asked;
 ghost use Rattle.vr_worker.specs.Asked.{HasEntered, MayAsk};
+ghost use Rattle.vr_job.specs.Answering as answering;
+ghost use Rattle.vr_job.specs.Answering.{IsAnswered};
 ghost use Rattle.vr_job.specs.Going.{Follows, WentOn};
-ghost use Rattle.vr_job.specs.Serving.{IsServing, StaysServing, is_done, unit_of};
+ghost use Rattle.vr_job.specs.Serving.{IsServing, StaysServing, is_done, shown_of, unit_of};
 
 use std::alloc::Global;
 use std::marker::Model;
-use vr_ams_list::ShownVolume;
-use vr_catalog::Catalog;
+use vr_ams_define::{Defined, OwnedVolume};
+use vr_catalog::{CatEntry, Catalog};
 use vr_device::BlockDevice;
-use vr_event::{Act, Volume};
+use vr_event::{Act, Define, Volume};
 use vr_history::History;
 use vr_part::AnyPart;
 use vr_recent::Recent;
 use vr_space::Part;
-use vr_types::{Blocks, OutOfMemory, SharedRequest, Unit};
-use vr_worker::{Cataloged, RunNo, Served};
+use vr_start::Start;
+use vr_trace::{RunNo, ShownVolume};
+use vr_types::{Blocks, Geometry, OutOfMemory, SharedRequest, Unit};
+use vr_worker::{Cataloged, Served};
 
 /// The least stamp with which no event begins.
 const STAMP_LIMIT: u64 = 1 << 62;
@@ -31,6 +41,7 @@ const STAMP_LIMIT: u64 = 1 << 62;
 fn enter<B: Blocks, P: Part>(volume: &mut Volume<B, P>, deck: u32) -> Result<(), OutOfMemory>
     requires { IsServing B.tells B.seen volume.old }
     ensures deck { OnOk result (has_deck deck volume.new.file.numbers ≡ true) }
+    ensures stopped { volume.new.file.stopped ≡ volume.old.file.stopped }
     ensures stays { StaysServing B.tells B.seen B.faults volume.old volume.new }
 {
     volume.enter_deck(deck)
@@ -43,6 +54,7 @@ fn make_room<B: Blocks, P: Part>(volume: &mut Volume<B, P>, deck: u32) -> Result
     ensures deck { OnOk result (has_deck deck volume.new.file.numbers ≡ true) }
     ensures room { OnOk result (4 ≤ volume.new.file.room) }
     ensures files_room { OnOk result (0 < volume.new.file.files_room) }
+    ensures stopped { volume.new.file.stopped ≡ volume.old.file.stopped }
     ensures stays { StaysServing B.tells B.seen B.faults volume.old volume.new }
 {
     enter(volume, deck)?;
@@ -64,6 +76,7 @@ fn make_ready<B: Blocks, P: Part>(
     ensures after { OnOk result (after < 2 ^ 62) }
     ensures generation { OnOk result (volume.new.store.log.generation + 1 < 2 ^ 64) }
     ensures number { OnOk result (number_of volume.new.file.numbers deck < 2 ^ 32 - 1) }
+    ensures stopped { volume.new.file.stopped ≡ volume.old.file.stopped }
     ensures stays { StaysServing B.tells B.seen B.faults volume.old volume.new }
 {
     make_room(volume, deck)?;
@@ -134,6 +147,72 @@ fn serve<B: Blocks, P: Part>(
     let number = volume.unit_number(deck);
     let done = event(alloc, volume, Unit { deck, number }, line, shared, after);
     Ok(done)
+}
+
+/// What an event of a definition came to, as its command has it.
+fn answer_of(event: Define) -> Defined
+    ensures { result ≡ answering.answer_of event }
+{
+    match event {
+        Define::Done { area } => Defined::Done { area },
+        Define::Again => Defined::Again,
+        Define::NoArea => Defined::NoArea,
+        Define::NoRoom => Defined::NoRoom,
+        Define::Held => Defined::Held,
+        Define::Full => Defined::Full,
+        Define::Fault(fault) => Defined::Fault(fault),
+    }
+}
+
+/// One event of a definition of a cluster by the utilities, which are deck 0, in room that was
+/// made.
+fn define_event<B: Blocks, P: Start + Drop>(
+    alloc: Global,
+    volume: &mut Volume<B, P>,
+    line: u32,
+    entry: &CatEntry,
+    after: u64,
+) -> Result<Define, OutOfMemory>
+    requires serving { IsServing B.tells B.seen volume.old }
+    requires may { MayDefineNow B.seen after volume.old }
+    requires entry { IsNewCluster volume.old.file.geometry volume.old.file.catalog entry.now }
+    ensures serving { IsServing B.tells B.seen volume.new }
+    ensures went { WentOn B.tells B.seen B.faults volume.old volume.new }
+    ensures come { HasCome B.seen after (utility_unit volume.old.file) line entry.now result
+        volume.old volume.new }
+    ensures no_room { IsTrue B.tells → LacksRoomWhere B.seen entry.now result volume.old }
+    ensures cause { HasDefineFaults (B.faults volume.old.blocks) (B.faults volume.new.blocks)
+        result }
+    ensures entered { HasDefinedOn line after volume.old.file.entries volume.new.file.entries }
+{
+    volume.define(alloc, line, entry, after)
+}
+
+/// One event of a definition of a cluster by the utilities.
+fn define<B: Blocks, P: Start + Drop>(
+    alloc: Global,
+    volume: &mut Volume<B, P>,
+    line: u32,
+    entry: &CatEntry,
+    after: u64,
+) -> Result<Defined, RunNo>
+    requires serving { IsServing B.tells B.seen volume.old }
+    requires going { volume.old.file.stopped ≡ None }
+    requires entry { IsNewCluster volume.old.file.geometry volume.old.file.catalog entry.now }
+    ensures serving { IsServing B.tells B.seen volume.new }
+    ensures follows { Follows B.tells B.seen B.faults volume.old volume.new }
+    ensures answered { IfOk result (λ answer. IsAnswered B.tells B.seen B.faults volume.old line
+        entry.now answer volume.new) }
+    ensures shown { IfOk result (λ answer. IsShownAfter answer entry.now (shown_of volume.old)
+        (shown_of volume.new)) }
+    ensures refused { IsErr result → shown_of volume.new ≡ shown_of volume.old }
+    ensures entered { HasDefinedOn line after volume.old.file.entries volume.new.file.entries }
+    ensures number { volume.new.number ≡ volume.old.number }
+    ensures geometry { volume.new.file.geometry ≡ volume.old.file.geometry }
+{
+    make_ready(volume, 0, after)?;
+    let event = define_event(alloc, volume, line, entry, after)?;
+    Ok(answer_of(event))
 }
 
 /// A volume that serves the decks of a job.
@@ -237,8 +316,59 @@ impl<D: BlockDevice> ShownVolume for Serving<D> {
     }
 }
 
-impl<D: BlockDevice> Cataloged for Serving<D> {
-    ghost use Rattle.vr_job.specs.Going.{follows-catalog};
+impl<D: BlockDevice> OwnedVolume for Serving<D> {
+    ghost use Rattle.vr_job.specs.Answering.{IsAnswered};
+    ghost use Rattle.vr_job.specs.Going.{Follows, follows-itself, follows-on};
 
-    ghost stays_same = { λ a b follows. follows-catalog D.tells D.seen D.faults a b follows };
+    ghost geometry = { λ serving. serving.file.geometry };
+
+    ghost history = { λ serving. serving.file.entries };
+
+    ghost goes = { λ old new. Follows D.tells D.seen D.faults old new };
+
+    ghost goes_nowhere = { λ serving. follows-itself D.tells D.seen D.faults serving };
+
+    ghost goes_further = { λ a b c first second.
+        follows-on D.tells D.seen D.faults a b c first second };
+
+    ghost answers = { λ old line entry answer new.
+        IsAnswered D.tells D.seen D.faults old line entry answer new };
+
+    fn geometry(&self) -> Geometry
+        ensures { result ≡ self.now.file.geometry }
+    {
+        self.volume.geometry()
+    }
+
+    fn last(&self) -> u64
+        ensures { result ≡ last_stamp 0 self.now.file.entries }
+    {
+        self.volume.last()
+    }
+
+    fn define(&mut self, line: u32, entry: &CatEntry, after: u64) -> Result<Defined, RunNo>
+        requires going { is_some self.old.file.stopped ≡ false }
+        requires entry { IsNewCluster self.old.file.geometry self.old.file.catalog entry.now }
+        ensures answered { IfOk result (λ answer. IsAnswered D.tells D.seen D.faults self.old line
+            entry.now answer self.new) }
+        ensures shown { IfOk result (λ answer. IsShownAfter answer entry.now (shown_of self.old)
+            (shown_of self.new)) }
+        ensures refused { IsErr result → shown_of self.new ≡ shown_of self.old }
+        ensures entered { HasDefinedOn line after self.old.file.entries self.new.file.entries }
+        ensures goes { Follows D.tells D.seen D.faults self.old self.new }
+        ensures geometry { self.new.file.geometry ≡ self.old.file.geometry }
+    {
+        define(self.alloc, &mut self.volume, line, entry, after)
+    }
+}
+
+impl<D: BlockDevice> Cataloged for Serving<D> {
+    ghost use Rattle.std.proofs.Common.{refl};
+    ghost use Rattle.vr_job.specs.Going.{follows-number};
+
+    ghost same_history = { λ serving. refl };
+
+    ghost goes_follows = { λ a b goes. goes };
+
+    ghost goes_number = { λ a b goes. follows-number D.tells D.seen D.faults a b goes };
 }

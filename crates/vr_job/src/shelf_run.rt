@@ -22,9 +22,9 @@ use vr_history::History;
 use vr_job_ends::End;
 use vr_job_text::JobStep;
 use vr_outside::Gate;
-use vr_trace::{EndLine, Histories, StepReports};
+use vr_trace::{EndLine, Histories, RunNo, StepReports};
 use vr_types::{Failed, OutOfMemory};
-use vr_worker::{RunNo, run_steps};
+use vr_worker::run_steps;
 
 /// What a run leaves: the devices in their order, the reports of the steps of IDCAMS, the histories of
 /// the volumes, and how the job ended.

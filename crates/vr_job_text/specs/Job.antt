@@ -8,6 +8,8 @@ use Rattle.vr_amsparse.specs.declared.command.Command.TheVariants.{Define, Alter
 use Rattle.vr_amsparse.specs.declared.command.Command.TheVariants.{BuildIndex, Print, ListCatalog}
 use Rattle.vr_amsparse.specs.declared.command.Command.TheVariants.{Verify, Examine, If, Set}
 use Rattle.vr_amsparse.specs.declared.command.Node.{Node}
+use Rattle.vr_catalog.specs.declared.order.NewEntry.{NewEntry}
+use Rattle.vr_catalog.specs.declared.order.NewEntry.TheVariants.{Cluster, Alternate, Path}
 use Rattle.vr_job_text.specs.declared.card.Program.{Program}
 use Rattle.vr_job_text.specs.declared.card.Program.TheVariants as programs
 use Rattle.vr_job_text.specs.declared.fault.JobFault.{JobFault}
@@ -101,9 +103,16 @@ deck_steps [] = []
 deck_steps (Decks step ∷ steps) = step ∷ deck_steps steps
 deck_steps (Utilities step ∷ steps) = deck_steps steps
 
--- the commands that are run: LISTCAT of names alone, and the modal commands IF and SET
+-- a cluster that isn't spanned
+abbrev pub is_plain_cluster : NewEntry → Bool
+is_plain_cluster (Cluster kind spanned options) = not spanned
+is_plain_cluster (Alternate related unique options) = false
+is_plain_cluster (Path related) = false
+
+-- the commands that are run: DEFINE of a cluster that isn't spanned, LISTCAT of names alone, and the
+-- modal commands IF and SET
 abbrev pub is_run : Command → Bool
-is_run (Define define) = false
+is_run (Define define) = is_plain_cluster define.order.what
 is_run (Alter alter) = false
 is_run (Delete delete) = false
 is_run (Repro repro) = false

@@ -1,12 +1,13 @@
 //! What a job is: its steps, of decks and of IDCAMS.
 ghost use Rattle.std.specs.Prelude.{◌≡◌, List, [], ◌∷◌, ◌++◌, OnOk, OnErr};
-ghost use Rattle.vr_job_text.specs.Job.{is_run, unrun, unrun_in};
+ghost use Rattle.vr_job_text.specs.Job.{is_plain_cluster, is_run, unrun, unrun_in};
 
 use crate::fault::{TextFault, form_fault};
 use crate::text::Step;
 use std::alloc::Global;
 use std::marker::Model;
 use vr_amsparse::{Command, Commands, Node};
+use vr_catalog::NewEntry;
 use vr_types::{Bytes, Items, OutOfMemory};
 
 /// Data cards of a step of IDCAMS: the name on their DD card, by which INFILE names them, and the
@@ -82,15 +83,26 @@ pub struct Job {
     pub steps: JobSteps,
 }
 
-/// Whether a command is run yet: LISTCAT of names alone is, and IF and SET are.
+/// Whether it is a cluster that isn't spanned.
+fn is_plain_cluster(what: &NewEntry) -> bool
+    ensures { result ≡ is_plain_cluster what.now }
+{
+    match what {
+        NewEntry::Cluster { spanned, .. } => !*spanned,
+        NewEntry::Alternate { .. } | NewEntry::Path { .. } => false,
+    }
+}
+
+/// Whether a command is run yet: DEFINE of a cluster that isn't spanned is, LISTCAT of names alone,
+/// and IF and SET.
 fn is_run(command: &Command) -> bool
     ensures { result ≡ is_run command.now }
 {
     match command {
         Command::ListCatalog(list) => !list.all,
+        Command::Define(define) => is_plain_cluster(&define.order.what),
         Command::If(_) | Command::Set(_) => true,
-        Command::Define(_)
-        | Command::Alter(_)
+        Command::Alter(_)
         | Command::Delete(_)
         | Command::Repro(_)
         | Command::BuildIndex(_)

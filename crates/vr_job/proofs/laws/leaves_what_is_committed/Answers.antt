@@ -1,4 +1,4 @@
-use Rattle.std.proofs.Common.{◌++◌, [], ⊎_elim, inl, inr}
+use Rattle.std.proofs.Common.{[], ⊎_elim, inl, inr}
 use Rattle.std.specs.Prelude.{◌⊎◌}
 use Rattle.vr_types.specs.Image.{Image}
 use Rattle.vr_types.specs.Seen.{Left}
@@ -14,7 +14,7 @@ use Rattle.vr_job.proofs.RunCommitted.{left-committed, opening-committed, while-
 use Rattle.vr_job.proofs.laws.leaves_what_is_committed.Goals as goal
 
 pub returns-clause-moments : goal.returns-clause-moments
-returns-clause-moments g c number catalog end entries old ended new run =
+returns-clause-moments g c number shape catalog end entries old ended new run =
     let seen = g.D.BlockDevice.seen in
     let opening = opening_of run.contents run.owners in
     guards-weaken (seen old) (seen new)
@@ -30,14 +30,14 @@ returns-clause-moments g c number catalog end entries old ended new run =
     run.catalog_is entries run.legal.steps run.ascends run.keeps_catalog image left) later)) is)
 
 pub returns-clause-end : goal.returns-clause-end
-returns-clause-end g c number catalog end entries old ended new run going image left =
+returns-clause-end g c number shape catalog end entries old ended new run going image left =
     has-committed run.geometry run.contents (owned_in run.owners) entries run.legal.steps
     run.ascends number catalog run.catalog_is run.keeps_catalog [] image
     (run.kept going image left).recovers
 
 pub returns-clause-stopped : goal.returns-clause-stopped
-returns-clause-stopped g c number catalog end entries old ended new run stops image left =
+returns-clause-stopped g c number shape catalog end entries old ended new run stops image left =
     let stop = run.stopped stops in
     while-committed run.geometry number catalog run.contents (owned_in run.owners) run.catalog_is
-    entries run.legal.steps run.ascends run.keeps_catalog stop.before (stop.made ++ stop.later) stop.made image
+    entries run.legal.steps run.ascends run.keeps_catalog stop.before stop.made stop.later image
     stop.entries_are (stop.left image left)

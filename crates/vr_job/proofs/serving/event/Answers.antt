@@ -38,7 +38,7 @@ returns-clause-went g c =
     record {
       on = event-on B.seen B.faults old new c.act-act.result c.args.after c.args.unit c.args.line
           c.args.request c.act-act.ensures.acted c.act-act.ensures.whole c.act-act.ensures.number
-          c.act-act.ensures.stopped;
+          c.requires.own c.act-act.ensures.stopped;
       held = λ told opening held. c.act-act.ensures.held told opening held (may opening held);
       run = λ told opening first run.
           event-run B.seen B.faults old new c.act-act.result c.args.after c.args.unit c.args.line
