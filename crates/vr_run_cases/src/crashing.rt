@@ -1,11 +1,11 @@
-//! Decks on a volume in memory whose device is stopped at each of its calls, and what other decks find
+//! Jobs on a volume in memory whose device is stopped at each of its calls, and what other jobs find
 //! then.
 
 use crate::answers::{Answer, Stop, say, text_of};
 use crate::desk::Desk;
 use crate::images::{Leaves, copy_of, left_by};
 use crate::one_volume::run_job;
-use crate::running::{DECK, job_of, run_on};
+use crate::running::{job_of, run_on};
 use std::alloc::Global;
 use std::sync::Wait;
 use std::thread::Threads;
@@ -14,19 +14,20 @@ use vr_device::MemoryDevice;
 /// The most calls at which a device is stopped.
 pub const CALLS: u64 = 100_000;
 
-/// Runs a deck on copies of the device that are stopped at each of its calls, and another on what each
-/// of several crashes leaves then: `DECK => DECK`. Writes what the other prints, each text once, in
-/// the order in which they come first.
+/// Runs a job on copies of the device that are stopped at each of its calls, and another on what each
+/// of several crashes leaves then: `LINES => LINES`, each after these lines. Writes what the other
+/// prints, each text once, in the order in which they come first.
 pub fn stops<R: Threads + Wait + Sync>(
     rt: &R,
     alloc: Global,
     desk: &mut Desk,
+    before: &str,
     rest: &str,
     out: &mut String,
 ) -> Answer {
     let (first, then) = rest.split_once(" => ").ok_or(Stop::Line)?;
-    let first = text_of(alloc, DECK, first)?;
-    let then = text_of(alloc, DECK, then)?;
+    let first = text_of(alloc, before, first)?;
+    let then = text_of(alloc, before, then)?;
     let start = left_by(alloc, desk.device()?, Leaves::Newest)?;
     let mut seen = Vec::new(alloc);
     for call in 0..CALLS {

@@ -11,6 +11,7 @@ use crate::tokens::cause_number;
 use std::alloc::Global;
 use vr_amsparse::{AmsFault, Command, Commands, DataNames, Node, parse};
 use vr_case_table::{Answer, Answers, Stop};
+use vr_catalog::NewEntry;
 use vr_scan::{ScanFault, scan};
 use vr_text::Lines;
 use vr_types::bytes;
@@ -122,6 +123,9 @@ fn first_unrun(nodes: &[Node]) -> Option<u32> {
     for node in nodes.iter().rev() {
         let runs = match &node.command {
             Command::ListCatalog(list) => !list.all,
+            Command::Define(define) => {
+                matches!(define.order.what, NewEntry::Cluster { spanned: false, .. })
+            }
             Command::If(_) | Command::Set(_) => true,
             _ => false,
         };
