@@ -1,9 +1,10 @@
 -- Quotes that are doubled.
 use Rattle.std.proofs.Common.{◌≡◌, ◌≢◌, ◌↔◌, ◌<◌, ◌≤◌, IsTrue, suc, length, drop, get_or, ap₂}
-use Rattle.std.proofs.Common.{drop-cons, drop_of_length-le, ℕ, Bool, true, false, not, ◌&&◌, ◌==◌}
+use Rattle.std.proofs.Common.{drop-cons, drop_of_length-le, ℕ, Bool, true, false, not, ◌&&◌, ◌||◌, ◌==◌}
 use Rattle.std.proofs.Common.{◌⊎◌, inl, inr, if◌then◌else◌, List, [], ◌∷◌, refl, sym, ap, ◌∙◌}
 use Rattle.std.proofs.Common.{arith}
-use Rattle.std.proofs.lemmas.Bool.{and_parts, cases_Bool}
+use Rattle.std.specs.List.{list_any}
+use Rattle.std.proofs.lemmas.Bool.{and_parts, cases_Bool, true≢false}
 use Rattle.std.proofs.lemmas.Bool.Decides.{Decides-eqb, nat_tests}
 use Rattle.vr_text.specs.Literal.{doubled}
 
@@ -42,6 +43,18 @@ is_doubled_from-doubled (b ∷ bytes) =
 doubled-other : (b : ℕ) (bytes : List ℕ) → (b == 39) ≡ false
     → doubled (b ∷ bytes) ≡ b ∷ doubled bytes
 doubled-other b bytes other = rw other refl
+
+-- bytes without a quote stay
+pub doubled-none : (bytes : List ℕ) → list_any (λ b. b == 39) bytes ≡ false → doubled bytes ≡ bytes
+doubled-none [] none = refl
+doubled-none (b ∷ bytes) none =
+    elim (is_quote b) [
+      | inl quote ↦ absurd (true≢false (sym (ap (λ (test : Bool).
+          test || list_any (λ c. c == 39) bytes) ((Decides-eqb b 39).1 quote)) ∙ none))
+      | inr other ↦ doubled-other b bytes other
+          ∙ ap (λ (rest : List ℕ). b ∷ rest) (doubled-none bytes
+          (sym (ap (λ (test : Bool). test || list_any (λ c. c == 39) bytes) other) ∙ none))
+    ]
 
 -- what passes is doubled
 pub doubled_from : (halved : Bool) (quoted : List ℕ) → is_doubled_from halved quoted ≡ true

@@ -1,8 +1,8 @@
 //! Writing the spelling of bytes.
-ghost use Rattle.std.specs.Prelude.{◌≡◌, ℕ, ◌<◌, ◌++◌, true, List, codes, length, take, OnOk};
+ghost use Rattle.std.specs.Prelude.{◌≡◌, ◌==◌, ℕ, ◌<◌, ◌++◌, true, List, codes, length, take, OnOk};
 ghost use Rattle.std.specs.Prelude.{OnErr};
 ghost use Rattle.std.specs.Fmt.{digit_glyph};
-ghost use Rattle.std.specs.List.{flat_map, list_all};
+ghost use Rattle.std.specs.List.{flat_map, list_all, list_any};
 ghost use Rattle.vr_text.specs.Literal.{doubled, digit_pair, is_printable, character_form};
 ghost use Rattle.vr_text.specs.Literal.{hexadecimal_form, literal_of};
 
@@ -48,18 +48,46 @@ fn is_printable(byte: u8) -> bool
     (b' '..=b'~').contains(&byte)
 }
 
-/// Adds `C'..'`, or a part of it.
-fn write_characters(bytes: &[u8], out: &mut Bytes) -> Result<(), OutOfMemory>
-    ensures ok { OnOk result (out.new ≡ out.old ++ character_form bytes.now) }
+/// Whether one of the bytes is a quote.
+fn has_quote(bytes: &[u8]) -> bool
+    ensures { result ≡ list_any (λ b. b == 39) bytes.now }
+{
+    bytes.iter().any(|byte| *byte == b'\'')
+}
+
+/// Adds the bytes, each quote doubled, or a part of them.
+fn write_doubled(bytes: &[u8], out: &mut Bytes) -> Result<(), OutOfMemory>
+    ensures ok { OnOk result (out.new ≡ out.old ++ doubled bytes.now) }
     ensures err { OnErr result (take (length out.old) out.new ≡ out.old) }
 {
-    out.extend(b"C'")?;
     for byte in bytes {
         if *byte == b'\'' {
             out.push(b'\'')?;
         }
         out.push(*byte)?;
     }
+    Ok(())
+}
+
+/// The same, at once where there is no quote.
+fn write_inside(bytes: &[u8], out: &mut Bytes) -> Result<(), OutOfMemory>
+    ensures ok { OnOk result (out.new ≡ out.old ++ doubled bytes.now) }
+    ensures err { OnErr result (take (length out.old) out.new ≡ out.old) }
+{
+    if has_quote(bytes) {
+        write_doubled(bytes, out)
+    } else {
+        out.extend(bytes)
+    }
+}
+
+/// Adds `C'..'`, or a part of it.
+fn write_characters(bytes: &[u8], out: &mut Bytes) -> Result<(), OutOfMemory>
+    ensures ok { OnOk result (out.new ≡ out.old ++ character_form bytes.now) }
+    ensures err { OnErr result (take (length out.old) out.new ≡ out.old) }
+{
+    out.extend(b"C'")?;
+    write_inside(bytes, out)?;
     out.push(b'\'')
 }
 

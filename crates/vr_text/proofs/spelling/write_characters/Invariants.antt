@@ -1,7 +1,0 @@
-use Rattle.std.proofs.Common.{◌≡◌, ◌++◌, take, codes}
-use Rattle.vr_text.specs.Literal.{doubled}
-use Rattle.vr_text.proofs.spelling.write_characters.Given as goal
-
--- the bytes so far are written
-abbrev pub invariant-loop-byte : goal.invariant-loop-byte
-invariant-loop-byte l = l.out ≡ l.fn.out ++ (codes "C'" ++ doubled (take l.byte-index l.bytes))
