@@ -24,5 +24,7 @@ pub use Rattle.vr_volume.proofs.Befores.{goes-back}
 pub use Rattle.vr_volume.proofs.Calls.{Anything}
 pub use Rattle.vr_volume.proofs.Nobodys.{OwnedBy, beside-due, beside-part}
 pub use Rattle.vr_volume.proofs.Nobodys.{beside-recovers, beside-rests, given-part, given-volume}
+-- and so it does as blocks of a part that isn't laid are nobody's any more
+pub use Rattle.vr_volume.proofs.OwnersLeft.{part-left, volume-left}
 -- what the blocks of an entry-sequenced part stand for is in the order of addresses
 pub use Rattle.vr_volume.proofs.Addressed.{stands-addressed}

@@ -48,13 +48,14 @@ use Rattle.vr_space.proofs.CallerLemmas.{stays-keeps}
 -- ---- the log
 
 -- the unit is live once its before-image is logged
-pub live-logged : (log more : LogNow) (unit : UnitOfRecovery) (place : List ℕ) (rec : LogRecord)
-    → rec ≡ begun unit place → more.records ≡ log.records ++ rec ∷ []
+pub live-logged : {part : PartNo} {old : Option (List ℕ)} (log more : LogNow)
+    (unit : UnitOfRecovery) (place : List ℕ) (rec : LogRecord)
+    → rec ≡ Before unit part place old → more.records ≡ log.records ++ rec ∷ []
     → is_in unit (live_in more.records) ≡ true
-live-logged log more unit place rec is grown =
+live-logged {part} {old} log more unit place rec is grown =
     ap (λ (records : List LogRecord). is_in unit (live_in records))
     (grown ∙ ap (λ (r : LogRecord). log.records ++ r ∷ []) is)
-    ∙ live-begun log.records unit catalog_no place None
+    ∙ live-begun log.records unit part place old
 
 -- the log after the end, by the log before the record
 pub defined-log : (log more last after : LogNow) (unit : UnitOfRecovery) (rec : LogRecord)

@@ -96,7 +96,7 @@ committed-new unit old new records is =
     ap (λ (b : Bool). cond b (committed_by new records) (committed_by old records)) is
 
 -- A volume is safe by what is committed the same by each log that an image may have.
-safe-told : (geometry : Geometry) (number : ℕ) (owners : Owners) (log : LogNow)
+pub safe-told : (geometry : Geometry) (number : ℕ) (owners : Owners) (log : LogNow)
     (one other : List LogRecord → ℕ → Content) (now : Seen)
     → IsSafe geometry number owners log one now
     → ((content : LogContent) → IsLogOf log content → other content.records ≡ one content.records)
@@ -114,7 +114,7 @@ safe-told geometry number owners log one other now safe same = record {
 }
 
 -- by all records that there are
-by-whole : (geometry : Geometry) (number : ℕ) (owners : Owners) (log : LogNow)
+pub by-whole : (geometry : Geometry) (number : ℕ) (owners : Owners) (log : LogNow)
     (committed : List LogRecord → ℕ → Content) (now : Seen) → log.forced ≡ length log.records
     → IsSafe geometry number owners log committed now
     → IsSafeBy geometry owners log.records (committed log.records) now

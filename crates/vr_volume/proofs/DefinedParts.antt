@@ -1,9 +1,7 @@
 -- What the record of a new part leaves of the parts of a volume: the catalog has it at its place,
 -- and the new part and each other one are at rest by the state with it.
-use Rattle.std.proofs.Common.{◌≡◌, ◌≢◌, inr, ℕ, Bool, true, false, IsTrue, List, Option, Some}
-use Rattle.std.proofs.Common.{None, refl, sym, ap, subst, ◌∙◌, bytes_eq}
-use Rattle.std.proofs.lemmas.Bool.{true≢false}
-use Rattle.std.proofs.lemmas.Slice.Eq.{bytes_eq-Decides}
+use Rattle.std.proofs.Common.{◌≡◌, ◌≢◌, ℕ, Bool, IsTrue, List, Option, Some, None, refl, sym, ap}
+use Rattle.std.proofs.Common.{subst, ◌∙◌}
 use Rattle.vr_types.specs.Blocks.{Forced, Keeps}
 use Rattle.vr_types.specs.Content.{Content, Item, Standing, item_at}
 use Rattle.vr_types.specs.Image.{Image}
@@ -15,12 +13,10 @@ use Rattle.vr_types.specs.declared.unit.Unit.{Unit as UnitOfRecovery}
 use Rattle.vr_space.specs.Known.{Known}
 use Rattle.vr_space.specs.Owners.{Owners}
 use Rattle.vr_attach.specs.Owning.{IsPastLog}
-use Rattle.vr_space.specs.Part.{DueMoreAt, HasKeptRoom, IsAtRest, IsSound, Knows, MayHold}
-use Rattle.vr_space.specs.Part.{OwnsClaimed, SetsOne, Shape, item_of, left_by, part_no}
+use Rattle.vr_space.specs.Part.{DueMoreAt, HasKeptRoom, IsAtRest, Knows, MayHold, SetsOne, Shape}
+use Rattle.vr_space.specs.Part.{item_of, left_by, part_no}
 use Rattle.vr_space.specs.Room.{Lengths}
-use Rattle.vr_space.proofs.CallerLemmas.{StaysPart, due-none, firm-due, knows-stays, on-still}
-use Rattle.vr_space.proofs.CallerLemmas.{owns-same, rest-sound, rest-stays, room-stays, same-stays}
-use Rattle.vr_space.proofs.CallerLemmas.{stays-keeps}
+use Rattle.vr_space.proofs.CallerLemmas.{StaysPart, stays-keeps}
 use Rattle.vr_log.specs.LogNow.{LogNow}
 use Rattle.vr_log.specs.Standing.{InLog}
 use Rattle.vr_history.specs.State.{BeforeImage, State}
@@ -35,8 +31,8 @@ use Rattle.vr_volume.proofs.Begun.{begun, catalog_no}
 use Rattle.vr_volume.proofs.Calls.{Anything, stays-both, stays-part}
 use Rattle.vr_volume.proofs.Defined.{free-of, held-else, none-kept-new, nothing-new}
 use Rattle.vr_volume.proofs.Entered.{item-else, item-here, laid-here, laid-still, other-entered}
-use Rattle.vr_volume.proofs.ForceCalls.{due-forced}
-use Rattle.vr_volume.proofs.Rested.{part-stays, stays-holds, stays-then}
+use Rattle.vr_volume.proofs.Rested.{part-stays, stays-then}
+use Rattle.vr_volume.proofs.SetParts.{firm-set, set-rests}
 
 -- ---- a part that the calls leave as it is
 
@@ -142,17 +138,8 @@ module _ (geometry : Geometry) (number : ℕ) (owners : Owners) (log : LogNow)
       pub firm-record : Forced put m.cur d.may → (item : Option Item)
           → MayHold catalog d.may place item → item ≡ Some (Standing bytes)
       firm-record forced item held =
-          due-none catalog owners d
-          (rest-sound catalog owners d (rest-stays m d catalog owners
-          (stays-keeps tells told m d force catalog owners) rests)) place
-          (due-forced tells told m d force catalog owners put place forced
-          (rest-sound catalog owners m rests)
-          (due put place (firm-due catalog owners put place a
-          (rest-sound catalog owners a part.rests)
-          (λ found may. part.firm place found free-here may ∙ sym (part.reads place)))
-          (inr (λ n there. there)))) item held
-          ∙ ap (λ (image : Image). item_of catalog image place) (force.content told)
-          ∙ set.here ∙ record-put (item_of catalog a.cur place)
+          firm-set part place m d told rests set force put free-here due forced item held
+          ∙ record-put (item_of catalog a.cur place)
 
       module _ (more : LogNow) (logged : IsLogged log (begun unit place) more)
           (safe : IsSafe geometry number owners more (committed_by old) d)
@@ -164,69 +151,24 @@ module _ (geometry : Geometry) (number : ℕ) (owners : Owners) (log : LogNow)
             → HasKeptRoom catalog (lengths_kept images (part_no catalog).0) m
             → Knows catalog later m → later.move ≡ known.move
             → IsPartAtRest geometry owners images new catalog later b
-        catalog-told b Q later last left count size room knows moves = record {
-          laid = laid-still geometry old new rest.laid log rest.logged rest.forced unit shape place
-              bytes need can made (part_no catalog).0 catalog part.laid;
-          on = on-still catalog m b (on-still catalog a m part.on count size) stays.count
-              stays.size;
-          rests = rest-stays m b catalog owners stays rests;
-          claimed = owned;
-          room = room-stays m b catalog owners (lengths_kept images (part_no catalog).0) stays sound
-              room;
-          knows = knows-stays m b catalog owners later stays sound left owned knows;
-          reads = λ at. same-stays m b catalog owners stays sound left at
-              ∙ read-at at (bytes_eq at place) refl;
-          firm = λ at found none held. firm-at at found none
-              (stays-holds catalog owners d b
-              (stays-part geometry catalog owners Q d b rest.safe.past last)
-              (rest-sound catalog owners d (rest-stays m d catalog owners
-              (stays-keeps tells told m d force catalog owners) rests)) at found held)
-              (bytes_eq at place) refl;
-        }
+        catalog-told b Q later last left count size room knows moves =
+            set-rests part place m d told rests set force images new b Q later rest.safe.past last
+            left count size room knows moves
+            (laid-still geometry old new rest.laid log rest.logged rest.forced unit shape place
+            bytes need can made (part_no catalog).0 catalog part.laid)
+            (record-put (item_of catalog a.cur place) ∙ sym record-there)
+            (λ at apart. item-else geometry old new rest.laid log rest.logged rest.forced unit shape
+            place bytes need can made (part_no catalog).0 at (λ zero there. apart there))
+            (λ found held. firm found held ∙ sym record-there)
+            (λ at found apart none held.
+            held-else geometry number owners log images old a unit shape place bytes rest can
+            new need made more logged d safe (part_no catalog).0 catalog part.laid at found held
+            (ap (λ (those : List BeforeImage). oldest those (part_no catalog).0 at)
+            (sym rest.kept) ∙ none)
+            (λ zero there. apart there))
           where
-            stays : StaysPart catalog owners m b
-            stays = stays-then catalog owners m d b
-                (stays-keeps tells told m d force catalog owners)
-                (stays-part geometry catalog owners Q d b rest.safe.past last)
-
-            sound : IsSound catalog owners m
-            sound = rest-sound catalog owners m rests
-
-            owned : OwnsClaimed catalog owners later
-            owned = owns-same catalog owners known later moves part.claimed
-
-            record-there : (at : List ℕ) → at ≡ place
-                → item_at (new.contents (part_no catalog).0) at ≡ Some (Standing bytes)
-            record-there at there = ap (λ (p : ℕ). item_at (new.contents p) at) zero-is
-                ∙ ap (item_at (new.contents 0)) there
+            record-there : item_at (new.contents (part_no catalog).0) place
+                ≡ Some (Standing bytes)
+            record-there = ap (λ (p : ℕ). item_at (new.contents p) place) zero-is
                 ∙ item-here geometry old new rest.laid log rest.logged rest.forced unit shape place
                 bytes need can made
-
-            read-at : (at : List ℕ) (here : Bool) → bytes_eq at place ≡ here
-                → item_of catalog m.cur at ≡ item_at (new.contents (part_no catalog).0) at
-            read-at at true here =
-                let there : at ≡ place = (bytes_eq-Decides at place).0 here in
-                ap (item_of catalog m.cur) there ∙ set.here
-                ∙ record-put (item_of catalog a.cur place) ∙ sym (record-there at there)
-            read-at at false here =
-                let apart : at ≡ place → ⊥ =
-                λ there. true≢false (sym ((bytes_eq-Decides at place).1 there) ∙ here) in
-                set.others at apart ∙ part.reads at
-                ∙ sym (item-else geometry old new rest.laid log rest.logged rest.forced unit shape
-                place bytes need can made (part_no catalog).0 at (λ zero there. apart there))
-
-            firm-at : (at : List ℕ) (found : Option Item)
-                → oldest images (part_no catalog).0 at ≡ None → MayHold catalog d.may at found
-                → (here : Bool) → bytes_eq at place ≡ here
-                → found ≡ item_at (new.contents (part_no catalog).0) at
-            firm-at at found none held true here =
-                let there : at ≡ place = (bytes_eq-Decides at place).0 here in
-                firm found (subst (λ (q : List ℕ). MayHold catalog d.may q found) there held)
-                ∙ sym (record-there at there)
-            firm-at at found none held false here =
-                held-else geometry number owners log images old a unit shape place bytes rest can
-                new need made more logged d safe (part_no catalog).0 catalog part.laid at found held
-                (ap (λ (those : List BeforeImage). oldest those (part_no catalog).0 at)
-                (sym rest.kept) ∙ none)
-                (λ zero there. true≢false
-                (sym ((bytes_eq-Decides at place).1 there) ∙ here))

@@ -24,6 +24,7 @@ pub mod Stages
 pub mod Histories
 pub mod EndCalls
 pub mod ForceCalls
+pub mod SetParts
 pub mod Lasting
 pub mod Crashing
 pub mod Nobodys
@@ -32,5 +33,11 @@ pub mod Entered
 pub mod Defined
 pub mod DefinedParts
 pub mod DefineCalls
+pub mod OwnersLeft
+pub mod EntryIdle
+pub mod EntryChanged
+pub mod EntryEnded
+pub mod EntryParts
+pub mod EntryChangeCalls
 pub mod Addressed
 pub mod CallerLemmas

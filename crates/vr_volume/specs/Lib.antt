@@ -16,3 +16,4 @@ pub mod Due
 pub mod Durable
 pub mod Crashes
 pub mod Defining
+pub mod EntryChange

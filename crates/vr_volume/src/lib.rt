@@ -9,7 +9,9 @@ mod again;
 mod changing;
 mod defining;
 mod durable;
+mod entry_change;
 mod forcing;
+mod kept_entry;
 mod laws;
 mod logging;
 mod unit_end;
@@ -19,6 +21,7 @@ pub use again::set_again;
 pub use changing::{do_stage, force_blocks, set_free};
 pub use defining::{define, nobodys_blocks_may_change, owners_grow};
 pub use durable::state_recovers;
+pub use entry_change::{change_entry, owners_shrink};
 pub use forcing::{force_changed, forced_is_firm};
 pub use laws::{
     committed_by_its_history, crash_recovers, each_image_is_safe, image_recovers, one_recovery,
