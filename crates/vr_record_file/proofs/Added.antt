@@ -1,13 +1,12 @@
 -- What the entries of a definition find, and what they leave of the state.
-use Rattle.std.proofs.Common.{◌≡◌, ℕ, ◌+◌, ◌==◌, ◌&&◌, ◌||◌, Bool, false, not, cond}
+use Rattle.std.proofs.Common.{◌≡◌, ℕ, ◌+◌, ◌==◌, ◌&&◌, Bool, false, not, cond}
 use Rattle.std.proofs.Common.{nat_lt, sum, List, [], ◌∷◌, ◌++◌, filter, map, find, Option, Some}
 use Rattle.std.proofs.Common.{None}
 use Rattle.std.proofs.Common.{inl, inr, refl, sym, ap, ◌∙◌, subst, arith}
 use Rattle.std.proofs.lemmas.Bool.Decides.{nat_tests}
 use Rattle.std.specs.Prelude.{flat_map, bytes_eq, is_some}
 use Rattle.std.specs.List.{AllByRecursion, list_any}
-use Rattle.std.specs.Option.{is_none, option_and_then, option_map, option_map_or, option_or}
-use Rattle.vr_catalog.specs.Catalog.{definition_of}
+use Rattle.std.specs.Option.{option_and_then, option_map, option_map_or, option_or}
 use Rattle.vr_catalog.specs.Definition.{catalog_definition}
 use Rattle.vr_catalog.specs.declared.entry.CatEntry.{CatEntry}
 use Rattle.vr_types.specs.Content.{Content, Item, Standing, item_at, record_at}
@@ -17,7 +16,7 @@ use Rattle.vr_types.specs.declared.geometry.Geometry.{Geometry}
 use Rattle.vr_types.specs.declared.lock_name.LockName.{LockName}
 use Rattle.vr_types.specs.declared.lock_name.LockName.TheVariants.{Record}
 use Rattle.vr_types.specs.declared.reply.Refusal.{Refusal}
-use Rattle.vr_types.specs.declared.reply.Refusal.TheVariants.{BadLength, Duplicate, LogFull, NoFile}
+use Rattle.vr_types.specs.declared.reply.Refusal.TheVariants.{BadLength, Duplicate, LogFull}
 use Rattle.vr_types.specs.declared.reply.Refusal.TheVariants.{NotAllowed, Stopped, WriteFault}
 use Rattle.vr_types.specs.declared.reply.Reply.TheVariants.{Done, Refused}
 use Rattle.vr_types.specs.declared.request.Request.{Request}
@@ -33,10 +32,10 @@ use Rattle.vr_history.specs.Effects.{claims, drops_held, image_kept, with_change
 use Rattle.vr_history.specs.LogSpace.{Logging, base_logging, log_need, loggings_at, need_for}
 use Rattle.vr_history.specs.LogSpace.{new_loggings, pair_loggings}
 use Rattle.vr_history.specs.Names.{with_lock}
-use Rattle.vr_history.specs.Opened.{Cluster, Opened, Unknown, base_of, by_name, catalog_of}
-use Rattle.vr_history.specs.Opened.{definition_in, opened, opened_base}
-use Rattle.vr_history.specs.RefusedFile.{bad_length, changed_catalog, goes_with_kind}
-use Rattle.vr_history.specs.RefusedFile.{is_catalog_changing, is_unknown, length_wrong, no_file}
+use Rattle.vr_history.specs.Opened.{Cluster, Opened, base_of}
+use Rattle.vr_history.specs.Opened.{definition_in, opened}
+use Rattle.vr_history.specs.RefusedFile.{bad_length, goes_with_kind}
+use Rattle.vr_history.specs.RefusedFile.{length_wrong, no_file}
 use Rattle.vr_history.specs.RefusedFile.{not_allowed, refused_if, shown_length, stopped}
 use Rattle.vr_history.specs.RefusedRecord.{duplicate, duplicate_key, held, held_by, is_taken}
 use Rattle.vr_history.specs.RefusedRoom.{free_areas, lacks, log_full, need_at, no_space}
@@ -49,6 +48,7 @@ use Rattle.vr_answer.proofs.CallerLemmas.{after_change, moves_none, names_at}
 use Rattle.vr_record_file.specs.Defining.{MayDefine, entry_change, entry_image, entry_logged}
 use Rattle.vr_record_file.specs.Defining.{entry_name, need_to_define}
 use Rattle.vr_record_file.specs.Now.{FileNow, IsKeptByDeck, IsOfDeck, IsStateOf, state_now}
+use Rattle.vr_record_file.proofs.CatalogFile.{catalog_known, catalog_opened, passed}
 use Rattle.vr_record_file.proofs.Left.{none_any}
 use Rattle.vr_record_file.proofs.Legal.{utility_other}
 use Rattle.vr_record_file.proofs.MoreEntries.{no_record}
@@ -81,11 +81,6 @@ pub record IsAdded (geometry : Geometry) (old : State) (unit : UnitOfRecovery) (
   pub numbers : new.numbers ≡ old.numbers
   pub owned : new.owned ≡ old.owned ++ record { area = area.0; part = part.0 } ∷ []
   pub stopped : new.stopped ≡ None
-
--- a refusal that isn't there is passed over
-passed : (o : Option Refusal) (rest : List (Option Refusal)) → o ≡ None
-    → first_of (o ∷ rest) ≡ first_of rest
-passed o rest none = ap (λ (first : Option Refusal). first_of (first ∷ rest)) none
 
 module _ (opening : State) (file : FileNow) (unit : UnitOfRecovery) (part : PartNo) (area : AreaNo)
     (add : Request) (place bytes : List ℕ) (commit : Request) (catalog : List CatEntry)
@@ -138,12 +133,7 @@ module _ (opening : State) (file : FileNow) (unit : UnitOfRecovery) (part : Part
 
   -- its file is on the catalog itself,
   on_catalog : opened case ≡ Cluster catalog_definition
-  on_catalog =
-      ap (λ (b : Bool). cond b (opened_base found may.on
-      (definition_of (catalog_of found) may.on.base.0)) Unknown) may.known
-      ∙ ap (λ (n : ℕ). opened_base found may.on (definition_of (catalog_of found) n))
-      may.on_catalog
-      ∙ ap (λ (o : Option PartNo). by_name found may.on.base.0 o catalog_definition) may.no_path
+  on_catalog = catalog_opened case may.on refl may.known may.on_catalog may.no_path
 
   -- its place is its key,
   place_at : place_changed case ≡ Some place
@@ -177,10 +167,7 @@ module _ (opening : State) (file : FileNow) (unit : UnitOfRecovery) (part : Part
 
   -- no refusal has its cause
   no_fault_file : no_file case ≡ None
-  no_fault_file =
-      ap (λ (o : Opened). refused_if (is_unknown o || is_catalog_changing case) NoFile) on_catalog
-      ∙ ap (λ (n : ℕ). refused_if (not (n == 0) && (is_none found.stopped
-      && list_any changed_catalog found.logged)) NoFile) may.of_utilities
+  no_fault_file = catalog_known case may.on refl on_catalog may.of_utilities
 
   no_stop : stopped case ≡ None
   no_stop = ap (option_map Stopped) going

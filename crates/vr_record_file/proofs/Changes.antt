@@ -113,9 +113,9 @@ module _ (file : FileNow) (before : List Lock) (state : State) (unit : UnitOfRec
         numbers = λ d. is.numbers d ∙ ap (λ (n : ℕ → ℕ). n d) (sym made.numbers);
         stopped = is.stopped ∙ sym made.stopped;
         alone = subst AreClusters catalog is.alone;
-        owned = subst (λ (l : List Owned). AllByRecursion
+        owned = λ going. subst (λ (l : List Owned). AllByRecursion
             (λ owned. has_part (parts_laid file.catalog) owned.part ≡ true) l) (sym made.owned)
-            is.owned;
+            (is.owned going);
         locked = subst (λ (l : List Lock). AllByRecursion (IsLockedIn l) after.logged)
             (sym made.locks)
             (subst (λ (l : List Logged). AllByRecursion (IsLockedIn now_locks) l)
@@ -292,8 +292,10 @@ claimed_state opening file after unit line part area is free laid =
       numbers = now.numbers;
       stopped = now.stopped;
       alone = now.alone;
-      owned = all_append (λ owned. has_part (parts_laid file.catalog) owned.part ≡ true)
-          (state_now opening file).owned (record { area = area.0; part = part.0 }) now.owned laid;
+      owned = λ going. all_append
+          (λ owned. has_part (parts_laid file.catalog) owned.part ≡ true)
+          (state_now opening file).owned (record { area = area.0; part = part.0 })
+          (now.owned going) laid;
       locked = now.locked;
       of_decks = now.of_decks;
       of_clusters = now.of_clusters;

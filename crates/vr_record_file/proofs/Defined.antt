@@ -48,7 +48,7 @@ module _ (unit : UnitOfRecovery) (utility : unit.deck ≡ 0) where
   logged_else : (logged : Logged) → IsOfDeck logged → is_other unit logged.unit ≡ true
   logged_else logged of_deck = ap not (utility_other unit logged.unit utility of_deck.0)
 
-  kept_else : (kept : BeforeImage) → IsKeptByDeck kept → is_other unit kept.unit ≡ true
+  pub kept_else : (kept : BeforeImage) → IsKeptByDeck kept → is_other unit kept.unit ≡ true
   kept_else kept of_deck = ap not (utility_other unit kept.unit utility of_deck)
 
 -- the files of its deck hold nothing, whichever let go before
@@ -59,7 +59,7 @@ unheld_by true true position = refl
 unheld_by true false position = refl
 unheld_by false c position = refl
 
-unheld_all : (state : State) (deck : ℕ) (o : Option FileRef) (d s : ℕ)
+pub unheld_all : (state : State) (deck : ℕ) (o : Option FileRef) (d s : ℕ)
     → (if d == deck then unheld ((drops_held deck o state).positions d s) else
     (drops_held deck o state).positions d s)
     ≡ (if d == deck then unheld (state.positions d s) else state.positions d s)
@@ -119,7 +119,7 @@ module _ (opening : State) (file : FileNow) (unit : UnitOfRecovery) (part : Part
       all_append (λ (o : Owned). Has parts_laid catalog o.part) old.owned given
       (all_more (λ (o : Owned). Has parts_laid file.catalog o.part)
       (λ (o : Owned). Has parts_laid catalog o.part) (λ o had. more_laid o.part had) old.owned
-      is.now.owned) may.laid
+      (is.now.owned may.going)) may.laid
 
   catalog_with : entries_in (recorded.contents 0) ≡ catalog
   catalog_with = ap entries_in (adds.contents 0) ∙ may.catalog_is
@@ -222,7 +222,7 @@ module _ (opening : State) (file : FileNow) (unit : UnitOfRecovery) (part : Part
               ∙ sym (done.numbers d);
           stopped = is.now.stopped ∙ sym done.stopped;
           alone = subst AreClusters catalog_is may.clusters;
-          owned = subst (AllByRecursion (λ (o : Owned). Has parts_laid catalog o.part))
+          owned = λ going. subst (AllByRecursion (λ (o : Owned). Has parts_laid catalog o.part))
               (sym done.owned) all_laid;
           locked = subst (λ (l : List Lock). AllByRecursion (IsLockedIn l) new.logged)
               (sym done.locks) (subst (AllByRecursion (IsLockedIn
@@ -283,10 +283,7 @@ module _ (opening : State) (file : FileNow) (unit : UnitOfRecovery) (part : Part
               ∙ ap (λ (n : ℕ → ℕ). n d) (sym adds.numbers);
           stopped = stops;
           alone = subst AreClusters (sym catalog_with) may.clusters;
-          owned = subst (λ (c : List CatEntry).
-              AllByRecursion (λ (o : Owned). Has parts_laid c o.part) recorded.owned) (sym catalogs)
-              (subst (AllByRecursion (λ (o : Owned). Has parts_laid catalog o.part))
-              (sym adds.owned) all_laid);
+          owned = λ none. absurd (never none);
           locked = locked_too;
           of_decks = λ none. absurd (never none);
           of_clusters = λ none. absurd (never none);

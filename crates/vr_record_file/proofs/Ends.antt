@@ -139,9 +139,9 @@ module _ (file : FileNow) (state : State) (unit : UnitOfRecovery) (is : IsOf fil
         ∙ ap (λ (n : ℕ). if d == unit.deck then n + 1 else n) (is.numbers d);
     stopped = is.stopped;
     alone = is.alone;
-    owned = all_left (λ owned. has_part (parts_laid file.catalog) owned.part ≡ true)
+    owned = λ on. all_left (λ owned. has_part (parts_laid file.catalog) owned.part ≡ true)
         (λ owned. has_part (parts_laid (catalog_of (without_unit unit state))) owned.part)
-        state.owned is.owned;
+        state.owned (is.owned on);
     locked = locked_left unit state.locks state.logged is.locked;
     of_decks = λ on. all_left IsOfDeck (λ log. is_other unit log.unit) state.logged
         (is.of_decks on);

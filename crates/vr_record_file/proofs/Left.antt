@@ -35,6 +35,19 @@ module _ {X : Type 0} (P : X → Type 0) (test : X → Bool) where
       (holds x are.0)
       ∙ ap (λ (rest : List X). x ∷ rest) (all_but_last holds xs last are.1 fails)
 
+-- what a test leaves passes it
+passed_if : {X : Type 0} (test : X → Bool) (x : X) (rest : List X)
+    → AllByRecursion (λ y. test y ≡ true) rest → (b : Bool) → test x ≡ b
+    → AllByRecursion (λ y. test y ≡ true) (cond b (x ∷ rest) rest)
+passed_if test x rest are true is = (is, are)
+passed_if test x rest are false is = are
+
+pub all_passed : {X : Type 0} (test : X → Bool) (xs : List X)
+    → AllByRecursion (λ x. test x ≡ true) (filter test xs)
+all_passed test [] = tt
+all_passed test (x ∷ xs) =
+    passed_if test x (filter test xs) (all_passed test xs) (test x) refl
+
 -- ---- the locks of other units, as a unit takes one
 
 pub own_other : (unit : UnitOfRecovery) → is_other unit unit ≡ false

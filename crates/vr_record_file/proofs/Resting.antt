@@ -48,7 +48,7 @@ new_state file locks files numbers stopped entries contents owned catalog alone 
       numbers = λ d. ap (λ (l : List DeckNumber). number_of l d) numbers;
       stopped = stopped;
       alone = subst AreClusters catalog alone;
-      owned = laid;
+      owned = λ going. laid;
       locked = tt;
       of_decks = λ going. tt;
       of_clusters = λ going. tt;

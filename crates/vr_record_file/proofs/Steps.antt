@@ -188,7 +188,7 @@ faulted_state opening file after line unit going is =
       numbers = now.numbers;
       stopped = refl;
       alone = now.alone;
-      owned = now.owned;
+      owned = λ none. absurd (none-some stamp (sym none));
       locked = now.locked;
       of_decks = λ none. absurd (none-some stamp (sym none));
       of_clusters = λ none. absurd (none-some stamp (sym none));
@@ -224,7 +224,7 @@ module _ (opening : State) (file : FileNow) (after line : ℕ) (unit : UnitOfRec
         numbers = now.numbers;
         stopped = refl;
         alone = now.alone;
-        owned = now.owned;
+        owned = λ none. absurd (none-some stamp (sym none));
         locked = now.locked;
         of_decks = λ none. absurd (none-some stamp (sym none));
         of_clusters = λ none. absurd (none-some stamp (sym none));

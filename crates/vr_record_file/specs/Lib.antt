@@ -1,2 +1,3 @@
 pub mod Defining
+pub mod EntryChange
 pub mod Now

@@ -133,8 +133,10 @@ is_undoing unit entries = is_undoing_from unit false entries
 -- ---- the record file in memory
 
 -- What is in memory is what this state has. Once the volume has stopped, no answer looks at locks;
--- and until then only decks have part in what live units logged and keep. A definition that meets a
--- fault of a write leaves its unit, of the utilities, in doubt.
+-- and until then each owned area is of a part in the catalog, and only decks have part in what live
+-- units logged and keep. A definition, or a change of an entry, that meets a fault of a write
+-- leaves its unit, of the utilities, in doubt, and the areas of a part that goes with its entry
+-- owned.
 pub record IsOf (file : FileNow) (state : State) : Type 0 where
   pub catalog : file.catalog ≡ catalog_of state
   pub locks : file.stopped ≡ None → file.locks ≡ state.locks
@@ -143,8 +145,8 @@ pub record IsOf (file : FileNow) (state : State) : Type 0 where
   pub numbers : (deck : ℕ) → number_of file.numbers deck ≡ state.numbers deck
   pub stopped : file.stopped ≡ state.stopped
   pub alone : HasClustersAlone state
-  pub owned : AllByRecursion (λ owned. has_part (parts_laid file.catalog) owned.part ≡ true)
-      state.owned
+  pub owned : file.stopped ≡ None
+      → AllByRecursion (λ owned. has_part (parts_laid file.catalog) owned.part ≡ true) state.owned
   pub locked : AllByRecursion (IsLockedIn state.locks) state.logged
   pub of_decks : file.stopped ≡ None → AllByRecursion IsOfDeck state.logged
   pub of_clusters : file.stopped ≡ None → AllByRecursion IsOfCluster state.befores

@@ -11,8 +11,8 @@ use vr_history::What;
 use vr_types::{AreaNo, PartNo, Place, Reply, SharedRequest, Unit};
 
 impl RecordFile {
-    /// Takes the catalog with one entry more.
-    fn take_catalog(&mut self, catalog: Catalog)
+    /// Takes the catalog as it is after a change of it.
+    pub(crate) fn take_catalog(&mut self, catalog: Catalog)
         ensures { self.new ≡ record self.old { catalog = catalog } }
     {
         self.catalog = catalog;

@@ -8,6 +8,7 @@ mod asked;
 mod changing;
 mod defining;
 mod ending;
+mod entry_change;
 mod file;
 mod laws;
 mod numbers;
@@ -17,5 +18,6 @@ mod refusing;
 
 pub use file::RecordFile;
 pub use laws::{
-    defined_state, definition_in_doubt, logged_places_are_locked, stopped_volumes_look_at_no_lock,
+    change_in_doubt, changed_state, defined_state, definition_in_doubt, logged_places_are_locked,
+    stopped_volumes_look_at_no_lock,
 };
