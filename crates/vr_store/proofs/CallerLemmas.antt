@@ -7,6 +7,6 @@ pub use Rattle.vr_store.proofs.Idle.{idle-guards, stored-left}
 pub use Rattle.vr_store.proofs.Kept.{on-err, stored-changed}
 pub use Rattle.vr_store.proofs.LastImages.{last-has, last-kept-in, last-state}
 pub use Rattle.vr_store.proofs.PlacedParts.{shapes-same, split-met}
-pub use Rattle.vr_store.proofs.PutNothing.{moments-keeps, stands-kept, stored-keeps}
+pub use Rattle.vr_store.proofs.PutNothing.{moments-keeps, set-keeps, stands-kept, stored-keeps}
 pub use Rattle.vr_store.proofs.ReadyParts.{left-item, numbered, rested, undo-images}
 pub use Rattle.vr_store.proofs.Recorded.{none-read, number-at, record-read, rested-at}

@@ -41,7 +41,7 @@ module _ (part : PartNo) where
     counted true owner some more same = ap suc same
     counted false owner some more same = same
 
-    owned-other : (areas : List (Option PartNo))
+    pub owned-other : (areas : List (Option PartNo))
         → owned_count other (released part areas) ≡ owned_count other areas
     owned-other [] = refl
     owned-other (None ∷ areas) = owned-other areas

@@ -26,5 +26,9 @@ pub mod StoredAfter
 pub mod PutBack
 pub mod LastImages
 pub mod LaidParts
+pub mod Filtered
+pub mod EntryParts
+pub mod EntryAreas
+pub mod ChangedEntry
 pub mod Idle
 pub mod CallerLemmas

@@ -19,6 +19,7 @@ use Rattle.vr_history.specs.Effects.{is_other}
 use Rattle.vr_history.proofs.Same.{unit_same}
 use Rattle.vr_store.specs.Store.{ChangedBy, blocks_of, changed_by, is_by}
 use Rattle.vr_store.specs.declared.changed.UnitBlocks.{UnitBlocks}
+use Rattle.vr_store.proofs.Filtered.{filter-seen}
 use Rattle.vr_store.proofs.Positions.{position-first, position-map, position-past}
 
 abbrev pub listed_of : Option ChangedBy → List ℕ
@@ -114,20 +115,7 @@ module _ (unit : UnitOfRecovery) where
   pub forgotten-seen : (changed : List UnitBlocks)
       → map changed_by (filter (λ (by : UnitBlocks). is_other unit by.unit) changed)
       ≡ forgotten unit (map changed_by changed)
-  forgotten-seen [] = refl
-  forgotten-seen (one ∷ changed) =
-      by_test (is_other unit one.unit) (forgotten-seen changed)
-    where
-      by_test : (test : Bool)
-          → map changed_by (filter (λ (by : UnitBlocks). is_other unit by.unit) changed)
-          ≡ forgotten unit (map changed_by changed)
-          → map changed_by (cond test
-          (one ∷ filter (λ (by : UnitBlocks). is_other unit by.unit) changed)
-          (filter (λ (by : UnitBlocks). is_other unit by.unit) changed))
-          ≡ cond test (changed_by one ∷ forgotten unit (map changed_by changed))
-          (forgotten unit (map changed_by changed))
-      by_test true same = ap (λ (rest : List ChangedBy). changed_by one ∷ rest) same
-      by_test false same = same
+  forgotten-seen = filter-seen changed_by (λ (by : ChangedBy). is_other unit by.unit)
 
   pub forgotten-none : (changed : List ChangedBy) → blocks_of unit (forgotten unit changed) ≡ []
   forgotten-none [] = refl

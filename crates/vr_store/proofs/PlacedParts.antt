@@ -18,7 +18,7 @@ abbrev pub number_of : PartNow → ℕ
 number_of part = part.number.0
 
 -- the part is not the one of the number
-other-number : (number : ℕ) (part : PartNow) → has_number number part ≡ false
+pub other-number : (number : ℕ) (part : PartNow) → has_number number part ≡ false
     → part.number.0 ≢ number
 other-number number part is same =
     true≢false (sym ((Decides-eqb part.number.0 number).1 same) ∙ is)

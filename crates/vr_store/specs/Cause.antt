@@ -1,5 +1,5 @@
--- When a call that copies what a store has, or defines a part, may answer what it answers. The rules
--- are this project's own.
+-- When a call that copies what a store has, defines a part, or changes an entry of the catalog, may
+-- answer what it answers. The rules are this project's own.
 use Rattle.std.specs.Prelude.{◌≡◌, ◌<◌, ◌≤◌, Result, IsErrOf, OnOk}
 use Rattle.vr_types.specs.Faults.{Faults}
 use Rattle.vr_types.specs.declared.fault.DeviceFault.TheVariants.{Read, Write}
@@ -27,7 +27,7 @@ abbrev pub refused_by : StartNo → DefineNo
 refused_by (starts.Fault fault) = refusals.Fault fault
 refused_by starts.Memory = refusals.Memory
 
--- The same of a definition: the log that is full is no fault, either.
+-- The same of a definition, and of a change of an entry: the log that is full is no fault, either.
 pub record HasDefineCause {T : Type 0} (before now : Faults) (result : Result T DefineNo) : Type 0
   where
     pub reads : before.reads ≤ now.reads

@@ -7,3 +7,4 @@ pub mod Change
 pub mod PutBack
 pub mod LastImage
 pub mod Define
+pub mod EntryChange

@@ -9,6 +9,7 @@
 mod change;
 mod changed;
 mod define;
+mod entry_change;
 mod last_image;
 mod look;
 mod next;

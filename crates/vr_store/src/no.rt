@@ -1,4 +1,4 @@
-//! What a read of a record, and a definition, fail with.
+//! What a read of a record, a definition and a change of an entry fail with.
 ghost use Rattle.std.specs.Prelude.{◌≡◌};
 ghost use Rattle.vr_store.specs.Cause.{refused_by};
 ghost use Rattle.vr_store.specs.declared.no.DefineNo.TheVariants as refusals;
@@ -32,7 +32,7 @@ impl From<OutOfMemory> for LookNo {
     }
 }
 
-/// Why a part could not be defined.
+/// Why a part could not be defined, or an entry of the catalog not be changed.
 #[derive(Clone, Copy, PartialEq, Eq)]
 pub enum DefineNo {
     /// Out of memory; it is taken before anything is logged.

@@ -1,5 +1,5 @@
 //! What a store reports of its parts, its log, its before-images and its areas, without a block.
-ghost use Rattle.std.specs.Prelude.{◌≡◌, ◌==◌, IsTrue, MatchOption, [], false, is_some};
+ghost use Rattle.std.specs.Prelude.{◌≡◌, ◌≢◌, ◌==◌, IsTrue, MatchOption, [], false, is_some};
 ghost use Rattle.std.specs.Prelude.{length, option_map};
 ghost use Rattle.std.specs.List.{list_any};
 ghost use Rattle.std.specs.Option.{option_and_then, option_map_or};
@@ -92,6 +92,15 @@ impl<P: Part> Store<P> {
         ensures { result ≡ is_in unit (live_in self.now.log.records) }
     {
         self.log.is_live(unit)
+    }
+
+    /// Whether no unit is live: the log has no records.
+    pub fn is_idle(&self) -> bool
+        requires { self.now.log.broken ≡ false }
+        ensures idle { IsTrue result → live_in self.now.log.records ≡ [] }
+        ensures live { result ≡ false → live_in self.now.log.records ≢ [] }
+    {
+        self.log.live() == 0
     }
 
     /// Whether the log has a before-image of a place for a unit.

@@ -14,7 +14,7 @@ use Rattle.vr_undo.specs.Records.{images_in}
 use Rattle.vr_volume.specs.Crashes.{RecoversTo}
 use Rattle.vr_volume.specs.Defining.{IsDefinedIn}
 use Rattle.vr_volume.specs.PutBack.{lengths_kept}
-use Rattle.vr_store.specs.Define.{IsBegun, IsMetAt, entry_need}
+use Rattle.vr_store.specs.Define.{IsBegun, IsEntryReady, IsMetAt, entry_need}
 use Rattle.vr_store.specs.Store.{IsSet, StoreNow, changed_by, owners_of, part_now}
 use Rattle.vr_store.proofs.CatalogParts.{catalog-at}
 use Rattle.vr_store.proofs.DefinedEntry.{catalog-rested, kept-same, stored-entered}
@@ -45,8 +45,9 @@ define-requires-clause-lengths g c =
     let found = laid-found shape known inside.parts.items 0 c.deref.result.now
     c.index_of.result v.parts c.deref.ensures.value refl c.index_of.ensures c.in-Some.at
     c.in-Some.is laid c.index_mut.ensures.value in
-    let at = catalog-at g.B.Blocks.tells v c.args.self.now c.self.view_is place bytes a catalog
-    found c.requires.set c.requires.place c.requires.item c.requires.met c.requires.ready in
+    let at = catalog-at g.B.Blocks.tells (λ s. IsEntryReady s place bytes a) v c.args.self.now
+    c.self.view_is place bytes a catalog found c.requires.set c.requires.place c.requires.item
+    c.requires.met c.requires.ready in
     subst HasLengths (sym c.requires.rec) (at.short, tt)
 
 pub define-requires-clause-stands : goal.define-requires-clause-stands
@@ -70,8 +71,9 @@ define-requires-clause-stands g c told =
     let found = laid-found shape known inside.parts.items 0 c.deref.result.now
     c.index_of.result v.parts c.deref.ensures.value refl c.index_of.ensures c.in-Some.at
     c.in-Some.is laid c.index_mut.ensures.value in
-    let at = catalog-at g.B.Blocks.tells v c.args.self.now c.self.view_is place bytes a catalog
-    found c.requires.set c.requires.place c.requires.item c.requires.met c.requires.ready in
+    let at = catalog-at g.B.Blocks.tells (λ s. IsEntryReady s place bytes a) v c.args.self.now
+    c.self.view_is place bytes a catalog found c.requires.set c.requires.place c.requires.item
+    c.requires.met c.requires.ready in
     (at.ready told).log
 
 pub define-requires-clause-part : goal.define-requires-clause-part
@@ -95,8 +97,9 @@ define-requires-clause-part g c =
     let found = laid-found shape known inside.parts.items 0 c.deref.result.now
     c.index_of.result v.parts c.deref.ensures.value refl c.index_of.ensures c.in-Some.at
     c.in-Some.is laid c.index_mut.ensures.value in
-    let at = catalog-at g.B.Blocks.tells v c.args.self.now c.self.view_is place bytes a catalog
-    found c.requires.set c.requires.place c.requires.item c.requires.met c.requires.ready in
+    let at = catalog-at g.B.Blocks.tells (λ s. IsEntryReady s place bytes a) v c.args.self.now
+    c.self.view_is place bytes a catalog found c.requires.set c.requires.place c.requires.item
+    c.requires.met c.requires.ready in
     at.number
 
 pub define-requires-clause-on : goal.define-requires-clause-on
@@ -120,8 +123,9 @@ define-requires-clause-on g c =
     let found = laid-found shape known inside.parts.items 0 c.deref.result.now
     c.index_of.result v.parts c.deref.ensures.value refl c.index_of.ensures c.in-Some.at
     c.in-Some.is laid c.index_mut.ensures.value in
-    let at = catalog-at g.B.Blocks.tells v c.args.self.now c.self.view_is place bytes a catalog
-    found c.requires.set c.requires.place c.requires.item c.requires.met c.requires.ready in
+    let at = catalog-at g.B.Blocks.tells (λ s. IsEntryReady s place bytes a) v c.args.self.now
+    c.self.view_is place bytes a catalog found c.requires.set c.requires.place c.requires.item
+    c.requires.met c.requires.ready in
     at.on
 
 pub define-requires-clause-place : goal.define-requires-clause-place
@@ -145,8 +149,9 @@ define-requires-clause-place g c =
     let found = laid-found shape known inside.parts.items 0 c.deref.result.now
     c.index_of.result v.parts c.deref.ensures.value refl c.index_of.ensures c.in-Some.at
     c.in-Some.is laid c.index_mut.ensures.value in
-    let at = catalog-at g.B.Blocks.tells v c.args.self.now c.self.view_is place bytes a catalog
-    found c.requires.set c.requires.place c.requires.item c.requires.met c.requires.ready in
+    let at = catalog-at g.B.Blocks.tells (λ s. IsEntryReady s place bytes a) v c.args.self.now
+    c.self.view_is place bytes a catalog found c.requires.set c.requires.place c.requires.item
+    c.requires.met c.requires.ready in
     at.place_is
 
 pub define-requires-clause-record : goal.define-requires-clause-record
@@ -170,8 +175,9 @@ define-requires-clause-record g c =
     let found = laid-found shape known inside.parts.items 0 c.deref.result.now
     c.index_of.result v.parts c.deref.ensures.value refl c.index_of.ensures c.in-Some.at
     c.in-Some.is laid c.index_mut.ensures.value in
-    let at = catalog-at g.B.Blocks.tells v c.args.self.now c.self.view_is place bytes a catalog
-    found c.requires.set c.requires.place c.requires.item c.requires.met c.requires.ready in
+    let at = catalog-at g.B.Blocks.tells (λ s. IsEntryReady s place bytes a) v c.args.self.now
+    c.self.view_is place bytes a catalog found c.requires.set c.requires.place c.requires.item
+    c.requires.met c.requires.ready in
     at.item
 
 pub define-requires-clause-met : goal.define-requires-clause-met
@@ -195,8 +201,9 @@ define-requires-clause-met g c =
     let found = laid-found shape known inside.parts.items 0 c.deref.result.now
     c.index_of.result v.parts c.deref.ensures.value refl c.index_of.ensures c.in-Some.at
     c.in-Some.is laid c.index_mut.ensures.value in
-    let at = catalog-at g.B.Blocks.tells v c.args.self.now c.self.view_is place bytes a catalog
-    found c.requires.set c.requires.place c.requires.item c.requires.met c.requires.ready in
+    let at = catalog-at g.B.Blocks.tells (λ s. IsEntryReady s place bytes a) v c.args.self.now
+    c.self.view_is place bytes a catalog found c.requires.set c.requires.place c.requires.item
+    c.requires.met c.requires.ready in
     at.met
 
 pub define-requires-clause-rests : goal.define-requires-clause-rests
@@ -220,8 +227,9 @@ define-requires-clause-rests g c told =
     let found = laid-found shape known inside.parts.items 0 c.deref.result.now
     c.index_of.result v.parts c.deref.ensures.value refl c.index_of.ensures c.in-Some.at
     c.in-Some.is laid c.index_mut.ensures.value in
-    let at = catalog-at g.B.Blocks.tells v c.args.self.now c.self.view_is place bytes a catalog
-    found c.requires.set c.requires.place c.requires.item c.requires.met c.requires.ready in
+    let at = catalog-at g.B.Blocks.tells (λ s. IsEntryReady s place bytes a) v c.args.self.now
+    c.self.view_is place bytes a catalog found c.requires.set c.requires.place c.requires.item
+    c.requires.met c.requires.ready in
     (at.ready told).rests
 
 pub define-requires-clause-room : goal.define-requires-clause-room
@@ -245,8 +253,9 @@ define-requires-clause-room g c told =
     let found = laid-found shape known inside.parts.items 0 c.deref.result.now
     c.index_of.result v.parts c.deref.ensures.value refl c.index_of.ensures c.in-Some.at
     c.in-Some.is laid c.index_mut.ensures.value in
-    let at = catalog-at g.B.Blocks.tells v c.args.self.now c.self.view_is place bytes a catalog
-    found c.requires.set c.requires.place c.requires.item c.requires.met c.requires.ready in
+    let at = catalog-at g.B.Blocks.tells (λ s. IsEntryReady s place bytes a) v c.args.self.now
+    c.self.view_is place bytes a catalog found c.requires.set c.requires.place c.requires.item
+    c.requires.met c.requires.ready in
     subst (λ (n : PartNo). HasKeptRoom catalog.shape (lengths_kept (images_in v.undo) n.0) a)
     (sym at.number) (at.ready told).room
 
@@ -271,8 +280,9 @@ define-requires-clause-knows g c told =
     let found = laid-found shape known inside.parts.items 0 c.deref.result.now
     c.index_of.result v.parts c.deref.ensures.value refl c.index_of.ensures c.in-Some.at
     c.in-Some.is laid c.index_mut.ensures.value in
-    let at = catalog-at g.B.Blocks.tells v c.args.self.now c.self.view_is place bytes a catalog
-    found c.requires.set c.requires.place c.requires.item c.requires.met c.requires.ready in
+    let at = catalog-at g.B.Blocks.tells (λ s. IsEntryReady s place bytes a) v c.args.self.now
+    c.self.view_is place bytes a catalog found c.requires.set c.requires.place c.requires.item
+    c.requires.met c.requires.ready in
     (at.ready told).knows
 
 pub define-requires-clause-can : goal.define-requires-clause-can
@@ -296,8 +306,9 @@ define-requires-clause-can g c told =
     let found = laid-found shape known inside.parts.items 0 c.deref.result.now
     c.index_of.result v.parts c.deref.ensures.value refl c.index_of.ensures c.in-Some.at
     c.in-Some.is laid c.index_mut.ensures.value in
-    let at = catalog-at g.B.Blocks.tells v c.args.self.now c.self.view_is place bytes a catalog
-    found c.requires.set c.requires.place c.requires.item c.requires.met c.requires.ready in
+    let at = catalog-at g.B.Blocks.tells (λ s. IsEntryReady s place bytes a) v c.args.self.now
+    c.self.view_is place bytes a catalog found c.requires.set c.requires.place c.requires.item
+    c.requires.met c.requires.ready in
     subst (λ (n : PartNo). CanSet catalog.shape catalog.known a.cur
     (lengths_kept (images_in v.undo) n.0) place (Some bytes)) (sym at.number)
     (at.ready told).can
