@@ -40,7 +40,7 @@ named-new : (new : CatEntry) → IsTrue (is_entry new)
 named-new new is = record { entry = new; entry_is = is; item_is = refl; place_is = refl }
 
 -- an item of the catalog is that of its entry
-entry-first : (placed : Placed) (content : Content) → (named : IsNamed placed)
+pub entry-first : (placed : Placed) (content : Content) → (named : IsNamed placed)
     → entries_in (placed ∷ content) ≡ named.entry ∷ entries_in content
 entry-first placed content named =
     ap (λ (o : Option CatEntry). cons_option o (entries_in content))
@@ -137,21 +137,21 @@ all-with P new (entry ∷ entries) one all =
     by-test false rest = (all.0, rest)
 
 -- what none of the entries has, and the new one hasn't, none of all has
-abbrev IsApart : ℕ → CatEntry → Type 0
+abbrev pub IsApart : ℕ → CatEntry → Type 0
 IsApart part entry = nat_eq part entry.part.0 ≡ false
 
-parts-apart : (part : ℕ) (entries : List CatEntry) → AllByRecursion (IsApart part) entries
+pub parts-apart : (part : ℕ) (entries : List CatEntry) → AllByRecursion (IsApart part) entries
     → AllByRecursion (λ (other : ℕ). nat_eq part other ≡ false) (parts_in entries)
 parts-apart part [] all = tt
 parts-apart part (entry ∷ entries) all = (all.0, parts-apart part entries all.1)
 
-apart-parts : (part : ℕ) (entries : List CatEntry)
+pub apart-parts : (part : ℕ) (entries : List CatEntry)
     → AllByRecursion (λ (other : ℕ). nat_eq part other ≡ false) (parts_in entries)
     → AllByRecursion (IsApart part) entries
 apart-parts part [] all = tt
 apart-parts part (entry ∷ entries) all = (all.0, apart-parts part entries all.1)
 
-eq-flips : (m n : ℕ) → nat_eq m n ≡ false → nat_eq n m ≡ false
+pub eq-flips : (m n : ℕ) → nat_eq m n ≡ false → nat_eq n m ≡ false
 eq-flips m n apart = grind (arith, nat_tests, apart)
 
 -- a part that no entry has differs from that of each
@@ -190,7 +190,7 @@ distinct-with new (entry ∷ entries) apart distinct =
     )
 
 -- the records spell entries
-spelled-named : (content : Content) → AllByRecursion IsNamed content
+pub spelled-named : (content : Content) → AllByRecursion IsNamed content
     → AllByRecursion (λ (placed : List ℕ × List ℕ). IsTrue (is_some (entry_of placed.1)))
     (records_of content)
 spelled-named [] named = tt
@@ -202,7 +202,7 @@ spelled-named ((place, Standing bytes) ∷ content) named =
       spelled-named content named.1,
     )
 
-named-with : (new : CatEntry) → IsTrue (is_entry new) → (content : Content)
+pub named-with : (new : CatEntry) → IsTrue (is_entry new) → (content : Content)
     → AllByRecursion IsNamed content
     → AllByRecursion IsNamed (with_item content (entry_place new) (Standing (spelling new)))
 named-with new is [] named = (named-new new is, tt)
@@ -218,7 +218,7 @@ named-with new is (placed ∷ content) named =
     by-order Greater rest = (named.0, rest)
 
 -- an entry of clusters alone keeps its rules whatever the others are
-entry-alone : (geometry : Geometry) (entries others : List CatEntry) (entry : CatEntry)
+pub entry-alone : (geometry : Geometry) (entries others : List CatEntry) (entry : CatEntry)
     → entry.entry_kind ≡ Cluster → IsEntryOf geometry entries entry
     → IsEntryOf geometry others entry
 entry-alone geometry entries others entry kind is = record {
@@ -233,7 +233,7 @@ entry-alone geometry entries others entry kind is = record {
       (related_in entries entry))) kind is.sizes);
 }
 
-each-alone : (geometry : Geometry) (entries others these : List CatEntry)
+pub each-alone : (geometry : Geometry) (entries others these : List CatEntry)
     → AllByRecursion (λ (entry : CatEntry). entry.entry_kind ≡ Cluster) these
     → AllByRecursion (IsEntryOf geometry entries) these
     → AllByRecursion (IsEntryOf geometry others) these

@@ -24,6 +24,7 @@ pub mod ClaimedAreas
 pub mod Replied
 pub mod MetParts
 pub mod RecordShapes
+pub mod RecordWalk
 pub mod WeighsAt
 pub mod PartKinds
 pub mod SpaceHeld
@@ -49,6 +50,8 @@ pub mod Acted
 pub mod CallerLemmas
 pub mod OpenedAreas
 pub mod ClusterRecords
+pub mod CountedAreas
+pub mod CountedStates
 pub mod ClusterCatalogs
 pub mod ClusterItems
 pub mod NewClusters
@@ -61,3 +64,13 @@ pub mod Prepared
 pub mod AddedClusters
 pub mod AskedClusters
 pub mod Unlaid
+pub mod EntryChangeLists
+pub mod EntryChangeContents
+pub mod EntryChangeRoom
+pub mod EntryChangeAreas
+pub mod EntryChangeStates
+pub mod EntryChangeCome
+pub mod EntryChangePrepared
+pub mod EntryChangeMade
+pub mod EntryChangeStage
+pub mod EntryChangeAsked

@@ -29,11 +29,11 @@ use Rattle.vr_start.specs.Startable.{IsStartable}
 use Rattle.vr_start.proofs.CallerLemmas.{cluster-can-start}
 use Rattle.vr_event.specs.Defining.{IsNewCluster, entry_with_area}
 
-and_left : (a b : Bool) → (a && b) ≡ true → a ≡ true
+pub and_left : (a b : Bool) → (a && b) ≡ true → a ≡ true
 and_left true b is = refl
 and_left false b is = is
 
-and_right : (a b : Bool) → (a && b) ≡ true → b ≡ true
+pub and_right : (a b : Bool) → (a && b) ≡ true → b ≡ true
 and_right true b is = is
 and_right false b is = absurd cc
 

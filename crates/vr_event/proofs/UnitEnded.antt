@@ -61,7 +61,7 @@ unlaid geometry part entries none = by_test (part == 0) refl none
         ∙ ap (option_and_then (shape_of geometry)) (none_with part entries none)
 
 -- each area is of a part of the catalog
-all_owned : (parts : List ℕ) (owned : List Owned)
+pub all_owned : (parts : List ℕ) (owned : List Owned)
     → AllByRecursion (λ (o : Owned). has_part parts o.part ≡ true) owned
     → filter (λ (o : Owned). has_part parts o.part) owned ≡ owned
 all_owned parts [] are = refl
@@ -193,7 +193,8 @@ held-ended seen opening volume to store blocks after unit line request is leaves
     let state = state-ended opening volume.file to after unit line request is leaves in
     let owned : (state_now opening to).owned ≡ before.owned =
     ap (λ (s : State). s.owned) state
-    ∙ ended-owned before unit volume.file.catalog held.file.now.catalog held.file.now.owned in
+    ∙ ended-owned before unit volume.file.catalog held.file.now.catalog
+    (held.file.now.owned going) in
     let geometry : to.geometry ≡ volume.file.geometry =
     ap (λ (f : FileNow). f.geometry) leaves in
     record {

@@ -86,11 +86,21 @@ pub record HasComeHeld {B : Type 0} (seen : B → Seen) (opening : State) (after
   pub moments : Guards (seen old.blocks) (seen new.blocks) (IsLeftDefining
       old.store.log.geometry old.number opening after unit line entry old.file new.file)
 
--- where there is no room in the catalog
+-- There is no room in the catalog, and nothing that is tried before is in the way: neither a lock on
+-- the place of the record nor the log.
+pub record LacksCatalogRoom {B : Type 0} (seen : B → Seen) (entry : CatEntry) (old : VolumeNow B)
+    : Type 0 where
+  pub no_room : HasNoRoomAt old.store (seen old.blocks).cur (entry_place entry)
+  pub unlocked : first_conflict old.file.locks (utility_unit old.file) Exclusive
+      (entry_name (entry_place entry)) ≡ None
+  pub log : used_by old.store.log.records + need_to_define (entry_place entry)
+      ≤ log_size old.file.geometry
+
+-- where that is the answer
 abbrev pub LacksRoomWhere : {B : Type 0} → (B → Seen) → CatEntry → Result Define OutOfMemory
     → VolumeNow B → Type 0
-LacksRoomWhere seen entry result old = IfOk result (λ define. define ≡ NoRoom
-    → HasNoRoomAt old.store (seen old.blocks).cur (entry_place entry))
+LacksRoomWhere seen entry result old =
+    IfOk result (λ define. define ≡ NoRoom → LacksCatalogRoom seen entry old)
 
 -- ---- what a step answers
 

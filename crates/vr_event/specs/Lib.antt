@@ -1,4 +1,5 @@
 pub mod Cause
+pub mod Counts
 pub mod Volume
 pub mod Alike
 pub mod Getting
@@ -16,3 +17,6 @@ pub mod Numbers
 pub mod Defining
 pub mod NewCluster
 pub mod DefineSteps
+pub mod EntryChange
+pub mod ChangedEntry
+pub mod EntryChangeSteps

@@ -23,7 +23,7 @@ ghost use Rattle.vr_volume.specs.Crashes.{RecoversTo};
 ghost use Rattle.vr_store.specs.Change.{IsSettable};
 ghost use Rattle.vr_store.specs.Room.{IsDueAt, IsRoomAt};
 ghost use Rattle.vr_store.specs.Store.{shape_among};
-ghost use Rattle.vr_event.specs.Defining.{EnteredBy, FaultsBy, HasDefineFaults, HasNoRoomAt};
+ghost use Rattle.vr_event.specs.Defining.{EnteredBy, FaultsBy, HasDefineFaults};
 ghost use Rattle.vr_event.specs.Defining.{IsDefineEntered, IsLeftDefining, IsNewCluster};
 ghost use Rattle.vr_event.specs.Defining.{entry_place, entry_with_area, record_length};
 ghost use Rattle.vr_event.specs.Defining.{utility_unit};
@@ -77,7 +77,7 @@ impl<B: Blocks, P: Part> Volume<B, P> {
 
     /// Enters a fault of a write that met a definition of which nothing was done, which stops the
     /// volume. It takes no memory.
-    fn enter_fault(&mut self, unit: Unit, line: u32, after: u64)
+    pub(crate) fn enter_fault(&mut self, unit: Unit, line: u32, after: u64)
         requires room { 0 < self.old.file.room }
         requires last { last_stamp 0 self.old.file.entries < 2 ^ 64 - 2 }
         requires after { after < 2 ^ 64 - 2 }
@@ -96,7 +96,7 @@ impl<B: Blocks, P: Part> Volume<B, P> {
     }
 
     /// Asks for room for a record in the catalog. A fault is the device's.
-    fn ask_entry(&mut self, place: &Place) -> Result<Room, DeviceFault>
+    pub(crate) fn ask_entry(&mut self, place: &Place) -> Result<Room, DeviceFault>
         requires whole { IsWhole B.seen self.old }
         requires going { self.old.file.stopped ≡ None }
         requires place { length place.now ≡ 44 }
@@ -125,7 +125,7 @@ impl<B: Blocks, P: Part> Volume<B, P> {
     /// Does the stage of the catalog that comes before a record, and enters that an interval was
     /// split in two, or that the catalog took an area, where it was. A fault of a write stops the
     /// volume.
-    fn stage_entry(&mut self, unit: Unit, line: u32, place: &Place, after: u64) -> Define
+    pub(crate) fn stage_entry(&mut self, unit: Unit, line: u32, place: &Place, after: u64) -> Define
         requires whole { IsWhole B.seen self.old }
         requires going { self.old.file.stopped ≡ None }
         requires room { 0 < self.old.file.room }
@@ -145,6 +145,8 @@ impl<B: Blocks, P: Part> Volume<B, P> {
             (RecoversTo self.old.store.log.geometry self.old.number
             (state_now opening self.old.file) []) }
         ensures is { IsStageOrFault result }
+        ensures stops { result ≡ defines.Fault Write
+            → self.new.file ≡ faulted after unit line self.old.file }
         ensures cause { FaultsBy result (B.faults self.old.blocks) (B.faults self.new.blocks) }
         ensures number { self.new.number ≡ self.old.number }
         ensures generation { self.new.store.log.generation ≡ self.old.store.log.generation }
@@ -483,8 +485,7 @@ impl<B: Blocks, P: Start + Drop> Volume<B, P> {
             → area.0 < area_count self.old.file.geometry) }
         ensures no_area { IfOk result (λ define. define ≡ defines.NoArea
             → least_free self.old.store.space ≡ None) }
-        ensures no_room { IsTrue B.tells → IfOk result (λ define. define ≡ defines.NoRoom
-            → HasNoRoomAt self.old.store (B.seen self.old.blocks).cur (entry_place entry.now)) }
+        ensures no_room { IsTrue B.tells → LacksRoomWhere B.seen entry.now result self.old }
         ensures kept_out { IfOk result (λ define. define ≡ defines.Held
             → first_conflict self.old.file.locks (utility_unit self.old.file) Exclusive
             (entry_name (entry_place entry.now)) ≢ None) }

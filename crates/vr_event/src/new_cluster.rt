@@ -38,7 +38,7 @@ pub(crate) struct NewCluster {
 }
 
 /// The record of an entry.
-fn record_of(entry: &CatEntry) -> [u8; RECORD_LENGTH]
+pub(crate) fn record_of(entry: &CatEntry) -> [u8; RECORD_LENGTH]
     ensures value { result ≡ spelling entry.now }
     ensures length { length result ≡ 204 }
 {
@@ -48,7 +48,7 @@ fn record_of(entry: &CatEntry) -> [u8; RECORD_LENGTH]
 }
 
 /// The place of a record, with which it begins.
-fn place_in(record: &[u8]) -> &[u8]
+pub(crate) fn place_in(record: &[u8]) -> &[u8]
     requires { length record.now ≡ 204 }
     ensures { result.now ≡ key_of catalog_definition record.now }
 {

@@ -93,7 +93,7 @@ fn place_named(find: &Find) -> Option<&Place>
 }
 
 /// How many bytes a place of a part has at most.
-fn place_room(catalog: &Catalog, part: PartNo) -> u32
+pub(crate) fn place_room(catalog: &Catalog, part: PartNo) -> u32
     ensures { result ≡ searching.place_room catalog.now part.0 }
 {
     match catalog.definition_of(part) {
@@ -128,7 +128,7 @@ fn lesser(
 /// The least place of a part of a store with a record that a search may find; None where there is
 /// none, or no such part. `Fault` is the device's, and `Memory` says that memory ran out for the
 /// place.
-fn next_place<B: Blocks, P: Part>(
+pub(crate) fn next_place<B: Blocks, P: Part>(
     alloc: Global,
     blocks: &mut B,
     store: &mut Store<P>,

@@ -1,10 +1,18 @@
-use Rattle.std.proofs.Common.{ap}
+use Rattle.std.proofs.Common.{◌≡◌, ◌+◌, ◌≤◌, ℕ, List, None, ap, subst}
+use Rattle.vr_types.specs.Locks.{first_conflict}
+use Rattle.vr_types.specs.LogSpace.{log_size}
+use Rattle.vr_types.specs.declared.lock_name.LockName.{LockName}
+use Rattle.vr_types.specs.declared.unit.Mode.TheVariants.{Exclusive}
+use Rattle.vr_types.specs.declared.unit.Unit.{Unit as UnitOfRecovery}
+use Rattle.vr_log.specs.Live.{used_by}
+use Rattle.vr_record_file.specs.Defining.{need_to_define}
 use Rattle.vr_event.proofs.AskedClusters.{asked-held, come-asked, come-no-room, come-staged}
 use Rattle.vr_event.proofs.AskedClusters.{come-unread, come-unwritten, fault-held, file-held}
 use Rattle.vr_event.proofs.AskedClusters.{holds-later, room-lacks, room-settable, staged-held}
 use Rattle.vr_event.proofs.DefineCome.{come-held-after}
-use Rattle.vr_event.proofs.Prepared.{prepared-at, prepared-length, prepared-place}
+use Rattle.vr_event.proofs.Prepared.{prepared-at, prepared-length, prepared-name, prepared-place}
 use Rattle.vr_event.proofs.volume.Volume.define_asked.Goals as goal
+use Rattle.vr_event.specs.Defining.{utility_unit}
 use Rattle.vr_store.specs.Store.{StoreNow}
 
 pub ask_entry-requires-clause-place : goal.ask_entry-requires-clause-place
@@ -47,11 +55,24 @@ returns-in-Stage-clause-held g c told opening held =
     (c.stage_entry-staged.ensures.moments told opening then)
 
 pub returns-in-NoSpace-clause-no_room : goal.returns-in-NoSpace-clause-no_room
-returns-in-NoSpace-clause-no_room g c told is = room-lacks c.args.self.now.store
-    (g.B.Blocks.seen c.args.self.now.blocks).cur c.args.new.place _ c.in-Ok.room c.in-NoSpace.need
-    c.in-NoSpace.free (c.in-Ok.ensures.answer told) c.in-NoSpace.is
-    (prepared-at c.args.self.now.number c.args.self.now.file.catalog c.args.entry.now c.args.new
-    c.requires.ready.new_is)
+returns-in-NoSpace-clause-no_room g c told is =
+    let volume = c.args.self.now in
+    let ready = c.requires.ready in
+    let at = prepared-at volume.number volume.file.catalog c.args.entry.now c.args.new
+    ready.new_is in
+    record {
+      no_room = room-lacks volume.store (g.B.Blocks.seen volume.blocks).cur c.args.new.place _
+          c.in-Ok.room c.in-NoSpace.need c.in-NoSpace.free (c.in-Ok.ensures.answer told)
+          c.in-NoSpace.is at;
+      unlocked = subst (λ (n : LockName).
+          first_conflict volume.file.locks (utility_unit volume.file) Exclusive n ≡ None)
+          (prepared-name volume.number volume.file.catalog c.args.entry.now c.args.new ready.new_is)
+          (subst (λ (u : UnitOfRecovery).
+          first_conflict volume.file.locks u Exclusive c.args.new.name ≡ None) ready.unit_is
+          ready.unlocked);
+      log = subst (λ (place : List ℕ). used_by volume.store.log.records + need_to_define place
+          ≤ log_size volume.file.geometry) at ready.log;
+    }
 
 pub returns-in-NoSpace-clause-held : goal.returns-in-NoSpace-clause-held
 returns-in-NoSpace-clause-held g c told opening held = asked-held g.B.Blocks.seen opening

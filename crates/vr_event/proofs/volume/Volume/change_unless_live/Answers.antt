@@ -1,0 +1,44 @@
+use Rattle.std.proofs.Common.{◌≡◌, ◌∙◌, None, ap, subst, sym}
+use Rattle.std.specs.Option.{option_copied}
+use Rattle.vr_types.proofs.CallerLemmas.{keeps-none}
+use Rattle.vr_log.specs.Live.{live_in}
+use Rattle.vr_event.specs.Defining.{utility_unit}
+use Rattle.vr_event.specs.Volume.{IsWhole, VolumeNow}
+use Rattle.vr_event.proofs.EntryChangeCome.{come-live, still-held}
+use Rattle.vr_event.proofs.volume.Volume.change_unless_live.Goals as goal
+
+pub is_idle-requires : goal.is_idle-requires
+is_idle-requires g c =
+    let seen = g.B.Blocks.seen in
+    let before : VolumeNow g.row.B.Denot = record {
+      blocks = c.self.inside.blocks;
+      number = c.self.inside.number;
+      store = c.self.inside.store;
+      file = c.self.inside.file;
+    } in
+    let goes : before.file.stopped ≡ None =
+    ap (λ (v : VolumeNow g.row.B.Denot). v.file.stopped) c.self.view_is ∙ c.requires.may.going in
+    ((subst (IsWhole seen) (sym c.self.view_is) c.requires.may.whole).set goes).sound
+
+pub returns-else-is_idle-clause-come : goal.returns-else-is_idle-clause-come
+returns-else-is_idle-clause-come g c = come-live g.B.Blocks.seen c.args.after
+    (utility_unit c.args.self.now.file) c.args.line c.args.entry.now (option_copied c.args.new)
+    c.args.self.now c.requires.may.whole
+    (λ none. c.is_idle.ensures.live c.if-is_idle.false
+    (ap (λ (v : VolumeNow g.row.B.Denot). live_in v.store.log.records) c.self.view_is ∙ none))
+
+pub returns-else-is_idle-clause-held : goal.returns-else-is_idle-clause-held
+returns-else-is_idle-clause-held g c told opening held = still-held g.B.Blocks.seen c.args.after
+    (utility_unit c.args.self.now.file) c.args.line c.args.entry.now (option_copied c.args.new)
+    opening c.args.self.now g.B.Blocks.tells told
+    (keeps-none g.B.Blocks.tells (g.B.Blocks.seen c.args.self.now.blocks)
+    (λ told image is. g.met.B.Blocks.images_may c.args.self.now.blocks image told is))
+    c.requires.may.going held
+
+pub returns-in_err-changed-clause-held : goal.returns-in_err-changed-clause-held
+returns-in_err-changed-clause-held g c told opening held = still-held g.B.Blocks.seen
+    c.args.after (utility_unit c.args.self.now.file) c.args.line c.args.entry.now
+    (option_copied c.args.new) opening c.args.self.now g.B.Blocks.tells told
+    (keeps-none g.B.Blocks.tells (g.B.Blocks.seen c.args.self.now.blocks)
+    (λ told image is. g.met.B.Blocks.images_may c.args.self.now.blocks image told is))
+    c.requires.may.going held

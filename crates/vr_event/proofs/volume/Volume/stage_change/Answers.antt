@@ -1,0 +1,24 @@
+use Rattle.std.proofs.Common.{subst, sym}
+use Rattle.vr_event.specs.EntryChange.{ChangeFaultsBy, EnteredChange}
+use Rattle.vr_event.specs.declared.entry_change.EntryChange.{EntryChange}
+use Rattle.vr_event.proofs.EntryChangeStage.{stage-entered, stage-faults}
+use Rattle.vr_event.proofs.volume.Volume.stage_change.Goals as goal
+
+pub returns-clause-entered : goal.returns-clause-entered
+returns-clause-entered g c entry to =
+    let old = c.args.self.now in
+    let new = c.stage_entry-staged.new.self in
+    subst (λ (change : EntryChange). EnteredChange change old.number c.args.after c.args.unit
+    c.args.line entry to old.file new.file) (sym c.as_change.ensures.value)
+    (stage-entered old.number c.args.after c.args.unit c.args.line entry to old.file new.file
+    c.stage_entry-staged.result c.stage_entry-staged.ensures.is
+    (c.stage_entry-staged.ensures.entered entry) c.stage_entry-staged.ensures.stops)
+
+pub returns-clause-cause : goal.returns-clause-cause
+returns-clause-cause g c =
+    let before = g.B.Blocks.faults c.args.self.now.blocks in
+    let now = g.B.Blocks.faults c.stage_entry-staged.new.self.blocks in
+    subst (λ (change : EntryChange). ChangeFaultsBy change before now)
+    (sym c.as_change.ensures.value)
+    (stage-faults c.stage_entry-staged.result before now c.stage_entry-staged.ensures.is
+    c.stage_entry-staged.ensures.cause)
