@@ -1,2 +1,4 @@
 mod NameOrders
+mod Placing
 mod WorkedDetails
+mod WorkedLines

@@ -1,21 +1,20 @@
 -- Entries by their names are what a stable sort by name leaves.
 use Rattle.std.proofs.Common.{◌≡◌, ℕ, Bool, true, false, List, not, refl}
-use Rattle.std.specs.Borrow.{Bor}
 use Rattle.std.specs.Cmp.{IsStrictWeakOrder}
 use Rattle.std.specs.List.Sorted.{IsSortedBy, IsStableBy}
 use Rattle.std.specs.Ordering.{is_lt}
 use Rattle.std.proofs.lemmas.Cmp.{nat_list_cmp_total}
 use Rattle.std.proofs.lemmas.List.Sorted.{ranks_by}
 use Rattle.vr_types.specs.Content.{place_cmp}
-use Rattle.vr_catalog.specs.declared.entry.CatEntry.{CatEntry}
 use Rattle.vr_trace.proofs.CallerLemmas.{IsInsertion, sorted_views}
-use Rattle.vr_ams_list.specs.Held.{held_entries}
+use Rattle.vr_ams_list.specs.Held.{held_entries, held_one}
 use Rattle.vr_ams_list.specs.Listing.{by_name, comes_before, entered}
+use Rattle.vr_ams_list.specs.declared.listed.Held.{Held}
 
-abbrev name_of : Bor CatEntry → List ℕ
-name_of entry = entry.now.name
+abbrev name_of : Held → List ℕ
+name_of held = held.entry.now.name
 
-abbrev pub less : Bor CatEntry → Bor CatEntry → Bool
+abbrev pub less : Held → Held → Bool
 less x y = is_lt (place_cmp (name_of x) (name_of y))
 
 pub less_order : IsStrictWeakOrder less
@@ -34,12 +33,12 @@ twice true = refl
 twice false = refl
 
 -- one is less than another where the other doesn't come before it
-less_is : (x y : Bor CatEntry) → less y x ≡ not (comes_before x.now y.now)
+less_is : (x y : Held) → less y x ≡ not (comes_before (held_one x) (held_one y))
 less_is x y = twice (less y x)
 
 -- what the sort leaves
-pub sorted_entries : (xs ys : List (Bor CatEntry)) → IsSortedBy less ys → IsStableBy less xs ys
+pub sorted_entries : (xs ys : List Held) → IsSortedBy less ys → IsStableBy less xs ys
     → held_entries ys ≡ by_name (held_entries xs)
 sorted_entries xs ys sorted stable =
-    sorted_views less (λ entry. entry.now) comes_before entered by_name insertion less_is
+    sorted_views less held_one comes_before entered by_name insertion less_is
     less_order xs ys sorted stable

@@ -7,10 +7,10 @@ use Rattle.vr_types.specs.declared.unit.Kind.TheVariants.{Keyed}
 use Rattle.vr_catalog.specs.declared.entry.CatEntry.{CatEntry}
 use Rattle.vr_catalog.specs.declared.entry.EntryKind.TheVariants.{Cluster, Alternate, Path}
 use Rattle.vr_catalog.specs.declared.entry.SpaceUnit.TheVariants.{Unstated, Cylinders}
-use Rattle.vr_ams_list.specs.declared.details.Numbers.{Numbers}
+use Rattle.vr_trace.specs.declared.statistics.Statistics.{Statistics}
 use Rattle.vr_ams_list.specs.Details.{details_of}
 
-master : CatEntry
+unfoldable pub master : CatEntry
 master = record {
   name = codes "PAY.MASTER";
   entry_kind = Cluster;
@@ -75,7 +75,7 @@ path_over part = record index {
   related = Some (record { 0 = part });
 }
 
-counted : Numbers
+unfoldable pub counted : Statistics
 counted = record { records = 1000; areas = 3; interval_splits = 12; area_splits = 2 }
 
 entries : List CatEntry

@@ -13,7 +13,7 @@ use Rattle.vr_catalog.specs.declared.entry.SpaceUnit.TheVariants.{Unstated, Cyli
 use Rattle.vr_catalog.specs.declared.entry.SpaceUnit.TheVariants.{Records}
 use Rattle.vr_catalog.specs.Catalog.{entry_with_part}
 use Rattle.vr_trace.specs.Lines.{field}
-use Rattle.vr_ams_list.specs.declared.details.Numbers.{Numbers}
+use Rattle.vr_trace.specs.declared.statistics.Statistics.{Statistics}
 
 -- a keyword and two numbers
 abbrev pub field_pair : List ℕ → ℕ → ℕ → List ℕ
@@ -73,13 +73,13 @@ class_line entry = codes "  CLASSES" ++ class_text entry.storage_class
     ++ class_text entry.data_class ++ class_text entry.management_class ++ 10 ∷ []
 
 -- what is counted: records, data areas, and splits of control intervals and of control areas
-abbrev pub count_line : Numbers → List ℕ
+abbrev pub count_line : Statistics → List ℕ
 count_line numbers = field (codes "  RECORDS ") numbers.records
     ++ field (codes " AREAS ") numbers.areas ++ field (codes " SPLITS CI ") numbers.interval_splits
     ++ field (codes " CA ") numbers.area_splits ++ 10 ∷ []
 
 -- what a data set has: a cluster, or an alternate index
-abbrev pub data_lines : List ℕ → CatEntry → Numbers → List ℕ
+abbrev pub data_lines : List ℕ → CatEntry → Statistics → List ℕ
 data_lines kind entry numbers = kind_line kind entry ++ share_line entry ++ space_line entry
     ++ component_lines entry ++ class_line entry ++ count_line numbers
 
@@ -92,16 +92,16 @@ related_name catalog entry = option_map (λ (related : CatEntry). related.name)
 abbrev pub related_line : List CatEntry → CatEntry → List ℕ
 related_line catalog entry = named_line (codes "  RELATED ") (related_name catalog entry)
 
-abbrev pub alternate_lines : List CatEntry → CatEntry → Numbers → List ℕ
+abbrev pub alternate_lines : List CatEntry → CatEntry → Statistics → List ℕ
 alternate_lines catalog entry numbers =
     data_lines (codes "AIX") entry numbers ++ related_line catalog entry
 
-abbrev pub details_by : EntryKind → List CatEntry → CatEntry → Numbers → List ℕ
+abbrev pub details_by : EntryKind → List CatEntry → CatEntry → Statistics → List ℕ
 details_by Cluster catalog entry numbers =
     data_lines (cluster_kind (unwrap_or entry.kind Keyed)) entry numbers
 details_by Alternate catalog entry numbers = alternate_lines catalog entry numbers
 details_by Path catalog entry numbers = related_line catalog entry
 
 -- the lines below the name of an entry of a catalog
-abbrev pub details_of : List CatEntry → CatEntry → Numbers → List ℕ
+abbrev pub details_of : List CatEntry → CatEntry → Statistics → List ℕ
 details_of catalog entry numbers = details_by entry.entry_kind catalog entry numbers

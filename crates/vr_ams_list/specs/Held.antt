@@ -1,7 +1,10 @@
 -- How entries are held that stay in their catalogs.
 use Rattle.std.specs.Prelude.{List, map}
-use Rattle.std.specs.Borrow.{Bor}
-use Rattle.vr_catalog.specs.declared.entry.CatEntry.{CatEntry}
+use Rattle.vr_ams_list.specs.Listing.{Listed}
+use Rattle.vr_ams_list.specs.declared.listed.Held.{Held}
 
-abbrev pub held_entries : List (Bor CatEntry) → List CatEntry
-held_entries entries = map (λ (entry : Bor CatEntry). entry.now) entries
+abbrev pub held_one : Held → Listed
+held_one held = record { volume = held.volume; entry = held.entry.now }
+
+abbrev pub held_entries : List Held → List Listed
+held_entries entries = map held_one entries

@@ -6,18 +6,8 @@ ghost use Rattle.vr_ams_list.specs.Details as stated;
 
 use std::alloc::Global;
 use vr_catalog::{CatEntry, Catalog, EntryKind, SpaceUnit};
-use vr_trace::{NEW_LINE, write_field};
+use vr_trace::{NEW_LINE, Statistics, write_field};
 use vr_types::{Bytes, Kind, Name, OutOfMemory};
-
-/// What LISTCAT ALL counts of a data set: its records, its data areas, and the splits of its
-/// control intervals and of its control areas.
-#[derive(Clone, Copy)]
-pub struct Numbers {
-    pub records: u64,
-    pub areas: u64,
-    pub interval_splits: u64,
-    pub area_splits: u64,
-}
 
 /// Adds the lines of LISTCAT ALL below the name of an entry of the catalog, after Access Method
 /// Services Commands: of a cluster and an alternate index what was stated of it, and what is
@@ -29,7 +19,7 @@ pub fn write_details(
     out: &mut Bytes,
     catalog: &Catalog,
     entry: &CatEntry,
-    numbers: &Numbers,
+    numbers: &Statistics,
 ) -> Result<(), OutOfMemory>
     ensures { OnOk result
         (out.new ≡ out.old ++ stated.details_of catalog.now entry.now numbers.now) }
@@ -58,7 +48,7 @@ fn write_alternate(
     out: &mut Bytes,
     catalog: &Catalog,
     entry: &CatEntry,
-    numbers: &Numbers,
+    numbers: &Statistics,
 ) -> Result<(), OutOfMemory>
     ensures { OnOk result
         (out.new ≡ out.old ++ stated.alternate_lines catalog.now entry.now numbers.now) }
@@ -73,7 +63,7 @@ fn write_data(
     out: &mut Bytes,
     kind: &[u8],
     entry: &CatEntry,
-    numbers: &Numbers,
+    numbers: &Statistics,
 ) -> Result<(), OutOfMemory>
     ensures { OnOk result (out.new ≡ out.old ++ stated.data_lines kind.now entry.now numbers.now) }
 {
@@ -204,7 +194,7 @@ fn write_class(out: &mut Bytes, class: &Option<Name>) -> Result<(), OutOfMemory>
 }
 
 /// Writes what is counted.
-fn write_counts(alloc: Global, out: &mut Bytes, numbers: &Numbers) -> Result<(), OutOfMemory>
+fn write_counts(alloc: Global, out: &mut Bytes, numbers: &Statistics) -> Result<(), OutOfMemory>
     ensures { OnOk result (out.new ≡ out.old ++ stated.count_line numbers.now) }
 {
     write_field(alloc, out, b"  RECORDS ", numbers.records)?;

@@ -66,7 +66,7 @@ fn has_stopped<V: ShownVolume>(volumes: &[V], names: &[Name]) -> bool
 
 /// Why LISTCAT of these names is refused, if it is. A missing name goes before a volume that has
 /// stopped.
-pub(crate) fn failure_of<V: ShownVolume>(volumes: &[V], names: &[Name]) -> Option<Failure>
+pub fn list_failure<V: ShownVolume>(volumes: &[V], names: &[Name]) -> Option<Failure>
     ensures { result ≡ stated.failure_of (map V.shown volumes.now) names.now }
 {
     if is_missing(volumes, names) {

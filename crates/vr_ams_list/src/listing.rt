@@ -4,6 +4,7 @@ ghost use Rattle.std.specs.List.{flat_map};
 ghost use Rattle.vr_ams_list.specs.Held.{held_entries};
 ghost use Rattle.vr_ams_list.specs.Listing as stated;
 
+use crate::listed::Held;
 use crate::order::listed_entries;
 use std::alloc::Global;
 use vr_catalog::{CatEntry, EntryKind};
@@ -25,29 +26,37 @@ pub(crate) fn detail_lines<V: ShownVolume>(
 }
 
 /// A line for each entry, and how many they are.
-fn lines_of(alloc: Global, entries: &[&CatEntry]) -> Result<Bytes, OutOfMemory>
+fn lines_of(alloc: Global, entries: &[Held]) -> Result<Bytes, OutOfMemory>
     ensures { IfOk result (λ lines. lines ≡ stated.lines_of (held_entries entries.now)) }
 {
     let mut out = Bytes::new(alloc);
     write_entries(&mut out, entries)?;
-    write_field(alloc, &mut out, b"ENTRIES ", entries.len() as u64)?;
-    out.push(NEW_LINE)?;
+    write_total(alloc, &mut out, entries.len())?;
     Ok(out)
 }
 
-/// Writes a line for each entry.
-fn write_entries(out: &mut Bytes, entries: &[&CatEntry]) -> Result<(), OutOfMemory>
-    ensures { OnOk result
-        (out.new ≡ out.old ++ flat_map stated.entry_line (held_entries entries.now)) }
+/// Adds the line that says how many entries are listed. Out of memory is its one error, and may
+/// leave a part of the line.
+pub fn write_total(alloc: Global, out: &mut Bytes, count: usize) -> Result<(), OutOfMemory>
+    ensures { OnOk result (out.new ≡ out.old ++ stated.total_line count) }
 {
-    for entry in entries {
-        write_entry(out, entry)?;
+    write_field(alloc, out, b"ENTRIES ", count as u64)?;
+    out.push(NEW_LINE)
+}
+
+/// Writes a line for each entry.
+fn write_entries(out: &mut Bytes, entries: &[Held]) -> Result<(), OutOfMemory>
+    ensures { OnOk result
+        (out.new ≡ out.old ++ flat_map stated.name_line (held_entries entries.now)) }
+{
+    for held in entries {
+        write_entry(out, held.entry)?;
     }
     Ok(())
 }
 
 /// Writes the line of an entry.
-fn write_entry(out: &mut Bytes, entry: &CatEntry) -> Result<(), OutOfMemory>
+pub(crate) fn write_entry(out: &mut Bytes, entry: &CatEntry) -> Result<(), OutOfMemory>
     ensures { OnOk result (out.new ≡ out.old ++ stated.entry_line entry.now) }
 {
     out.extend(kind_word(entry.entry_kind))?;

@@ -4,6 +4,7 @@ ghost use Rattle.std.specs.List.{filter};
 ghost use Rattle.vr_ams_list.specs.Held.{held_entries};
 ghost use Rattle.vr_ams_list.specs.Listing as stated;
 
+use crate::listed::Held;
 use std::alloc::Global;
 use vr_catalog::CatEntry;
 use vr_trace::ShownVolume;
@@ -14,7 +15,7 @@ pub(crate) fn listed_entries<'a, V: ShownVolume>(
     alloc: Global,
     volumes: &'a [V],
     names: &[Name],
-) -> Result<Vec<&'a CatEntry>, OutOfMemory>
+) -> Result<Vec<Held<'a>>, OutOfMemory>
     ensures { IfOk result (λ entries. held_entries entries.items
         ≡ stated.listed_entries (map V.shown volumes.now) names.now) }
 {
@@ -25,41 +26,45 @@ pub(crate) fn listed_entries<'a, V: ShownVolume>(
 }
 
 /// Sorts entries by their names; those of one name stay in their order.
-fn sort_by_name(entries: &mut Vec<&CatEntry>) -> Result<(), OutOfMemory>
+fn sort_by_name(entries: &mut Vec<Held>) -> Result<(), OutOfMemory>
     ensures { OnOk result
         (held_entries entries.new.items ≡ stated.by_name (held_entries entries.old.items)) }
 {
-    entries.sort_by(|entry, other| entry.name.cmp(&other.name))?;
+    entries.sort_by(|held, other| held.entry.name.cmp(&other.entry.name))?;
     Ok(())
 }
 
 /// Adds the entries of all volumes that are listed.
 fn take_all<'a, V: ShownVolume>(
-    entries: &mut Vec<&'a CatEntry>,
+    entries: &mut Vec<Held<'a>>,
     volumes: &'a [V],
     names: &[Name],
 ) -> Result<(), OutOfMemory>
     ensures { OnOk result (held_entries entries.new.items ≡ held_entries entries.old.items
         ++ filter (stated.is_listed names.now) (stated.entries_of (map V.shown volumes.now))) }
 {
-    for volume in volumes {
-        take_one(entries, volume.catalog().as_slice(), names)?;
+    for number in 0..volumes.len() {
+        take_one(entries, number, volumes[number].catalog().as_slice(), names)?;
     }
     Ok(())
 }
 
-/// Adds those of one catalog.
+/// Adds those of one catalog, which is that of the volume of this number.
 fn take_one<'a>(
-    entries: &mut Vec<&'a CatEntry>,
+    entries: &mut Vec<Held<'a>>,
+    number: usize,
     catalog: &'a [CatEntry],
     names: &[Name],
 ) -> Result<(), OutOfMemory>
-    ensures { OnOk result (held_entries entries.new.items
-        ≡ held_entries entries.old.items ++ filter (stated.is_listed names.now) catalog.now) }
+    ensures { OnOk result (held_entries entries.new.items ≡ held_entries entries.old.items
+        ++ filter (stated.is_listed names.now) (stated.listed_on number catalog.now)) }
 {
     for entry in catalog {
         if is_listed(names, entry) {
-            entries.push(entry)?;
+            entries.push(Held {
+                volume: number,
+                entry,
+            })?;
         }
     }
     Ok(())
@@ -67,7 +72,7 @@ fn take_one<'a>(
 
 /// Whether an entry is listed: each is where there are no names.
 fn is_listed(names: &[Name], entry: &CatEntry) -> bool
-    ensures { result ≡ stated.is_listed names.now entry.now }
+    ensures { result ≡ stated.is_name_listed names.now entry.now.name }
 {
     names.is_empty() || is_among(names, &entry.name)
 }

@@ -2,7 +2,7 @@
 ghost use Rattle.std.specs.Prelude.{◌≡◌, map, IfOk};
 ghost use Rattle.vr_ams_list.specs.Outcomes as stated;
 
-use crate::fault::failure_of;
+use crate::fault::list_failure;
 use crate::listing::detail_lines;
 use std::alloc::Global;
 use vr_trace::{Outcome, ShownVolume, refused};
@@ -18,7 +18,7 @@ pub fn list_entries<V: ShownVolume>(
     ensures { IfOk result (λ outcome.
         outcome ≡ stated.listed (map V.shown volumes.now) names.now) }
 {
-    match failure_of(volumes, names) {
+    match list_failure(volumes, names) {
         Some(failure) => Ok(refused(alloc, failure)),
         None => Ok(Outcome {
             lines: detail_lines(alloc, volumes, names)?,
