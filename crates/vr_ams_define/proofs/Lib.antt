@@ -1,7 +1,7 @@
 mod Choosing
 mod Entering
 pub mod GrownLemmas
-mod Later
+pub mod Later
 mod NewEntries
 mod OnVolume
 mod Rising

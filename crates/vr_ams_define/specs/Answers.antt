@@ -1,9 +1,11 @@
--- What a volume answers to a DEFINE of a cluster, and what it shows then. The rules are this
--- project's own.
+-- What a volume answers to a DEFINE of a cluster, and to LISTCAT ALL, and what it shows then. The
+-- rules are this project's own.
 use Rattle.std.specs.Prelude.{◌≡◌, ◌≢◌, ℕ, true}
 use Rattle.vr_types.specs.declared.fault.DeviceFault.TheVariants.{Read, Write}
 use Rattle.vr_catalog.specs.declared.entry.CatEntry.{CatEntry}
 use Rattle.vr_trace.specs.Shown.{Shown}
+use Rattle.vr_ams_define.specs.declared.answer.Counted.{Counted}
+use Rattle.vr_ams_define.specs.declared.answer.Counted.TheVariants as counts
 use Rattle.vr_ams_define.specs.declared.answer.Defined.{Defined}
 use Rattle.vr_ams_define.specs.declared.answer.Defined.TheVariants.{Done, Again, NoArea, NoRoom}
 use Rattle.vr_ams_define.specs.declared.answer.Defined.TheVariants.{Held, Full, Fault}
@@ -25,22 +27,34 @@ IsShownAfter Full entry old new = new ≡ old
 IsShownAfter (Fault Read) entry old new = new ≡ old
 IsShownAfter (Fault Write) entry old new = new.stopped ≡ true
 
--- how a volume may answer to a DEFINE on a line for an entry, and be then
+-- A volume that was counted shows what it showed; a write that failed stops it.
+abbrev pub IsShownCounted : Counted → Shown → Shown → Type 0
+IsShownCounted (counts.Done numbers) old new = new ≡ old
+IsShownCounted (counts.Fault Read) old new = new ≡ old
+IsShownCounted (counts.Fault Write) old new = new.stopped ≡ true
+
+-- What a volume was asked for, and its answer: the definition of an entry, or the numbers of one.
+pub data Exchange : Type 0 where
+  Defining : CatEntry → Defined → Exchange
+  Counting : CatEntry → Counted → Exchange
+
+-- how a volume may answer on a line, and be then
 abbrev pub Answering : Type 0 → Type 1
-Answering V = V → ℕ → CatEntry → Defined → V → Type 0
+Answering V = V → ℕ → Exchange → V → Type 0
 
 -- It was asked, and did stages one after another.
 pub data HasStaged {V : Type 0} (answers : Answering V) (line : ℕ) (entry : CatEntry) (old : V)
     : V → Type 0 where
   Unstaged : HasStaged answers line entry old old
   Staged : (before after : V) → HasStaged answers line entry old before
-      → answers before line entry Again after → HasStaged answers line entry old after
+      → answers before line (Defining entry Again) after
+      → HasStaged answers line entry old after
 
 -- It was asked again until it gave another answer, and shows what that leaves.
 pub record HasAnswered {V : Type 0} (shown : V → Shown) (answers : Answering V) (line : ℕ)
     (entry : CatEntry) (old new : V) (answer : Defined) : Type 0 where
   pub before : V
   pub stages : HasStaged answers line entry old before
-  pub answered : answers before line entry answer new
+  pub answered : answers before line (Defining entry answer) new
   pub last : answer ≢ Again
   pub left : IsShownAfter answer entry (shown old) (shown new)

@@ -1,5 +1,6 @@
-//! What a volume answers to a DEFINE of a cluster.
+//! What a volume answers to a DEFINE of a cluster, and to LISTCAT ALL.
 
+use vr_trace::Statistics;
 use vr_types::{AreaNo, DeviceFault};
 
 /// What one event of a DEFINE of a cluster came to.
@@ -17,6 +18,14 @@ pub enum Defined {
     Held,
     /// The log has no room for the change.
     Full,
+    /// The device failed. A write that fails stops the volume.
+    Fault(DeviceFault),
+}
+
+/// What counting a cluster came to.
+#[derive(Clone, Copy)]
+pub enum Counted {
+    Done(Statistics),
     /// The device failed. A write that fails stops the volume.
     Fault(DeviceFault),
 }

@@ -31,6 +31,6 @@ pub(crate) fn ask<V: OwnedVolume>(
             answer => return Ok(answer),
         }
     }
-    // No volume has the blocks to split that often.
+    // A loop has to have an end. No volume has the blocks for as many splits.
     Err(RunNo::Memory)
 }

@@ -56,7 +56,7 @@ pub(crate) fn held_failure() -> Failure
 }
 
 /// The failure of a volume whose device failed.
-pub(crate) fn fault_failure(fault: DeviceFault) -> Failure
+pub fn fault_failure(fault: DeviceFault) -> Failure
     ensures { result ≡ stated.fault_failure fault }
 {
     match fault {

@@ -1,20 +1,20 @@
 //! A volume that the utilities have for themselves.
-ghost use Rattle.std.specs.Prelude.{◌≡◌, ℕ, List, false, IfOk, IsErr};
-ghost use Rattle.vr_catalog.specs.declared.entry.CatEntry.{CatEntry};
+ghost use Rattle.std.specs.Prelude.{◌≡◌, ℕ, List, false, Contains, IfOk, IsErr};
+ghost use Rattle.vr_catalog.specs.declared.entry.EntryKind.TheVariants.{Cluster};
 ghost use Rattle.vr_history.specs.Merged.{last_stamp};
 ghost use Rattle.vr_history.specs.declared.entry.Entry.{Entry};
 ghost use Rattle.vr_types.specs.declared.geometry.Geometry.{Geometry};
-ghost use Rattle.vr_ams_define.specs.Answers.{IsShownAfter};
+ghost use Rattle.vr_ams_define.specs.Answers.{Exchange, IsShownAfter, IsShownCounted};
+ghost use Rattle.vr_ams_define.specs.Answers.Exchange.{Counting, Defining};
 ghost use Rattle.vr_ams_define.specs.Grown.{HasEntered};
 ghost use Rattle.vr_ams_define.specs.NewCluster.{IsNewCluster};
-ghost use Rattle.vr_ams_define.specs.declared.answer.Defined.{Defined};
 
-use crate::answer::Defined;
+use crate::answer::{Counted, Defined};
 use vr_catalog::CatEntry;
 use vr_trace::{RunNo, ShownVolume};
 use vr_types::Geometry;
 
-/// A volume that no deck has, whose catalog a command of IDCAMS may change.
+/// A volume that no deck has, which a command of IDCAMS may read, and whose catalog it may change.
 pub trait OwnedVolume: ShownVolume {
     /// Its shape.
     ghost geometry: { Self → Geometry };
@@ -29,9 +29,9 @@ pub trait OwnedVolume: ShownVolume {
 
     ghost goes_further: { (a b c : Self) → Self.goes a b → Self.goes b c → Self.goes a c };
 
-    /// How a volume may answer to a DEFINE on a line for an entry, and be then: what it promises
-    /// of the causes of its answers.
-    ghost answers: { Self → ℕ → CatEntry → Defined → Self → Type 0 };
+    /// How a volume may answer to a command on a line, and be then: what it promises of its answers
+    /// and of their causes.
+    ghost answers: { Self → ℕ → Exchange → Self → Type 0 };
 
     /// Its shape, by whose rules its catalog is.
     fn geometry(&self) -> Geometry
@@ -50,9 +50,27 @@ pub trait OwnedVolume: ShownVolume {
     fn define(&mut self, line: u32, entry: &CatEntry, after: u64) -> Result<Defined, RunNo>
         requires going { (Self.shown self.old).stopped ≡ false }
         requires entry { IsNewCluster (geometry self.old) (Self.shown self.old).catalog entry.now }
-        ensures answered { IfOk result (λ answer. answers self.old line entry.now answer self.new) }
+        ensures answered { IfOk result (λ answer.
+            answers self.old line (Defining entry.now answer) self.new) }
         ensures shown { IfOk result (λ answer.
             IsShownAfter answer entry.now (Self.shown self.old) (Self.shown self.new)) }
+        ensures refused { IsErr result → Self.shown self.new ≡ Self.shown self.old }
+        ensures entered { HasEntered line after (history self.old) (history self.new) }
+        ensures goes { goes self.old self.new }
+        ensures geometry { geometry self.new ≡ geometry self.old };
+
+    /// Counts a cluster of the catalog for a command whose first word is on line `line` of the job,
+    /// as one event: its records, its areas, and its splits in this run. Nothing of the volume
+    /// changes; a write that fails stops it. What that enters comes after stamp `after`. Where no
+    /// stamps are left (`Stamps`), or memory runs out (`Memory`), nothing is entered.
+    fn count(&mut self, line: u32, entry: &CatEntry, after: u64) -> Result<Counted, RunNo>
+        requires going { (Self.shown self.old).stopped ≡ false }
+        requires entry { Contains (Self.shown self.old).catalog entry.now }
+        requires cluster { entry.now.entry_kind ≡ Cluster }
+        ensures counted { IfOk result (λ counted.
+            answers self.old line (Counting entry.now counted) self.new) }
+        ensures shown { IfOk result (λ counted.
+            IsShownCounted counted (Self.shown self.old) (Self.shown self.new)) }
         ensures refused { IsErr result → Self.shown self.new ≡ Self.shown self.old }
         ensures entered { HasEntered line after (history self.old) (history self.new) }
         ensures goes { goes self.old self.new }

@@ -1,6 +1,7 @@
 use Rattle.std.proofs.Common.{refl, subst, ◌∙◌}
 use Rattle.vr_ams_define.specs.declared.answer.Defined.{Defined}
 use Rattle.vr_ams_define.specs.Answers.{IsShownAfter}
+use Rattle.vr_ams_define.specs.Answers.Exchange.{Defining}
 use Rattle.vr_ams_define.specs.Answers.HasStaged.{Staged, Unstaged}
 use Rattle.vr_ams_define.proofs.Later.{later-nothing, later-then}
 use Rattle.vr_ams_define.proofs.asking.ask.Goals as goal
@@ -22,7 +23,8 @@ loop-turn-preserved g c =
     let entry = c.args.entry.now in
     let shown = g.V.ShownVolume.shown in record {
       staged = Staged before after c.loop-turn.invariant.staged
-          (subst (λ (answer : Defined). g.V.OwnedVolume.answers before line entry answer after)
+          (subst (λ (answer : Defined). g.V.OwnedVolume.answers before line
+          (Defining entry answer) after)
           c.in-Again.is c.in_ok-answer.ensures.answered);
       shown = subst (λ (answer : Defined). IsShownAfter answer entry (shown before) (shown after))
           c.in-Again.is c.in_ok-answer.ensures.shown ∙ c.loop-turn.invariant.shown;
