@@ -1,7 +1,7 @@
 -- What crates above cite of reports: the code of a step is 16 at most.
 use Rattle.std.proofs.Common.{◌≡◌, ◌≤◌, ℕ, Bool, true, false, List, [], ◌∷◌, Option, Some, None}
 use Rattle.std.proofs.Common.{arith, inl, inr, map, subst, sym}
-use Rattle.std.specs.Prelude.{not, ◌&&◌, codes, length, if◌then◌else◌, IfSome}
+use Rattle.std.specs.Prelude.{not, ◌&&◌, length, if◌then◌else◌, IfSome}
 use Rattle.std.specs.Option.{option_and_then, option_map, option_or}
 use Rattle.std.proofs.Math.Nat.{max-le, min-le_right}
 use Rattle.vr_types.specs.declared.fault.DeviceFault.{DeviceFault}
@@ -27,7 +27,7 @@ use Rattle.vr_trace.specs.Shown.{Shown, is_known}
 use Rattle.vr_trace.specs.declared.command.Failure.{Failure}
 use Rattle.vr_trace.specs.declared.command.Outcome.{Outcome}
 use Rattle.vr_trace.specs.declared.report.StepReport.{StepReport}
-use Rattle.vr_ams_list.specs.Faults.{has_stopped, is_missing, not_found, stopped}
+use Rattle.vr_ams_list.specs.Faults.{failure_of, has_stopped, is_missing, not_found, stopped}
 use Rattle.vr_ams_list.specs.Listing.{detail_lines}
 use Rattle.vr_ams_list.specs.Outcomes.{listed}
 use Rattle.vr_ams_define.specs.declared.answer.Defined.{Defined}
@@ -43,8 +43,10 @@ use Rattle.vr_ams_define.specs.Runs.{is_plain_cluster}
 use Rattle.vr_ams_run.specs.declared.codes.Codes.{Codes}
 use Rattle.vr_ams_run.specs.declared.going.Going.{Going}
 use Rattle.vr_ams_run.specs.Codes.{set_to}
-use Rattle.vr_ams_run.specs.Running.{CommandRun, DefineRun, IsReport, NodeRunWhere, NodesRun}
-use Rattle.vr_ams_run.specs.Running.{Stage, ended, first_stage, list_run, passed, reaches}
+use Rattle.vr_ams_run.specs.ListedAll.{IsListedAll}
+use Rattle.vr_ams_run.specs.Running.{CommandRun, DefineRun, IsReport, ListRun, NodeRunWhere}
+use Rattle.vr_ams_run.specs.Running.{NodesRun, Stage, first_stage, list_run}
+use Rattle.vr_ams_run.specs.Running.{reaches}
 
 -- ---- failures
 
@@ -166,6 +168,30 @@ listed-few volumes command =
     by false true = omega arith
     by false false = omega arith
 
+-- whatever a LISTCAT is refused for
+list-mild : (volumes : List Shown) (names : List (List ℕ))
+    → IfSome (failure_of volumes names) IsMild
+list-mild volumes names = by (is_missing volumes names) (has_stopped volumes names)
+  where
+    by : (missing halted : Bool) → IfSome (if missing then Some not_found else (if halted then
+        Some stopped else None)) IsMild
+    by true halted = omega arith
+    by false true = omega arith
+    by false false = tt
+
+all-few : {V : Type 0} (shown : V → Shown) (answers : Answering V) (line : ℕ)
+    (names : List (List ℕ)) (old new : List V) (outcome : Outcome)
+    → IsListedAll shown answers line names old new outcome → outcome.code ≤ 16
+all-few shown answers line names old new outcome came = elim came [
+  | inl refused ↦ code-of outcome _ refused.outcome_is
+      (subst (λ (first : Option Failure). IfSome first IsMild) refused.first_is
+      (list-mild (map shown old) names))
+  | inr asked ↦ elim asked [
+    | inl counted ↦ code-of outcome _ counted.outcome_is (omega arith)
+    | inr failed ↦ device-few failed.fault outcome failed.outcome_is
+  ]
+]
+
 -- ---- commands
 
 abbrev IsFew : Going → Type 0
@@ -181,12 +207,7 @@ set-few MaxCode code before most few = most
 
 list-few : (volumes : List Shown) (going : Going) (line : ℕ) (command : ListCommand) → IsFew going
     → IsFew (list_run volumes going line command)
-list-few volumes going line command few = by command.all
-  where
-    by : (all : Bool) → IsFew (if all then passed going else ended line (codes "LISTCAT")
-        (listed volumes command.entries) going)
-    by true = few
-    by false = max-le few (listed-few volumes command)
+list-few volumes going line command few = max-le few (listed-few volumes command)
 
 module _ {V : Type 0} (shown : V → Shown) (geometry : V → Geometry) (answers : Answering V) where
   define-few : (runs : Bool) (line : ℕ) (command : DefineCommand) (old new : Stage V)
@@ -196,6 +217,14 @@ module _ {V : Type 0} (shown : V → Shown) (geometry : V → Geometry) (answers
       (defined-few shown geometry answers old.volumes line command.order command.volume
       new.volumes run.outcome run.defined))
   define-few false line command old new few run = few-as new.going _ run.going few
+
+  list-run-few : (all : Bool) (line : ℕ) (command : ListCommand) (old new : Stage V)
+      → IsFew old.going → ListRun shown answers all line command old new → IsFew new.going
+  list-run-few true line command old new few run = few-as new.going _ run.going (max-le few
+      (all-few shown answers line command.entries old.volumes new.volumes run.outcome
+      run.is_listed))
+  list-run-few false line command old new few run = few-as new.going _ run.going
+      (list-few (map shown old.volumes) old.going line command few)
 
   command-few : (line : ℕ) (command : Command) (old new : Stage V) → IsFew old.going
       → CommandRun shown geometry answers line command old new → IsFew new.going
@@ -207,7 +236,7 @@ module _ {V : Type 0} (shown : V → Shown) (geometry : V → Geometry) (answers
   command-few line (commands.BuildIndex command) old new few run = few-as new.going _ run.going few
   command-few line (commands.Print command) old new few run = few-as new.going _ run.going few
   command-few line (commands.ListCatalog command) old new few run =
-      few-as new.going _ run.going (list-few (map shown old.volumes) old.going line command few)
+      list-run-few command.all line command old new few run
   command-few line (commands.Verify name) old new few run = few-as new.going _ run.going few
   command-few line (commands.Examine name) old new few run = few-as new.going _ run.going few
   command-few line (commands.If condition) old new few run = few-as new.going _ run.going few

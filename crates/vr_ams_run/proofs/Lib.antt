@@ -1,2 +1,4 @@
 pub mod CallerLemmas
+mod Counting
+mod Listings
 mod Runs

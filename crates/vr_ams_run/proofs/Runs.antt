@@ -34,11 +34,11 @@ pub record HasCome {V : Type 0} (shown : V → Shown) (geometry : V → Geometry
       → NodesRun shown geometry answers nodes old last
   pub grew : AreRunOn history goes (lines_of (take count nodes)) old.volumes new.volumes
 
--- a command, and those after it
-cut-at : (nodes : List Node) (count : ℕ) (node : Node) → count < length nodes
-    → node ≡ get_or nodes count node → drop count nodes ≡ node ∷ drop (count + 1) nodes
-cut-at nodes count node near at = drop-cons nodes count node near
-    ∙ ap (λ (it : Node). it ∷ drop (suc count) nodes) (sym at)
+-- one of a list, and those after it
+pub cut-at : {X : Type 0} (xs : List X) (count : ℕ) (x : X) → count < length xs
+    → x ≡ get_or xs count x → drop count xs ≡ x ∷ drop (count + 1) xs
+cut-at {X} xs count x near at = drop-cons xs count x near
+    ∙ ap (λ (it : X). it ∷ drop (suc count) xs) (sym at)
     ∙ rw add-one refl
 
 -- the lines of those so far, and its line

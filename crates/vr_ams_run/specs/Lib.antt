@@ -1,2 +1,4 @@
 pub mod Codes
 pub mod Running
+pub mod ListedAll
+pub mod Counting

@@ -1,7 +1,7 @@
 -- Which commands of a step run, what each leaves of the volumes, and the report of the step: IF
 -- and SET after Access Method Services Commands. That a SET to 16 leaves the later steps is this
 -- project's own.
-use Rattle.std.specs.Prelude.{◌≡◌, ℕ, Bool, true, false, not, ◌&&◌, if◌then◌else◌, List, []}
+use Rattle.std.specs.Prelude.{◌≡◌, ℕ, Bool, true, false, not, ◌&&◌, List, []}
 use Rattle.std.specs.Prelude.{◌∷◌, ◌++◌, codes, map, slice_get, Option, Some, None}
 use Rattle.vr_types.specs.declared.geometry.Geometry.{Geometry}
 use Rattle.vr_amsparse.specs.declared.command.Branch.{Branch}
@@ -23,6 +23,7 @@ use Rattle.vr_ams_define.specs.Answers.{Answering}
 use Rattle.vr_ams_define.specs.Outcomes.{IsDefined}
 use Rattle.vr_ams_define.specs.Runs.{is_plain_cluster}
 use Rattle.vr_ams_run.specs.declared.going.Going.{Going}
+use Rattle.vr_ams_run.specs.ListedAll.{IsListedAll}
 use Rattle.vr_ams_run.specs.Codes.{no_codes, holds, with_code, set_by, ends}
 
 -- the commands that are run yet
@@ -33,7 +34,7 @@ is_run (commands.Delete command) = false
 is_run (commands.Repro command) = false
 is_run (commands.BuildIndex command) = false
 is_run (commands.Print command) = false
-is_run (commands.ListCatalog command) = not command.all
+is_run (commands.ListCatalog command) = true
 is_run (commands.Verify name) = false
 is_run (commands.Examine name) = false
 is_run (commands.If condition) = true
@@ -102,11 +103,10 @@ ended line name outcome going = record {
   lines = going.lines ++ command_lines line name outcome;
 }
 
--- LISTCAT; ALL isn't run yet
+-- LISTCAT with NAME
 abbrev pub list_run : List Shown → Going → ℕ → ListCommand → Going
 list_run volumes going line command =
-    if command.all then passed going else ended line (codes "LISTCAT")
-    (listed volumes command.entries) going
+    ended line (codes "LISTCAT") (listed volumes command.entries) going
 
 -- a command that is reached and leaves the volumes as they were
 abbrev pub command_run : List Shown → Going → ℕ → Command → Going
@@ -149,6 +149,21 @@ DefineRun shown geometry answers true line command old new =
     IsDefinedAs shown geometry answers line command old new
 DefineRun shown geometry answers false line command old new = IsQuiet (passed old.going) old new
 
+-- LISTCAT ALL came to an outcome
+pub record IsListedAs {V : Type 0} (shown : V → Shown) (answers : Answering V) (line : ℕ)
+    (command : ListCommand) (old new : Stage V) : Type 0 where
+  pub outcome : Outcome
+  pub is_listed : IsListedAll shown answers line command.entries old.volumes new.volumes outcome
+  pub going : new.going ≡ ended line (codes "LISTCAT") outcome old.going
+
+-- LISTCAT with ALL, which has the volumes counted, or with NAME
+abbrev pub ListRun : {V : Type 0} → (V → Shown) → Answering V → Bool → ℕ → ListCommand → Stage V
+    → Stage V → Type 0
+ListRun shown answers true line command old new =
+    IsListedAs shown answers line command old new
+ListRun shown answers false line command old new =
+    IsQuiet (list_run (map shown old.volumes) old.going line command) old new
+
 -- a command that leaves the volumes as they were
 abbrev pub QuietRun : {V : Type 0} → (V → Shown) → ℕ → Command → Stage V → Stage V → Type 0
 QuietRun shown line command old new =
@@ -159,6 +174,8 @@ abbrev pub CommandRun : {V : Type 0} → (V → Shown) → (V → Geometry) → 
     → Stage V → Stage V → Type 0
 CommandRun shown geometry answers line (commands.Define command) old new =
     DefineRun shown geometry answers (is_plain_cluster command.order.what) line command old new
+CommandRun shown geometry answers line (commands.ListCatalog command) old new =
+    ListRun shown answers command.all line command old new
 CommandRun shown geometry answers line command old new = QuietRun shown line command old new
 
 -- one command more, where it is reached

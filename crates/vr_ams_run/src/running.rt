@@ -5,21 +5,20 @@ ghost use Rattle.vr_ams_define.specs.Runs.{is_plain_cluster as is_plain};
 ghost use Rattle.vr_ams_run.specs.Running as stated;
 
 use crate::going::Going;
+use crate::listed_all::list_all;
 use std::alloc::Global;
 use vr_ams_define::{OwnedVolume, define_cluster, is_plain_cluster};
 use vr_ams_list::list_entries;
 use vr_amsparse::{Command, DefineCommand, ListCommand, Node};
-use vr_trace::{RunNo, ShownVolume, StepReport};
-use vr_types::OutOfMemory;
+use vr_trace::{RunNo, StepReport};
 
 /// Whether a command is run yet.
 pub fn is_run(command: &Command) -> bool
     ensures { result ≡ stated.is_run command.now }
 {
     match command {
-        Command::If(_) | Command::Set(_) => true,
+        Command::ListCatalog(_) | Command::If(_) | Command::Set(_) => true,
         Command::Define(define) => is_plain_cluster(&define.order.what),
-        Command::ListCatalog(list) => !list.all,
         Command::Alter(_)
         | Command::Delete(_)
         | Command::Repro(_)
@@ -30,22 +29,26 @@ pub fn is_run(command: &Command) -> bool
     }
 }
 
-/// LISTCAT. ALL isn't run yet.
-fn run_list<V: ShownVolume>(
+/// LISTCAT, with ALL or with NAME.
+fn run_list<V: OwnedVolume>(
     alloc: Global,
-    volumes: &[V],
+    volumes: &mut [V],
     line: u32,
     command: &ListCommand,
     going: &mut Going,
-) -> Result<(), OutOfMemory>
-    ensures { OnOk result
-        (going.new ≡ stated.list_run (map V.shown volumes.now) going.old line command.now) }
+) -> Result<(), RunNo>
+    ensures ran { OnOk result (stated.ListRun V.shown V.answers command.now.all line command.now
+        (record { volumes = volumes.old; going = going.old })
+        (record { volumes = volumes.new; going = going.new })) }
+    ensures grew { AreRunOn V.history V.goes (line ∷ []) volumes.old volumes.new }
 {
+    let names = command.entries.as_slice();
     if command.all {
-        return going.pass();
+        let outcome = list_all(alloc, volumes, line, names)?;
+        return Ok(going.end(alloc, line, b"LISTCAT", &outcome)?);
     }
-    let outcome = list_entries(alloc, volumes, command.entries.as_slice())?;
-    going.end(alloc, line, b"LISTCAT", &outcome)
+    let outcome = list_entries(alloc, volumes, names)?;
+    Ok(going.end(alloc, line, b"LISTCAT", &outcome)?)
 }
 
 /// DEFINE. Only of a cluster that isn't spanned is it run yet.
@@ -86,7 +89,7 @@ fn run_command<V: OwnedVolume>(
         Command::If(condition) => Ok(going.branch(*condition)?),
         Command::Set(setting) => Ok(going.set(*setting)?),
         Command::Define(define) => run_define(alloc, volumes, line, define, going),
-        Command::ListCatalog(list) => Ok(run_list(alloc, volumes, line, list, going)?),
+        Command::ListCatalog(list) => run_list(alloc, volumes, line, list, going),
         Command::Alter(_)
         | Command::Delete(_)
         | Command::Repro(_)
@@ -136,10 +139,10 @@ fn run_all<V: OwnedVolume>(
 }
 
 /// Runs the commands of a step over the volumes, volume 0 first, in order, and gives the report of
-/// the step: DEFINE of a cluster, LISTCAT with NAME, IF and SET, after Access Method Services
-/// Commands. Each runs over the volumes as those before it left them. A command for which `is_run`
-/// is false does nothing. Where stamps or memory run out there is no report, and the volumes are as
-/// the commands so far left them.
+/// the step: DEFINE of a cluster, LISTCAT, IF and SET, after Access Method Services Commands. Each
+/// runs over the volumes as those before it left them. A command for which `is_run` is false does
+/// nothing. Where stamps or memory run out there is no report, and the volumes are as the commands
+/// so far left them.
 pub fn run_commands<V: OwnedVolume>(
     alloc: Global,
     volumes: &mut [V],
