@@ -109,8 +109,8 @@ is_plain_cluster (Cluster kind spanned options) = not spanned
 is_plain_cluster (Alternate related unique options) = false
 is_plain_cluster (Path related) = false
 
--- the commands that are run: DEFINE of a cluster that isn't spanned, LISTCAT of names alone, and the
--- modal commands IF and SET
+-- the commands that are run: DEFINE of a cluster that isn't spanned, LISTCAT, and the modal commands
+-- IF and SET
 abbrev pub is_run : Command → Bool
 is_run (Define define) = is_plain_cluster define.order.what
 is_run (Alter alter) = false
@@ -118,7 +118,7 @@ is_run (Delete delete) = false
 is_run (Repro repro) = false
 is_run (BuildIndex build) = false
 is_run (Print print) = false
-is_run (ListCatalog list) = not list.all
+is_run (ListCatalog list) = true
 is_run (Verify name) = false
 is_run (Examine name) = false
 is_run (If condition) = true

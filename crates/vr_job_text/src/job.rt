@@ -93,15 +93,13 @@ fn is_plain_cluster(what: &NewEntry) -> bool
     }
 }
 
-/// Whether a command is run yet: DEFINE of a cluster that isn't spanned is, LISTCAT of names alone,
-/// and IF and SET.
+/// Whether a command is run yet: DEFINE of a cluster that isn't spanned is, LISTCAT, and IF and SET.
 fn is_run(command: &Command) -> bool
     ensures { result ≡ is_run command.now }
 {
     match command {
-        Command::ListCatalog(list) => !list.all,
         Command::Define(define) => is_plain_cluster(&define.order.what),
-        Command::If(_) | Command::Set(_) => true,
+        Command::ListCatalog(_) | Command::If(_) | Command::Set(_) => true,
         Command::Alter(_)
         | Command::Delete(_)
         | Command::Repro(_)

@@ -122,11 +122,10 @@ fn first_unrun(nodes: &[Node]) -> Option<u32> {
     let mut line = None;
     for node in nodes.iter().rev() {
         let runs = match &node.command {
-            Command::ListCatalog(list) => !list.all,
             Command::Define(define) => {
                 matches!(define.order.what, NewEntry::Cluster { spanned: false, .. })
             }
-            Command::If(_) | Command::Set(_) => true,
+            Command::ListCatalog(_) | Command::If(_) | Command::Set(_) => true,
             _ => false,
         };
         if !runs {
