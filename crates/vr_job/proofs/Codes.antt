@@ -23,14 +23,12 @@ use Rattle.vr_trace.specs.declared.kept.KeptStep.{KeptStep}
 use Rattle.vr_trace.specs.declared.kept.KeptStep.TheVariants.{Decks, Utilities}
 use Rattle.vr_trace.specs.declared.report.StepReport.{StepReport}
 use Rattle.vr_ams_run.proofs.CallerLemmas.{report-few}
-use Rattle.vr_catalog.specs.declared.entry.CatEntry.{CatEntry}
 use Rattle.vr_job_text.specs.declared.job.JobStep.{JobStep}
 use Rattle.vr_job_text.specs.declared.job.JobStep.TheVariants as steps
 use Rattle.vr_job.specs.Done.{AreFew, HasRun, IsNothing, IsRunDone, NotBegun, NotRun}
-use Rattle.vr_job.specs.Reported.{AnswersBy, AreReportedFrom, shape_at, shown_at}
+use Rattle.vr_job.specs.Reported.{AnswersBy, AreReportedFrom, VolumeFrom, shape_at, shown_at}
 use Rattle.vr_types.specs.Faults.{Faults}
 use Rattle.vr_types.specs.Seen.{Seen}
-use Rattle.vr_types.specs.declared.geometry.Geometry.{Geometry}
 use Rattle.vr_job_ends.specs.Ends.{IsStatus, status_by, steps_shown}
 use Rattle.vr_job_ends.specs.declared.job_end.End.{End}
 use Rattle.vr_job_ends.specs.declared.job_end.End.TheVariants.{Ran}
@@ -101,20 +99,18 @@ reports-few (report ∷ reports) few =
     max-le (All-head IsFew report reports few) (reports-few reports (All-tail IsFew report reports few))
 
 -- those of the steps of a job
-reported-few : (before : List JobStep) (geometries : List Geometry)
-    (catalogs : List (List CatEntry)) (histories : List (List Entry)) (job : List JobStep)
-    (reports : List StepReport) → AreReportedFrom before geometries catalogs histories job reports
+reported-few : (tells : Bool) (before : List JobStep) (froms : List VolumeFrom) (job : List JobStep)
+    (reports : List StepReport) → AreReportedFrom tells before froms job reports
     → All IsFew reports
-reported-few before geometries catalogs histories [] reports is =
-    subst (All IsFew) (sym is) (All-nil IsFew)
-reported-few before geometries catalogs histories (steps.Decks step ∷ job) reports is =
-    reported-few (before ++ steps.Decks step ∷ []) geometries catalogs histories job reports is
-reported-few before geometries catalogs histories (steps.Utilities step ∷ job) [] is = All-nil IsFew
-reported-few before geometries catalogs histories (steps.Utilities step ∷ job) (report ∷ reports)
-    is = All-cons IsFew report reports
-    (report-few shown_at shape_at AnswersBy step.commands is.0.volumes is.0.left report is.0.is)
-    (reported-few (before ++ steps.Utilities step ∷ []) geometries catalogs histories job reports
-    is.1)
+reported-few tells before froms [] reports is = subst (All IsFew) (sym is) (All-nil IsFew)
+reported-few tells before froms (steps.Decks step ∷ job) reports is =
+    reported-few tells (before ++ steps.Decks step ∷ []) froms job reports is
+reported-few tells before froms (steps.Utilities step ∷ job) [] is = All-nil IsFew
+reported-few tells before froms (steps.Utilities step ∷ job) (report ∷ reports) is =
+    All-cons IsFew report reports
+    (report-few shown_at shape_at (AnswersBy tells) step.commands is.0.volumes is.0.left report
+    is.0.is)
+    (reported-few tells (before ++ steps.Utilities step ∷ []) froms job reports is.1)
 
 job-few : (histories : List (List Entry)) (kept : List KeptStep) (reports : List StepReport)
     → All IsFew reports → job_code histories kept reports ≤ 16
@@ -147,4 +143,4 @@ done-few tells seen faults in_memory lines left left' fails fails' old new trace
     (NotRun line end_is nothing begun ends) = none-few trace nothing
 done-few tells seen faults in_memory lines left left' fails fails' old new trace end
     (HasRun job begun has_begun read run) =
-    reported-few [] _ _ trace.histories job.steps trace.reports run.run.reported
+    reported-few tells [] _ job.steps trace.reports run.run.reported

@@ -1,9 +1,8 @@
 -- What a definition of a cluster does to the catalog of its volume: it adds a record where none
 -- stood, of a part that no entry has.
 use Rattle.std.proofs.Common.{◌≡◌, ◌∙◌, ◌<◌, ◌==◌, ◌||◌, inr, ℕ, Bool, true, false, IsTrue}
-use Rattle.std.proofs.Common.{List, [], ◌∷◌, ◌++◌, Some, None, All, ap, if◌then◌else◌, nat_eq, refl}
+use Rattle.std.proofs.Common.{List, [], ◌++◌, Some, None, ap, if◌then◌else◌, nat_eq, refl}
 use Rattle.std.proofs.Common.{subst, sym, true≢false}
-use Rattle.std.proofs.lemmas.List.Elements.{All-head, All-tail}
 use Rattle.std.proofs.lemmas.Option.{same_Some}
 use Rattle.std.specs.List.{AllByRecursion, list_any}
 use Rattle.vr_types.specs.Content.{Content, Standing, item_at}
@@ -21,7 +20,6 @@ use Rattle.vr_history.specs.Effects.{has_part, placed_in}
 use Rattle.vr_history.specs.Legal.{state_of}
 use Rattle.vr_history.specs.Opened.{catalog_of}
 use Rattle.vr_history.specs.State.{State}
-use Rattle.vr_history.specs.Step.{state_after}
 use Rattle.vr_history.specs.declared.entry.Entry.{Entry}
 use Rattle.vr_record_file.specs.Now.{state_now}
 use Rattle.vr_record_file.proofs.MoreEntries.{has_part_more}
@@ -30,20 +28,9 @@ use Rattle.vr_event.specs.Defining.{IsNewCluster, entry_place, entry_with_area}
 use Rattle.vr_event.specs.Volume.{IsHeld, IsWhole, VolumeNow}
 use Rattle.vr_event.proofs.CallerLemmas.{IsNamed, area-entry, area-small, items-named, none-at}
 use Rattle.vr_event.proofs.CallerLemmas.{record-spells, unlaid}
-use Rattle.vr_job.specs.Committed.{KeepTheCatalog, MayChange}
-use Rattle.vr_job.proofs.DefineEvents.{IsStill, begun-of}
+use Rattle.vr_job.specs.Committed.{KeepTheCatalog}
+use Rattle.vr_job.proofs.DefineEvents.{begun-of}
 use Rattle.vr_job.proofs.DefineImages.{LackNone}
-
--- entries that change no record keep the catalog
-pub still-keep : (geometry : Geometry) (state : State) (entries : List Entry) → All IsStill entries
-    → KeepTheCatalog geometry state entries
-still-keep geometry state [] still = tt
-still-keep geometry state (entry ∷ entries) still = (
-  subst (AllByRecursion (MayChange state entry.unit))
-      (sym (All-head IsStill entry entries still geometry state)) tt,
-  still-keep geometry (state_after geometry state entry) entries
-      (All-tail IsStill entry entries still),
-)
 
 module _ {B : Type 0} (seen : B → Seen) (opening : State) (volume : VolumeNow B)
     (held : IsHeld seen opening volume) (whole : IsWhole seen volume)

@@ -1,10 +1,9 @@
 -- What an event of a definition of a cluster enters in the history of its volume, and what each of
 -- its entries is not.
-use Rattle.std.proofs.Common.{◌≡◌, ◌≢◌, ◌⊎◌, ◌∙◌, ◌<◌, ◌≤◌, ◌+◌, inl, inr, ℕ, Bool, true, false}
+use Rattle.std.proofs.Common.{◌≡◌, ◌⊎◌, ◌∙◌, ◌<◌, ◌≤◌, inl, inr, ℕ, Bool, true, false}
 use Rattle.std.proofs.Common.{List, [], ◌∷◌, ◌++◌, Option, None, Some, Result, Ok, Err, All, ap}
-use Rattle.std.proofs.Common.{append_assoc, arith, length, refl, subst, sym, ⊎_elim}
-use Rattle.std.proofs.lemmas.List.{append-nil}
-use Rattle.std.proofs.lemmas.List.Elements.{All-from_recursion, All-head, All-nil, All-tail}
+use Rattle.std.proofs.Common.{append_assoc, arith, length, refl, ⊎_elim}
+use Rattle.std.proofs.lemmas.List.Elements.{All-from_recursion}
 use Rattle.vr_types.specs.Faults.{Faults}
 use Rattle.vr_types.specs.declared.bound.Bound.{Bound}
 use Rattle.vr_types.specs.declared.fault.DeviceFault.{DeviceFault}
@@ -28,7 +27,7 @@ use Rattle.vr_history.specs.Step.{place_changes}
 use Rattle.vr_history.specs.declared.entry.Entry.{Entry}
 use Rattle.vr_history.specs.declared.entry.What.{What}
 use Rattle.vr_history.specs.declared.entry.What.TheVariants.{Asked, Claimed, Faulted, Split}
-use Rattle.vr_record_file.specs.Now.{FileNow, entry_next, faulted, with_event}
+use Rattle.vr_record_file.specs.Now.{FileNow, entry_next, with_event}
 use Rattle.vr_event.specs.Defining.{HasDefineFaults, HasStaged, IsDefineEntered, catalog_part}
 use Rattle.vr_event.specs.Defining.{entry_add, entry_place, entry_with_area, file_defined}
 use Rattle.vr_event.specs.Defining.{file_in_doubt}
@@ -38,27 +37,16 @@ use Rattle.vr_event.specs.declared.define.Define.TheVariants.{Again, Done, Fault
 use Rattle.vr_event.specs.declared.define.Define.TheVariants.{NoArea, NoRoom}
 use Rattle.vr_job.specs.Crash.{HaveDoneCommit, IsDoneCommit}
 use Rattle.vr_job.specs.Definitions.{IsCatalogStage, IsRecorded}
-use Rattle.vr_job.specs.Events.{AnswersOnce, DefinesAtMost, FaultsFollow, IsStop, IsStopAfter}
-use Rattle.vr_job.specs.Events.{IsStopAlone}
+use Rattle.vr_job.specs.Events.{IsStop}
 use Rattle.vr_job.specs.Events.{requests_in}
-use Rattle.vr_job.specs.Faultless.{AreFaultless, IsFaulted}
-use Rattle.vr_job.specs.ReadFaults.{read_fault, read_faults}
+use Rattle.vr_job.specs.Faultless.{IsFaulted}
+use Rattle.vr_job.specs.ReadFaults.{read_fault}
+use Rattle.vr_job.proofs.UtilityEvents.{HasSpace, IsStill, IsUtilityMade, NoFault, OfUtilities}
+use Rattle.vr_job.proofs.UtilityEvents.{faulted-goes-on, faulted-space, none-asked, still-made}
+use Rattle.vr_job.proofs.UtilityEvents.{stop-faulted}
+use Rattle.vr_job.proofs.UtilityMade.{HasRisen, IsStillBy, none-rose, read-rose, write-rose}
 
 -- ---- what an entry is not
-
--- it is no fault of the device,
-abbrev NoFault : Entry → Type 0
-NoFault entry = ¬ IsFaulted entry.what
-
--- it doesn't answer that there is no space,
-abbrev pub HasSpace : Entry → Type 0
-HasSpace entry = (request : Request) (need free : ℕ)
-    → entry.what ≡ Asked request (Refused (NoSpace need free)) → ⊥
-
--- and it changes no record
-abbrev pub IsStill : Entry → Type 0
-IsStill entry = (geometry : Geometry) (state : State)
-    → place_changes geometry state entry.unit entry.what ≡ []
 
 asked-sound : (request : Request) (reply : Reply) → ¬ IsFaulted (Asked request reply)
 asked-sound request reply is = differ is.0 is.1
@@ -74,19 +62,12 @@ failed-space : (request asked : Request) (need free : ℕ)
     → Asked request (Refused WriteFault) ≡ Asked asked (Refused (NoSpace need free)) → ⊥
 failed-space request asked need free same = cc
 
-faulted-space : (asked : Request) (need free : ℕ)
-    → Faulted Write ≡ Asked asked (Refused (NoSpace need free)) → ⊥
-faulted-space asked need free same = cc
-
 add-goes-on : (file : FileRef) (named place : Option (List ℕ)) (bytes : List ℕ)
     → ¬ IsDoneCommit (Asked (Add file named bytes) (DoneReply 0 place None))
 add-goes-on file named place bytes same = cc
 
 refused-goes-on : ¬ IsDoneCommit (Asked Commit (Refused WriteFault))
 refused-goes-on same = cc
-
-faulted-goes-on : ¬ IsDoneCommit (Faulted Write)
-faulted-goes-on same = cc
 
 -- an entry of a stage, or of the area of a new part
 record IsQuiet (what : What) : Type 0 where
@@ -138,22 +119,6 @@ quiet-claimed part area = record {
     space : (request : Request) (need free : ℕ)
         → Claimed part area ≡ Asked request (Refused (NoSpace need free)) → ⊥
     space request need free same = cc
-
--- ---- a stop is a fault
-
-fault-after : (before : List Entry) (failing fault : Entry) → fault.what ≡ Faulted Write
-    → AreFaultless (before ++ failing ∷ fault ∷ []) → ⊥
-fault-after [] failing fault is none =
-    All-head NoFault fault [] (All-tail NoFault failing (fault ∷ []) none) (Write, is)
-fault-after (entry ∷ before) failing fault is none = fault-after before failing fault is
-    (All-tail NoFault entry (before ++ failing ∷ fault ∷ []) none)
-
-stop-faulted : (made : List Entry) → IsStop made → AreFaultless made → ⊥
-stop-faulted made stop none = ⊎_elim
-    (λ (after : IsStopAfter made). fault-after after.before after.failing after.fault
-    after.fault_is (subst AreFaultless after.made_are none))
-    (λ (alone : IsStopAlone made). All-head NoFault alone.fault []
-    (subst AreFaultless alone.made_are none) (Write, alone.fault_is)) stop
 
 -- ---- the entries of a definition
 
@@ -218,26 +183,12 @@ module _ (volume after line : ℕ) (unit : UnitOfRecovery) (entry : CatEntry) (a
 
 -- ---- what an event enters
 
--- It adds entries of the utilities alone, and these say of faults and of the volume what is true of
--- it: they change no record but the one that a definition adds.
+-- Its entries are the utilities' own, and change no record but the one that a definition adds.
 pub record IsDefineMade (volume after line : ℕ) (unit : UnitOfRecovery) (entry : CatEntry)
     (old new : FileNow) (before now : Faults) : Type 0 where
-  pub made : List Entry
-  pub entries : new.entries ≡ old.entries ++ made
-  pub geometry : new.geometry ≡ old.geometry
-  pub own : All (λ (one : Entry). one.unit.deck ≡ 0) made
-  pub utilities : DefinesAtMost made
-  pub once : AnswersOnce made
-  pub faults : FaultsFollow made
-  pub goes : HaveDoneCommit made → new.stopped ≡ None
-  pub stops : new.stopped ≢ None → IsStop made
-  pub reads : before.reads + read_faults made ≤ now.reads
-  pub failed : IsStop made → before.writes < now.writes
-  pub unfailed : AreFaultless made → now.writes ≡ before.writes
-  pub unread : AreFaultless made → (now.reads ≡ before.reads) ⊎ (made ≡ [])
-  pub space : All HasSpace made
-  pub by : All IsStill made ⊎ ((area : AreaNo) × (rest : List Entry)
-      × (made ≡ begun-of volume after line unit entry area old ++ rest) × All IsStill rest)
+  pub event : IsUtilityMade old new before now
+  pub by : All IsStill event.made ⊎ ((area : AreaNo) × (rest : List Entry)
+      × (event.made ≡ begun-of volume after line unit entry area old ++ rest) × All IsStill rest)
 
 -- one request at most is asked by these
 asked-one : (one : Entry) (request : Request) (reply : Reply) → one.what ≡ Asked request reply
@@ -250,42 +201,17 @@ asked-one one request reply is rest none =
     same = ap (λ (them : List Bound). request_in 0 one.line one.what ++ them) none
         ∙ ap (λ (what : What). request_in 0 one.line what ++ []) is
 
-none-asked : (made : List Entry) → requests_in made ≡ [] → AnswersOnce made
-none-asked made none = record {
-  first = [];
-  rest = made;
-  made_are = refl;
-  begun = inl refl;
-  once = omega (arith, ap (λ (them : List Bound). length them) none);
-}
-
 module _ (volume after line : ℕ) (unit : UnitOfRecovery) (deck : unit.deck ≡ 0) (entry : CatEntry)
     (old new : FileNow) (going : old.stopped ≡ None) (before now : Faults) where
   abbrev Made : Type 0
   Made = IsDefineMade volume after line unit entry old new before now
 
-  abbrev OfUtilities : Entry → Type 0
-  OfUtilities one = one.unit.deck ≡ 0
-
-  -- nothing
-  nothing-made : new ≡ old → before.reads ≤ now.reads → now.writes ≡ before.writes → Made
-  nothing-made same reads writes = record {
-    made = [];
-    entries = ap (λ (f : FileNow). f.entries) same ∙ sym (append-nil old.entries);
-    geometry = ap (λ (f : FileNow). f.geometry) same;
-    own = All-nil OfUtilities;
-    utilities = inr (inr (All-nil IsCatalogStage));
-    once = none-asked [] refl;
-    faults = inr (All-nil NoFault);
-    goes = λ done. absurd done;
-    stops = λ stops. absurd (stops (ap (λ (f : FileNow). f.stopped) same ∙ going));
-    reads = omega (arith, reads);
-    failed = λ stop. absurd (stop-faulted [] stop (All-nil NoFault));
-    unfailed = λ faultless. writes;
-    unread = λ faultless. inr refl;
-    space = All-nil HasSpace;
-    by = inl (All-nil IsStill);
-  }
+  -- nothing, or a fault alone
+  still : (fails : Bool) → IsStillBy fails after unit line old new → HasRisen fails before now
+      → Made
+  still fails is risen =
+      let one = still-made after line unit deck old new going before now fails is risen in
+      record { event = one.event; by = inl one.still }
 
   -- a stage of the catalog
   stage-made : (what : What) → IsQuiet what
@@ -296,21 +222,23 @@ module _ (volume after line : ℕ) (unit : UnitOfRecovery) (deck : unit.deck ≡
       let faultless = All-from_recursion NoFault (one ∷ []) (quiet.sound, tt) in
       let goes = ap (λ (f : FileNow). f.stopped) is ∙ going in
       record {
-        made = one ∷ [];
-        entries = ap (λ (f : FileNow). f.entries) is;
-        geometry = ap (λ (f : FileNow). f.geometry) is;
-        own = All-from_recursion OfUtilities (one ∷ []) (deck, tt);
-        utilities = inr (inr (All-from_recursion IsCatalogStage (one ∷ []) (stage, tt)));
-        once = none-asked (one ∷ [])
-            (ap (λ (them : List Bound). them ++ []) (quiet.unasked line));
-        faults = inr faultless;
-        goes = λ done. goes;
-        stops = λ stops. absurd (stops goes);
-        reads = omega (arith, quiet.read, ap (λ (f : Faults). f.reads) same);
-        failed = λ stop. absurd (stop-faulted (one ∷ []) stop faultless);
-        unfailed = λ sound. ap (λ (f : Faults). f.writes) same;
-        unread = λ sound. inl (ap (λ (f : Faults). f.reads) same);
-        space = All-from_recursion HasSpace (one ∷ []) (quiet.space, tt);
+        event = record {
+          made = one ∷ [];
+          entries = ap (λ (f : FileNow). f.entries) is;
+          geometry = ap (λ (f : FileNow). f.geometry) is;
+          own = All-from_recursion OfUtilities (one ∷ []) (deck, tt);
+          utilities = inr (inr (All-from_recursion IsCatalogStage (one ∷ []) (stage, tt)));
+          once = none-asked (one ∷ [])
+              (ap (λ (them : List Bound). them ++ []) (quiet.unasked line));
+          faults = inr faultless;
+          goes = λ done. goes;
+          stops = λ stops. absurd (stops goes);
+          reads = omega (arith, quiet.read, ap (λ (f : Faults). f.reads) same);
+          failed = λ stop. absurd (stop-faulted (one ∷ []) stop faultless);
+          unfailed = λ sound. ap (λ (f : Faults). f.writes) same;
+          unread = λ sound. inl (ap (λ (f : Faults). f.reads) same);
+          space = All-from_recursion HasSpace (one ∷ []) (quiet.space, tt);
+        };
         by = inl (All-from_recursion IsStill (one ∷ [])
             (λ geometry state. quiet.still geometry state unit, tt));
       }
@@ -324,8 +252,7 @@ module _ (volume after line : ℕ) (unit : UnitOfRecovery) (deck : unit.deck ≡
           (quiet-claimed catalog_part area) (inr (area, refl)) is same
       by_stage true None is = stage-made (Split catalog_part) (quiet-split catalog_part)
           (inl refl) is same
-      by_stage false None is = nothing-made is (omega (arith, ap (λ (f : Faults). f.reads) same))
-          (ap (λ (f : Faults). f.writes) same)
+      by_stage false None is = still false is (none-rose before now same)
 
   -- the cluster
   module _ (area : AreaNo) where
@@ -360,45 +287,47 @@ module _ (volume after line : ℕ) (unit : UnitOfRecovery) (deck : unit.deck ≡
         (quiet.sound, (asked-sound _ _, (asked-sound _ _, tt))) in
         let goes = ap (λ (f : FileNow). f.stopped) is ∙ going in
         record {
-          made = made;
-          entries = defined-entries volume after line unit entry area old new is;
-          geometry = ap (λ (f : FileNow). f.geometry) is;
-          own = All-from_recursion OfUtilities made (deck, (deck, (deck, tt)));
-          utilities = inl (
-            entry.part,
-            area,
-            bytes,
-            record {
-              unit = unit;
+          event = record {
+            made = made;
+            entries = defined-entries volume after line unit entry area old new is;
+            geometry = ap (λ (f : FileNow). f.geometry) is;
+            own = All-from_recursion OfUtilities made (deck, (deck, (deck, tt)));
+            utilities = inl (
+              entry.part,
+              area,
+              bytes,
+              record {
+                unit = unit;
+                first = claim ∷ add ∷ [];
+                recorded = recorded;
+                commit = commit;
+                made_are = refl;
+                commit_unit = refl;
+                commit_is = refl;
+              },
+            );
+            once = record {
               first = claim ∷ add ∷ [];
-              recorded = recorded;
-              commit = commit;
+              rest = commit ∷ [];
               made_are = refl;
-              commit_unit = refl;
-              commit_is = refl;
-            },
-          );
-          once = record {
-            first = claim ∷ add ∷ [];
-            rest = commit ∷ [];
-            made_are = refl;
-            begun = inr (unit, entry.part, area, bytes, recorded);
-            once = asked-one commit Commit (DoneReply 0 None None) refl [] refl;
+              begun = inr (unit, entry.part, area, bytes, recorded);
+              once = asked-one commit Commit (DoneReply 0 None None) refl [] refl;
+            };
+            faults = inr faultless;
+            goes = λ done. goes;
+            stops = λ stops. absurd (stops goes);
+            reads = omega (arith, ap (λ (f : Faults). f.reads) same);
+            failed = λ stop. absurd (stop-faulted made stop faultless);
+            unfailed = λ sound. ap (λ (f : Faults). f.writes) same;
+            unread = λ sound. inl (ap (λ (f : Faults). f.reads) same);
+            space = All-from_recursion HasSpace made (
+              quiet.space,
+              (
+                λ asked need free. done-space _ asked 0 need free _ None,
+                (λ asked need free. done-space Commit asked 0 need free None None, tt),
+              ),
+            );
           };
-          faults = inr faultless;
-          goes = λ done. goes;
-          stops = λ stops. absurd (stops goes);
-          reads = omega (arith, ap (λ (f : Faults). f.reads) same);
-          failed = λ stop. absurd (stop-faulted made stop faultless);
-          unfailed = λ sound. ap (λ (f : Faults). f.writes) same;
-          unread = λ sound. inl (ap (λ (f : Faults). f.reads) same);
-          space = All-from_recursion HasSpace made (
-            quiet.space,
-            (
-              λ asked need free. done-space _ asked 0 need free _ None,
-              (λ asked need free. done-space Commit asked 0 need free None None, tt),
-            ),
-          );
           by = inr (
             area,
             commit ∷ [],
@@ -432,35 +361,37 @@ module _ (volume after line : ℕ) (unit : UnitOfRecovery) (deck : unit.deck ≡
     doubted-made is reads rose =
         let made = claim ∷ add ∷ refused ∷ fault ∷ [] in
         record {
-          made = made;
-          entries = doubted-entries volume after line unit entry area old new is;
-          geometry = ap (λ (f : FileNow). f.geometry) is;
-          own = All-from_recursion OfUtilities made (deck, (deck, (deck, (deck, tt))));
-          utilities = inr (inl stops-after);
-          once = record {
-            first = claim ∷ add ∷ [];
-            rest = refused ∷ fault ∷ [];
-            made_are = refl;
-            begun = inr (unit, entry.part, area, bytes, recorded);
-            once = asked-one refused Commit (Refused WriteFault) refl (fault ∷ []) refl;
-          };
-          faults = inl stops-after;
-          goes = λ done. absurd (no-commit done);
-          stops = λ stops. stops-after;
-          reads = omega (arith, reads);
-          failed = λ stop. rose;
-          unfailed = λ sound. absurd (stop-faulted made stops-after sound);
-          unread = λ sound. absurd (stop-faulted made stops-after sound);
-          space = All-from_recursion HasSpace made (
-            quiet.space,
-            (
-              λ asked need free. done-space _ asked 0 need free _ None,
+          event = record {
+            made = made;
+            entries = doubted-entries volume after line unit entry area old new is;
+            geometry = ap (λ (f : FileNow). f.geometry) is;
+            own = All-from_recursion OfUtilities made (deck, (deck, (deck, (deck, tt))));
+            utilities = inr (inl stops-after);
+            once = record {
+              first = claim ∷ add ∷ [];
+              rest = refused ∷ fault ∷ [];
+              made_are = refl;
+              begun = inr (unit, entry.part, area, bytes, recorded);
+              once = asked-one refused Commit (Refused WriteFault) refl (fault ∷ []) refl;
+            };
+            faults = inl stops-after;
+            goes = λ done. absurd (no-commit done);
+            stops = λ stops. stops-after;
+            reads = omega (arith, reads);
+            failed = λ stop. rose;
+            unfailed = λ sound. absurd (stop-faulted made stops-after sound);
+            unread = λ sound. absurd (stop-faulted made stops-after sound);
+            space = All-from_recursion HasSpace made (
+              quiet.space,
               (
-                λ asked need free. failed-space Commit asked need free,
-                (λ asked need free. faulted-space asked need free, tt),
+                λ asked need free. done-space _ asked 0 need free _ None,
+                (
+                  λ asked need free. failed-space Commit asked need free,
+                  (λ asked need free. faulted-space asked need free, tt),
+                ),
               ),
-            ),
-          );
+            );
+          };
           by = inr (
             area,
             refused ∷ fault ∷ [],
@@ -470,48 +401,18 @@ module _ (volume after line : ℕ) (unit : UnitOfRecovery) (deck : unit.deck ≡
           );
         }
 
-  -- a fault alone
-  alone-made : new ≡ faulted after unit line old → before.reads ≤ now.reads
-      → before.writes < now.writes → Made
-  alone-made is reads rose =
-      let fault = entry_next old.entries after unit line (Faulted Write) in
-      let stops : IsStop (fault ∷ []) =
-      inr (record { fault = fault; made_are = refl; fault_is = refl; of_utilities = deck }) in
-      record {
-        made = fault ∷ [];
-        entries = ap (λ (f : FileNow). f.entries) is;
-        geometry = ap (λ (f : FileNow). f.geometry) is;
-        own = All-from_recursion OfUtilities (fault ∷ []) (deck, tt);
-        utilities = inr (inl stops);
-        once = none-asked (fault ∷ []) refl;
-        faults = inl stops;
-        goes = λ done. absurd (⊎_elim faulted-goes-on (λ none. none) done);
-        stops = λ stopped. stops;
-        reads = omega (arith, reads);
-        failed = λ stop. rose;
-        unfailed = λ sound. absurd (stop-faulted (fault ∷ []) stops sound);
-        unread = λ sound. absurd (stop-faulted (fault ∷ []) stops sound);
-        space = All-from_recursion HasSpace (fault ∷ [])
-            (λ asked need free. faulted-space asked need free, tt);
-        by = inl (All-from_recursion IsStill (fault ∷ []) (λ geometry state. refl, tt));
-      }
-
-  refused-made : new ≡ old → now ≡ before → Made
-  refused-made same calm = nothing-made same (omega (arith, ap (λ (f : Faults). f.reads) calm))
-      (ap (λ (f : Faults). f.writes) calm)
-
   -- by what it came to
   pub define-made : (result : Result Define OutOfMemory)
       → IsDefineEntered result volume after unit line entry old new
       → HasDefineFaults before now result → Made
   define-made (Ok (Done area)) is calm = done-made area is calm
   define-made (Ok Again) is calm = staged-made is calm
-  define-made (Ok NoArea) is calm = refused-made is calm
-  define-made (Ok NoRoom) is calm = refused-made is calm
-  define-made (Ok Held) is calm = refused-made is calm
-  define-made (Ok Full) is calm = refused-made is calm
-  define-made (Ok (Fault Read)) is rose = nothing-made is (omega (arith, rose.0)) rose.1
+  define-made (Ok NoArea) is calm = still false is (none-rose before now calm)
+  define-made (Ok NoRoom) is calm = still false is (none-rose before now calm)
+  define-made (Ok Held) is calm = still false is (none-rose before now calm)
+  define-made (Ok Full) is calm = still false is (none-rose before now calm)
+  define-made (Ok (Fault Read)) is rose = still false is (read-rose before now rose.0 rose.1)
   define-made (Ok (Fault Write)) is rose = ⊎_elim
-      (λ alone. alone-made alone rose.0 rose.1)
+      (λ alone. still true alone (write-rose before now rose.0 rose.1))
       (λ doubt. doubted-made doubt.0 doubt.1 rose.0 rose.1) is
-  define-made (Err why) is calm = refused-made is calm
+  define-made (Err why) is calm = still false is (none-rose before now calm)

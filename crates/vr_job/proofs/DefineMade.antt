@@ -1,10 +1,9 @@
 -- What an event of a definition of a cluster adds to the history of a volume, and what it leaves of
 -- the rest that the record file has in memory.
 use Rattle.std.proofs.Common.{◌≡◌, ◌∙◌, ◌+◌, ◌<◌, ⊎_elim, ℕ, Bool, true, false, List, [], ◌∷◌, ◌++◌}
-use Rattle.std.proofs.Common.{Option, Some, None, ap, append_assoc, arith, inl, inr, max, refl}
+use Rattle.std.proofs.Common.{Option, Some, None, ap, append_assoc, arith, inl, inr, refl}
 use Rattle.std.proofs.Common.{subst, sym}
-use Rattle.std.specs.Prelude.{All, Result, Ok, Err, is_some}
-use Rattle.std.proofs.lemmas.List.{append-nil}
+use Rattle.std.specs.Prelude.{All, Result, Ok, Err}
 use Rattle.std.proofs.lemmas.List.Elements.{All-cons, All-nil}
 use Rattle.vr_types.specs.Geometry.{area_count}
 use Rattle.vr_types.specs.declared.fault.DeviceFault.TheVariants.{Read, Write}
@@ -18,28 +17,25 @@ use Rattle.vr_types.specs.declared.unit.Unit.{Unit as UnitOfRecovery}
 use Rattle.vr_catalog.specs.Record.{entry_of, spelling}
 use Rattle.vr_catalog.specs.declared.entry.CatEntry.{CatEntry}
 use Rattle.vr_history.proofs.CallerLemmas.{last_stamp-append}
-use Rattle.vr_history.specs.Merged.{last_stamp}
 use Rattle.vr_history.specs.declared.entry.Entry.{Entry}
 use Rattle.vr_history.specs.declared.entry.What.TheVariants.{Asked, Claimed, Faulted, Split}
 use Rattle.vr_ledger.specs.Entries.{IsOf}
 use Rattle.vr_record_file.specs.Defining.{added}
-use Rattle.vr_record_file.specs.Now.{FileNow, entry_next, faulted, has_deck}
+use Rattle.vr_record_file.specs.Now.{FileNow, entry_next}
 use Rattle.vr_record_file.specs.Now.{with_event}
 use Rattle.vr_ams_define.specs.Grown.{IsOfCommand}
 use Rattle.vr_event.proofs.CallerLemmas.{raised-decks, raised-others}
 use Rattle.vr_event.specs.Defining.{IsDefineEntered, catalog_part, entry_add, entry_place}
 use Rattle.vr_event.specs.Defining.{entry_with_area, file_defined, file_in_doubt, utility_unit}
 use Rattle.vr_event.specs.Defining.{with_cluster}
-use Rattle.vr_event.specs.Made.{AreNext}
 use Rattle.vr_event.specs.Staging.{stage_entered}
 use Rattle.vr_event.specs.declared.define.Define.{Define}
 use Rattle.vr_event.specs.declared.define.Define.TheVariants.{Again, Done, Fault, Full, Held}
 use Rattle.vr_event.specs.declared.define.Define.TheVariants.{NoArea, NoRoom}
-use Rattle.vr_job.specs.Catalogs.{catalog_by, with_spelled}
-use Rattle.vr_job.specs.Faultless.{has_stopped}
-use Rattle.vr_job.specs.ReadFaults.{read_faults}
+use Rattle.vr_job.specs.Catalogs.{with_spelled}
 use Rattle.vr_job.specs.Serving.{ShowUndoing}
-use Rattle.vr_job.proofs.Undoing.{asked-shows, fault-shows, step-shows}
+use Rattle.vr_job.proofs.Undoing.{asked-shows, step-shows}
+use Rattle.vr_job.proofs.UtilityMade.{HasMadeBy, false-true, made-same, still-by}
 
 -- a fault of a write stops the volume
 abbrev pub has_failed : Result Define OutOfMemory → Bool
@@ -53,25 +49,6 @@ has_failed (Ok (Fault Read)) = false
 has_failed (Ok (Fault Write)) = true
 has_failed (Err why) = false
 
--- The entries of the event are of the command on its line, at the stamps that come next; they make
--- the catalog, and stop the volume where a write failed alone.
-pub record HasDefinedBy (fails : Bool) (after line : ℕ) (old new : FileNow) : Type 0 where
-  pub made : List Entry
-  pub entries : new.entries ≡ old.entries ++ made
-  pub next : AreNext (max (last_stamp 0 old.entries) after) made
-  pub own : All (IsOfCommand line) made
-  pub geometry : new.geometry ≡ old.geometry
-  pub catalog : new.catalog ≡ catalog_by old.catalog made
-  pub decks : (deck : ℕ) → has_deck deck new.numbers ≡ has_deck deck old.numbers
-  pub unread : read_faults made ≡ 0
-  pub has_stop : has_stopped made ≡ fails
-  pub stays : fails ≡ false → new.stopped ≡ old.stopped
-  pub stops : fails ≡ true → is_some new.stopped ≡ true
-  pub shows : ShowUndoing old → ShowUndoing new
-
-false-true : false ≡ true → ⊥
-false-true is = cc
-
 module _ (after line : ℕ) (old : FileNow) where
   abbrev unit : UnitOfRecovery
   unit = utility_unit old
@@ -84,26 +61,10 @@ module _ (after line : ℕ) (old : FileNow) where
   one-of entry is = All-cons (IsOf 0) entry [] (ap (λ (u : UnitOfRecovery). u.deck) is)
       (All-nil (IsOf 0))
 
-  -- ---- nothing, or a stage of the catalog
-
-  made-same : HasDefinedBy false after line old old
-  made-same = record {
-    made = [];
-    entries = sym (append-nil old.entries);
-    next = tt;
-    own = All-nil Own;
-    geometry = refl;
-    catalog = refl;
-    decks = λ deck. refl;
-    unread = refl;
-    has_stop = refl;
-    stays = λ is. refl;
-    stops = λ is. absurd (false-true is);
-    shows = λ shows. shows;
-  }
+  -- ---- a stage of the catalog
 
   made-claimed : (area : AreaNo)
-      → HasDefinedBy false after line old
+      → HasMadeBy false after line old
       (with_event after unit line (Claimed catalog_part area) old)
   made-claimed area = record {
     made = entry ∷ [];
@@ -126,7 +87,7 @@ module _ (after line : ℕ) (old : FileNow) where
       entry : Entry
       entry = entry_next old.entries after unit line (Claimed catalog_part area)
 
-  made-split : HasDefinedBy false after line old
+  made-split : HasMadeBy false after line old
       (with_event after unit line (Split catalog_part) old)
   made-split = record {
     made = entry ∷ [];
@@ -148,32 +109,11 @@ module _ (after line : ℕ) (old : FileNow) where
       entry : Entry
       entry = entry_next old.entries after unit line (Split catalog_part)
 
-  made-staged : (split : Bool) (taken : Option AreaNo) → HasDefinedBy false after line old
+  made-staged : (split : Bool) (taken : Option AreaNo) → HasMadeBy false after line old
       (stage_entered after unit line catalog_part split taken old)
   made-staged split (Some area) = made-claimed area
   made-staged true None = made-split
-  made-staged false None = made-same
-
-  -- ---- a fault alone
-
-  made-faulted : HasDefinedBy true after line old (faulted after unit line old)
-  made-faulted = record {
-    made = entry ∷ [];
-    entries = refl;
-    next = (refl, tt);
-    own = All-cons Own entry [] (refl, refl) (All-nil Own);
-    geometry = refl;
-    catalog = refl;
-    decks = λ deck. refl;
-    unread = refl;
-    has_stop = refl;
-    stays = λ is. absurd (false-true (sym is));
-    stops = λ is. refl;
-    shows = λ shows. fault-shows old (faulted after unit line old) entry refl refl shows Write refl;
-  }
-    where
-      entry : Entry
-      entry = entry_next old.entries after unit line (Faulted Write)
+  made-staged false None = made-same after line old
 
   -- ---- a definition
 
@@ -222,7 +162,7 @@ module _ (after line : ℕ) (old : FileNow) where
         ≡ with_spelled (entry_of (spelling new)) old.catalog
     catalog-made = ap (λ (o : Option CatEntry). with_spelled o old.catalog) (sym spells)
 
-    made-defined : HasDefinedBy false after line old
+    made-defined : HasMadeBy false after line old
         (file_defined volume after unit line entry area old)
     made-defined = record {
       made = claim ∷ record-of ∷ commit ∷ [];
@@ -265,7 +205,7 @@ module _ (after line : ℕ) (old : FileNow) where
         commit = entry_next ((old.entries ++ claim ∷ []) ++ record-of ∷ []) 0 unit line
             (Asked Commit (DoneReply 0 None None))
 
-    made-in-doubt : HasDefinedBy true after line old
+    made-in-doubt : HasMadeBy true after line old
         (file_in_doubt volume after unit line entry area old)
     made-in-doubt = record {
       made = claim ∷ record-of ∷ commit ∷ fault ∷ [];
@@ -339,24 +279,21 @@ module _ (after line : ℕ) (old : FileNow) where
       (spells : (area : AreaNo) → area.0 < area_count old.geometry
       → entry_of (spelling (entry_with_area entry area)) ≡ Some (entry_with_area entry area))
       (new : FileNow) where
-    same-made : new ≡ old → HasDefinedBy false after line old new
-    same-made same = subst (HasDefinedBy false after line old) (sym same) made-same
-
     pub made-by : (result : Result Define OutOfMemory)
         → ((area : AreaNo) → result ≡ Ok (Done area) → area.0 < area_count old.geometry)
         → IsDefineEntered result volume after unit line entry old new
-        → HasDefinedBy (has_failed result) after line old new
-    made-by (Ok (Done area)) within is = subst (HasDefinedBy false after line old) (sym is)
+        → HasMadeBy (has_failed result) after line old new
+    made-by (Ok (Done area)) within is = subst (HasMadeBy false after line old) (sym is)
         (made-defined volume entry area (spells area (within area refl)))
-    made-by (Ok Again) within is = subst (HasDefinedBy false after line old) (sym is.2)
+    made-by (Ok Again) within is = subst (HasMadeBy false after line old) (sym is.2)
         (made-staged is.0 is.1)
-    made-by (Ok NoArea) within is = same-made is
-    made-by (Ok NoRoom) within is = same-made is
-    made-by (Ok Held) within is = same-made is
-    made-by (Ok Full) within is = same-made is
-    made-by (Ok (Fault Read)) within is = same-made is
+    made-by (Ok NoArea) within is = still-by after line old false new is
+    made-by (Ok NoRoom) within is = still-by after line old false new is
+    made-by (Ok Held) within is = still-by after line old false new is
+    made-by (Ok Full) within is = still-by after line old false new is
+    made-by (Ok (Fault Read)) within is = still-by after line old false new is
     made-by (Ok (Fault Write)) within is = ⊎_elim
-        (λ alone. subst (HasDefinedBy true after line old) (sym alone) made-faulted)
-        (λ doubt. subst (HasDefinedBy true after line old) (sym doubt.1)
+        (λ alone. still-by after line old true new alone)
+        (λ doubt. subst (HasMadeBy true after line old) (sym doubt.1)
         (made-in-doubt volume entry doubt.0 (spells doubt.0 doubt.2))) is
-    made-by (Err why) within is = same-made is
+    made-by (Err why) within is = still-by after line old false new is

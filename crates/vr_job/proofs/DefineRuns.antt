@@ -1,8 +1,7 @@
 -- What an event of a definition of a cluster leaves of a run, from each opening.
-use Rattle.std.proofs.Common.{◌≡◌, ◌≢◌, ◌∙◌, ◌<◌, inl, inr, ℕ, List, [], ◌∷◌, ◌++◌, None}
-use Rattle.std.proofs.Common.{Result, ap, append_assoc, refl, subst, sym, ⊎_elim}
-use Rattle.std.proofs.lemmas.List.{append-nil, append_cancel_left}
-use Rattle.std.proofs.lemmas.List.Elements.{All-contains}
+use Rattle.std.proofs.Common.{◌≡◌, ◌∙◌, ◌<◌, inl, inr, ℕ, List, [], ◌∷◌, ◌++◌}
+use Rattle.std.proofs.Common.{Result, ap, refl, subst, sym, ⊎_elim}
+use Rattle.std.proofs.lemmas.List.{append_cancel_left}
 use Rattle.vr_types.specs.Faults.{Faults}
 use Rattle.vr_types.specs.Geometry.{area_count}
 use Rattle.vr_types.specs.Image.{Image}
@@ -12,7 +11,7 @@ use Rattle.vr_types.specs.declared.geometry.Geometry.{Geometry}
 use Rattle.vr_types.specs.declared.memory.OutOfMemory.{OutOfMemory}
 use Rattle.vr_types.specs.declared.unit.AreaNo.{AreaNo}
 use Rattle.vr_types.specs.declared.unit.Unit.{Unit as UnitOfRecovery}
-use Rattle.vr_types.proofs.CallerLemmas.{guards-then, guards-weaken}
+use Rattle.vr_types.proofs.CallerLemmas.{guards-weaken}
 use Rattle.vr_catalog.specs.declared.entry.CatEntry.{CatEntry}
 use Rattle.vr_history.specs.Effects.{ends_unit, stops}
 use Rattle.vr_history.specs.Legal.{AreSteps, state_of}
@@ -26,34 +25,18 @@ use Rattle.vr_event.specs.Volume.{IsHeld, VolumeNow}
 use Rattle.vr_event.specs.declared.define.Define.{Define}
 use Rattle.vr_volume.specs.Crashes.{RecoversTo}
 use Rattle.vr_job.specs.Committed.{KeepTheCatalog}
-use Rattle.vr_job.specs.Crash.{IsLeftBy}
-use Rattle.vr_job.specs.Events.{HasStopped, IsEvent, IsLeftWhile, IsOfEvents, KeepsAtRest}
-use Rattle.vr_job.specs.Events.{LeavesAtRest, OwnsAtRest}
+use Rattle.vr_job.specs.Events.{IsLeftWhile}
 use Rattle.vr_job.specs.Going.{HasRun}
-use Rattle.vr_job.proofs.Crashing.{held-left, left-more}
-use Rattle.vr_job.proofs.DefineCatalog.{begun-keep, recorded-lack, still-keep}
-use Rattle.vr_job.proofs.DefineEvents.{HasSpace, IsDefineMade, begun-of, begun-recorded}
+use Rattle.vr_job.proofs.Crashing.{left-while}
+use Rattle.vr_job.proofs.DefineCatalog.{begun-keep, recorded-lack}
+use Rattle.vr_job.proofs.DefineEvents.{IsDefineMade, begun-of, begun-recorded}
 use Rattle.vr_job.proofs.DefineEvents.{claim-of, commit-of, defined-entries, define-made}
 use Rattle.vr_job.proofs.DefineEvents.{doubted-entries, fault-of, refused-of}
 use Rattle.vr_job.proofs.DefineImages.{ended-recovers, stopped-recovers}
-use Rattle.vr_job.proofs.Keeping.{keep-then, state-both}
-use Rattle.vr_job.proofs.Kept.{AreSized, held-kept}
-use Rattle.vr_job.proofs.Owning.{held-owners}
+use Rattle.vr_job.proofs.Keeping.{state-both}
+use Rattle.vr_job.proofs.Kept.{AreSized}
 use Rattle.vr_job.proofs.Stopping.{step-at}
-
--- what is left while an event goes on is left by the history after it
-while-left : (geometry : Geometry) (number : ℕ) (opening : State) (entries made : List Entry)
-    (image : Image) → IsLeftWhile geometry number opening entries made image
-    → IsLeftBy geometry number opening (entries ++ made) image
-while-left geometry number opening entries made image is = record {
-  before = entries ++ is.first;
-  after = is.rest;
-  is = ap (λ (es : List Entry). entries ++ es) is.made_are
-      ∙ sym (append_assoc entries is.first is.rest);
-  counted = is.counted;
-  commits = is.commits;
-  recovers = is.recovers;
-}
+use Rattle.vr_job.proofs.UtilityRuns.{still-keep, utility-run}
 
 module _ {B : Type 0} (seen : B → Seen) (faults : B → Faults) (after line : ℕ) (entry : CatEntry)
     (result : Result Define OutOfMemory) (old new : VolumeNow B)
@@ -73,9 +56,10 @@ module _ {B : Type 0} (seen : B → Seen) (faults : B → Faults) (after line : 
   made-in = define-made old.number after line unit refl entry old.file new.file may.going
       (faults old.blocks) (faults new.blocks) result come.entered cause
 
-  made-are : (made : List Entry) → new.file.entries ≡ old.file.entries ++ made → made-in.made ≡ made
-  made-are made entries = append_cancel_left old.file.entries made-in.made made
-      (sym made-in.entries ∙ entries)
+  made-are : (made : List Entry) → new.file.entries ≡ old.file.entries ++ made
+      → made-in.event.made ≡ made
+  made-are made entries = append_cancel_left old.file.entries made-in.event.made made
+      (sym made-in.event.entries ∙ entries)
 
   module _ (opening : State) (first : B) (run : HasRun seen faults opening first old)
       (held-by : HasComeHeld seen opening after (utility_unit old.file) line entry old new)
@@ -88,19 +72,19 @@ module _ {B : Type 0} (seen : B → Seen) (faults : B → Faults) (after line : 
     held = held-by.held
 
     -- the state after it
-    state-is : state_now opening new.file ≡ state_of geometry before made-in.made
-    state-is = ap (λ (g : Geometry). state_of g opening new.file.entries) made-in.geometry
-        ∙ ap (state_of geometry opening) made-in.entries
-        ∙ state-both geometry opening old.file.entries made-in.made
+    state-is : state_now opening new.file ≡ state_of geometry before made-in.event.made
+    state-is = ap (λ (g : Geometry). state_of g opening new.file.entries) made-in.event.geometry
+        ∙ ap (state_of geometry opening) made-in.event.entries
+        ∙ state-both geometry opening old.file.entries made-in.event.made
 
-    steps : AreSteps geometry opening (old.file.entries ++ made-in.made)
-    steps = subst (AreSteps geometry opening) made-in.entries
-        (subst (λ (g : Geometry). AreSteps g opening new.file.entries) made-in.geometry
+    steps : AreSteps geometry opening (old.file.entries ++ made-in.event.made)
+    steps = subst (AreSteps geometry opening) made-in.event.entries
+        (subst (λ (g : Geometry). AreSteps g opening new.file.entries) made-in.event.geometry
         held.file.legal.steps)
 
     -- the area of a new part is one of the volume
     area-below : (area : AreaNo) (rest : List Entry)
-        → made-in.made ≡ begun-of old.number after line unit entry area old.file ++ rest
+        → made-in.event.made ≡ begun-of old.number after line unit entry area old.file ++ rest
         → area.0 < area_count geometry
     area-below area rest are = (step-at geometry opening old.file.entries
         (claim-of old.number after line unit entry area old.file) _
@@ -110,19 +94,11 @@ module _ {B : Type 0} (seen : B → Seen) (faults : B → Faults) (after line : 
     -- ---- what an image recovers to at each moment
 
     abbrev While : Image → Type 0
-    While = IsLeftWhile geometry old.number opening old.file.entries made-in.made
+    While = IsLeftWhile geometry old.number opening old.file.entries made-in.event.made
 
     at-rest : (image : Image) → RecoversTo geometry old.number before [] image → While image
-    at-rest image rests = record {
-      first = [];
-      rest = made-in.made;
-      made_are = refl;
-      begun = inl refl;
-      counted = [];
-      commits = inl refl;
-      recovers = subst (λ (es : List Entry). RecoversTo geometry old.number
-          (state_of geometry opening es) [] image) (sym (append-nil old.file.entries)) rests;
-    }
+    at-rest image rests = left-while geometry old.number opening old.file.entries
+        made-in.event.made [] image (inl refl) rests
 
     module _ (area : AreaNo) where
       abbrev begun : List Entry
@@ -152,7 +128,7 @@ module _ {B : Type 0} (seen : B → Seen) (faults : B → Faults) (after line : 
           → RecoversTo geometry old.number (state_now opening new.file) (unit ∷ []) image
           → While image
       while-done image is recovers =
-          let are : made-in.made ≡ begun ++ commit ∷ [] = made-are (begun ++ commit ∷ [])
+          let are : made-in.event.made ≡ begun ++ commit ∷ [] = made-are (begun ++ commit ∷ [])
           (defined-entries old.number after line unit entry area old.file new.file is) in
           let lack = recorded-lack seen opening old run.held may.whole may.going was entry cluster
           area (area-below area (commit ∷ []) are) after line unit in
@@ -181,7 +157,7 @@ module _ {B : Type 0} (seen : B → Seen) (faults : B → Faults) (after line : 
           → RecoversTo geometry old.number (state_now opening new.file) (unit ∷ []) image
           → While image
       while-doubted image is recovers =
-          let are : made-in.made ≡ begun ++ refused ∷ fault ∷ [] =
+          let are : made-in.event.made ≡ begun ++ refused ∷ fault ∷ [] =
           made-are (begun ++ refused ∷ fault ∷ [])
           (doubted-entries old.number after line unit entry area old.file new.file is) in
           let stopped : state_now opening new.file ≡ stops fault.stamp with-record =
@@ -218,111 +194,20 @@ module _ {B : Type 0} (seen : B → Seen) (faults : B → Faults) (after line : 
         (IsLeftDefining g old.number opening after unit line entry old.file new.file))
         (may.whole.geometry may.going) held-by.moments) in-while
 
-    -- and so by the history after it
-    left-by : Guards (seen first) (seen new.blocks)
-        (IsLeftBy geometry old.number opening (old.file.entries ++ made-in.made))
-    left-by = guards-then (seen first) (seen old.blocks) (seen new.blocks)
-        (IsLeftBy geometry old.number opening (old.file.entries ++ made-in.made))
-        (guards-weaken (seen first) (seen old.blocks)
-        (IsLeftBy geometry old.number opening old.file.entries)
-        (IsLeftBy geometry old.number opening (old.file.entries ++ made-in.made)) run.left
-        (λ image is. left-more geometry old.number opening old.file.entries made-in.made image is))
-        (guards-weaken (seen old.blocks) (seen new.blocks) While
-        (IsLeftBy geometry old.number opening (old.file.entries ++ made-in.made)) while-guards
-        (λ image is. while-left geometry old.number opening old.file.entries made-in.made image is))
-
-    -- ---- the event
-
-    rests : LeavesAtRest seen geometry old.number opening new.blocks new.file.entries
-    rests = subst (λ (n : ℕ). LeavesAtRest seen geometry n opening new.blocks new.file.entries)
-        come.number
-        (subst (λ (g : Geometry). LeavesAtRest seen g new.number opening new.blocks
-        new.file.entries) made-in.geometry (held-left seen opening new come.whole held))
-
-    -- what its history says of the volume
-    held-stopped : new.file.stopped ≡ (state_of geometry opening new.file.entries).stopped
-    held-stopped = subst (λ (g : Geometry). new.file.stopped
-        ≡ (state_of g opening new.file.entries).stopped) made-in.geometry held.file.now.stopped
-
-    one-event : IsEvent seen faults geometry old.number opening (record {
-      deck = 0;
-      blocks = old.blocks;
-      entries = old.file.entries;
-      made = made-in.made;
-    }) new.blocks new.file.entries
-    one-event = record {
-      entries_are = made-in.entries;
-      own = made-in.own;
-      utilities = λ deck. made-in.utilities;
-      once = made-in.once;
-      during = inr while-guards;
-      after = rests;
-      items = subst (λ (n : ℕ). KeepsAtRest seen geometry n opening new.blocks new.file.entries)
-          come.number
-          (subst (λ (g : Geometry). KeepsAtRest seen g new.number opening new.blocks
-          new.file.entries) made-in.geometry (held-kept seen opening new come.whole held sized));
-      owners = subst (λ (g : Geometry). OwnsAtRest seen g opening new.blocks new.file.entries)
-          made-in.geometry (held-owners seen opening new come.whole held cur);
-      faults = made-in.faults;
-      lasting = λ done. rests (sym held-stopped ∙ made-in.goes done);
-      refused_read = made-in.reads;
-      failed_write = made-in.failed;
-      unfailed = made-in.unfailed;
-      unread = λ faultless none. ⊎_elim (λ same. inl same) (λ nothing. inr (refl, nothing))
-          (made-in.unread faultless);
-      lacks = λ one among request need free is.
-          absurd (All-contains HasSpace made-in.made one made-in.space among request need free is);
-    }
-
-    -- where the volume stopped, it did so now
-    stops-now : new.file.stopped ≢ None
-        → HasStopped geometry old.number opening new.file.entries (seen new.blocks)
-    stops-now stopped = record {
-      before = old.file.entries;
-      made = made-in.made;
-      later = [];
-      entries_are = made-in.entries
-          ∙ ap (λ (es : List Entry). old.file.entries ++ es) (sym (append-nil made-in.made));
-      stop = made-in.stops stopped;
-      left = λ image left. while-guards.rest image left;
-    }
-
     -- ---- the catalog
 
-    made-keep : KeepTheCatalog geometry before made-in.made
-    made-keep = ⊎_elim (still-keep geometry before made-in.made)
+    made-keep : KeepTheCatalog geometry before made-in.event.made
+    made-keep = ⊎_elim (still-keep geometry before made-in.event.made)
         (λ add. subst (KeepTheCatalog geometry before) (sym add.2)
         (begun-keep seen opening old run.held may.whole may.going was entry cluster add.0
         (area-below add.0 add.1 add.2) after line unit refl add.1
         (still-keep geometry _ add.1 add.3))) made-in.by
 
-    keeps-on : KeepTheCatalog geometry opening new.file.entries
-    keeps-on = subst (KeepTheCatalog geometry opening) (sym made-in.entries)
-        (keep-then geometry opening old.file.entries made-in.made run.keeps_catalog made-keep)
-
     -- ---- the run
 
     on-run : HasRun seen faults opening first new
-    on-run = record {
-      held = held;
-      keeps_catalog = subst (λ (g : Geometry). KeepTheCatalog g opening new.file.entries)
-          (sym made-in.geometry) keeps-on;
-      left = subst (λ (n : ℕ). Guards (seen first) (seen new.blocks)
-          (IsLeftBy new.file.geometry n opening new.file.entries)) (sym come.number)
-          (subst (λ (g : Geometry). Guards (seen first) (seen new.blocks)
-          (IsLeftBy g old.number opening new.file.entries)) (sym made-in.geometry)
-          (subst (λ (es : List Entry). Guards (seen first) (seen new.blocks)
-          (IsLeftBy geometry old.number opening es)) (sym made-in.entries) left-by));
-      events = subst (λ (n : ℕ). IsOfEvents seen faults new.file.geometry n opening first
-          new.blocks new.file.entries) (sym come.number)
-          (subst (λ (g : Geometry). IsOfEvents seen faults g old.number opening first new.blocks
-          new.file.entries) (sym made-in.geometry)
-          (record { events = _ ∷ run.events.events; are = (one-event, run.events.are) }));
-      stopped = λ stops. subst (λ (n : ℕ). HasStopped new.file.geometry n opening
-          new.file.entries (seen new.blocks)) (sym come.number)
-          (subst (λ (g : Geometry). HasStopped g old.number opening new.file.entries
-          (seen new.blocks)) (sym made-in.geometry) (stops-now stops));
-    }
+    on-run = utility-run seen faults old new come.whole come.number made-in.event opening first run
+        held-by.held sized cur while-guards made-keep
 
 -- An event of a definition goes on with what a crash leaves at each moment, event by event.
 pub defined-run : {B : Type 0} (seen : B → Seen) (faults : B → Faults) (after line : ℕ)

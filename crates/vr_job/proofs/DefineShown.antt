@@ -99,7 +99,7 @@ module _ (after line : ℕ) (unit : UnitOfRecovery) (volume : ℕ) (entry : CatE
 module _ {B : Type 0} (tells : Bool) (seen : B → Seen) (faults : B → Faults)
     (old ready : VolumeNow B) (stays : StaysServing tells seen faults old ready) where
   -- its catalog stays
-  ready-catalog : ready.file.catalog ≡ old.file.catalog
+  pub ready-catalog : ready.file.catalog ≡ old.file.catalog
   ready-catalog = follows-catalog tells seen faults old ready (inr stays.went) []
       (stays.entries ∙ sym (append-nil old.file.entries))
 

@@ -8,6 +8,10 @@ pub mod DeckEvents
 pub mod Entering
 pub mod Undoing
 pub mod GoingOn
+pub mod UtilityMade
+pub mod UtilityEvents
+pub mod UtilityGoing
+pub mod UtilityRuns
 pub mod DefineMade
 pub mod DefineImages
 pub mod DefineEvents
@@ -15,6 +19,7 @@ pub mod DefineCatalog
 pub mod DefineRuns
 pub mod DefineShown
 pub mod Defining
+pub mod CountEvents
 pub mod Effects
 pub mod Additions
 pub mod Ascending

@@ -1,16 +1,17 @@
 -- What the steps of IDCAMS report is what the histories of the volumes say, and so are the
 -- catalogs by which decks are bound.
-use Rattle.std.proofs.Common.{◌≡◌, ◌∙◌, ⊎_elim, ℕ, Bool, List, [], ◌∷◌, ◌++◌, Option, Some, None}
-use Rattle.std.proofs.Common.{refl, sym, ap, subst, drop, get_or, length, map, take}
+use Rattle.std.proofs.Common.{◌≡◌, ◌∙◌, ◌<◌, ⊎_elim, ℕ, zero, suc, Bool, List, [], ◌∷◌, ◌++◌, Option}
+use Rattle.std.proofs.Common.{Some, None, arith, refl, sym, ap, subst, drop, get_or, length, map, take}
 use Rattle.std.specs.Prelude.{slice_get}
 use Rattle.std.specs.Option.{option_map}
 use Rattle.std.proofs.lemmas.List.{length-map}
-use Rattle.std.proofs.lemmas.Option.{get_or_from_slice_get, slice_get-map, slice_get_within}
+use Rattle.std.proofs.lemmas.Option.{get_or_from_slice_get, slice_get-get_or, slice_get-map}
+use Rattle.std.proofs.lemmas.Option.{slice_get_within}
 use Rattle.vr_types.specs.Faults.{Faults}
 use Rattle.vr_types.specs.Seen.{Seen}
-use Rattle.vr_types.specs.declared.geometry.Geometry.{Geometry}
 use Rattle.vr_catalog.specs.declared.entry.CatEntry.{CatEntry}
 use Rattle.vr_event.specs.Volume.{VolumeNow}
+use Rattle.vr_history.specs.State.{State}
 use Rattle.vr_history.specs.declared.entry.Entry.{Entry}
 use Rattle.vr_job_text.specs.declared.job.JobStep.{JobStep}
 use Rattle.vr_job_text.specs.declared.job.JobStep.TheVariants.{Decks, Utilities}
@@ -24,11 +25,12 @@ use Rattle.vr_job.specs.Answering.{IsAnswered}
 use Rattle.vr_job.specs.Catalogs.{catalog_by}
 use Rattle.vr_job.specs.Going.{Follows, ShowsStop, follows-catalog}
 use Rattle.vr_job.specs.Reported.{AnswersBy, AreBound, AreReportedFrom, AreVolumesAt, IsCatalogAt}
-use Rattle.vr_job.specs.Reported.{IsCutAt, IsReportOf, IsVolumeAt, VolumeAt, shape_at, shown_at}
+use Rattle.vr_job.specs.Reported.{IsCutAt, IsReportOf, IsVolumeAt, VolumeAt, VolumeFrom}
 use Rattle.vr_job.specs.Serving.{shown_of}
 use Rattle.vr_job.specs.Shelf.{catalog_of, entries_on, shape_of}
-use Rattle.vr_job.proofs.AnsweredBy.{answers-by, at_of}
-use Rattle.vr_job.proofs.Reports.{report-seen}
+use Rattle.vr_job.proofs.AnsweredBy.{IsHeldFrom, answers-by, at_of}
+use Rattle.vr_job.proofs.Reports.{EachHeld, each_seen, held-each, past, report-seen, seen-count}
+use Rattle.vr_job.proofs.Reports.{seen-there}
 
 -- an element that a list was mapped to is that of one of the list
 mapped-at : {X Y : Type 0} (f : X → Y) (xs : List X) (place : ℕ) (y : Y)
@@ -50,22 +52,80 @@ mapped-at f xs place y is = by (slice_get xs place) refl
       some-is (sym is ∙ slice_get-map f xs place ∙ ap (option_map f) at),
     )
 
--- the volumes as they were opened, which had no history yet and showed whether they had stopped,
--- and as they came out of the steps
+-- ---- what reports speak of
+
+module _ {D : Type 0} where
+  -- a volume that was opened in this state, as it was then and as it came out of the steps
+  abbrev pub from_of : State → VolumeNow D → VolumeNow D → VolumeFrom
+  from_of opening first now = record {
+    geometry = shape_of first;
+    opening = opening;
+    catalog = catalog_of first;
+    entries = entries_on now;
+  }
+
+  abbrev pub froms_of : (ℕ → State) → List (VolumeNow D) → List (VolumeNow D) → List VolumeFrom
+  froms_of openings [] ran = []
+  froms_of openings (first ∷ volumes) [] = []
+  froms_of openings (first ∷ volumes) (now ∷ ran) =
+      from_of (openings zero) first now ∷ froms_of (past openings) volumes ran
+
+  froms-count : (openings : ℕ → State) (volumes ran : List (VolumeNow D))
+      → length volumes ≡ length ran → length (froms_of openings volumes ran) ≡ length ran
+  froms-count openings [] ran same = same
+  froms-count openings (first ∷ volumes) [] same = absurd (omega (arith, same))
+  froms-count openings (first ∷ volumes) (now ∷ ran) same =
+      ap suc (froms-count (past openings) volumes ran (omega (arith, same)))
+
+  -- the one of a place is of the volumes there
+  record IsFromAt (openings : ℕ → State) (volumes ran : List (VolumeNow D)) (place : ℕ)
+      (from : VolumeFrom) : Type 0 where
+    first : VolumeNow D
+    first_is : slice_get volumes place ≡ Some first
+    now : VolumeNow D
+    now_is : slice_get ran place ≡ Some now
+    is : from ≡ from_of (openings place) first now
+
+  froms-there : (openings : ℕ → State) (volumes ran : List (VolumeNow D)) (place : ℕ)
+      (from : VolumeFrom) → slice_get (froms_of openings volumes ran) place ≡ Some from
+      → IsFromAt openings volumes ran place from
+  froms-there openings [] ran place from there = absurd cc
+  froms-there openings (first ∷ volumes) [] place from there = absurd cc
+  froms-there openings (first ∷ volumes) (now ∷ ran) zero from there = record {
+    first = first;
+    first_is = refl;
+    now = now;
+    now_is = refl;
+    is = same from (from_of (openings zero) first now) there;
+  }
+    where
+      same : (a b : VolumeFrom) → Some b ≡ Some a → a ≡ b
+      same a b is = cc
+  froms-there openings (first ∷ volumes) (now ∷ ran) (suc place) from there =
+      let is = froms-there (past openings) volumes ran place from there in record {
+        first = is.first;
+        first_is = is.first_is;
+        now = is.now;
+        now_is = is.now_is;
+        is = is.is;
+      }
+
+-- the volumes as they were opened, in these states, with no history yet, and as they came out of the
+-- steps
 module _ {D : Type 0} (tells : Bool) (seen : D → Seen) (faults : D → Faults)
-    (volumes ran : List (VolumeNow D))
+    (volumes ran : List (VolumeNow D)) (openings : ℕ → State)
     (begins : (place : ℕ) (volume : VolumeNow D) → slice_get volumes place ≡ Some volume
     → volume.file.entries ≡ [])
-    (show : (place : ℕ) (volume : VolumeNow D) → slice_get volumes place ≡ Some volume
-    → ShowsStop volume.file) where
+    (held : (place : ℕ) (volume : VolumeNow D) → slice_get volumes place ≡ Some volume
+    → IsHeldFrom tells seen (openings place) volume) where
   abbrev Later : VolumeNow D → VolumeNow D → Type 0
   Later = Follows tells seen faults
 
   abbrev answering : Answering (VolumeNow D)
   answering = IsAnswered tells seen faults
 
-  abbrev shapes : List Geometry
-  shapes = map shape_of volumes
+  abbrev froms : List VolumeFrom
+  froms = froms_of openings volumes ran
 
   abbrev catalogs : List (List CatEntry)
   catalogs = map catalog_of volumes
@@ -135,36 +195,60 @@ module _ {D : Type 0} (tells : Bool) (seen : D → Seen) (faults : D → Faults)
         (begins place first first_is)
         ∙ ap (λ (them : List CatEntry). catalog_by them here.file.entries) (sym same)
 
-    volume-at : (place : ℕ) (geometry : Geometry) (catalog : List CatEntry)
-        (entries : List Entry) (at : VolumeAt)
-        → (v : VolumeNow D) × (slice_get volumes place ≡ Some v) × (geometry ≡ shape_of v)
-        → (v : VolumeNow D) × (slice_get volumes place ≡ Some v) × (catalog ≡ catalog_of v)
-        → (v : VolumeNow D) × (slice_get ran place ≡ Some v) × (entries ≡ entries_on v)
-        → (v : VolumeNow D) × (slice_get between place ≡ Some v) × (at ≡ at_of v)
-        → IsVolumeAt before after geometry catalog entries at
-    volume-at place geometry catalog entries at shaped first now here =
-        subst (IsVolumeAt before after geometry catalog entries) (sym here.2) (record {
-          shape_is = later-shape shaped.0 here.0
-              (since-at place shaped.0 here.0 shaped.1 here.1).is_later ∙ sym shaped.2;
-          cut = cut-at place first.0 here.0 now.0 first.1 here.1 now.1 entries now.2;
-          catalog_is = catalog-at place first.0 here.0 first.1 here.1 catalog first.2;
-          stopped_is = later-shows first.0 here.0
-              (since-at place first.0 here.0 first.1 here.1).is_later (show place first.0 first.1);
-        })
-
-    as-many : length between ≡ length histories
-    as-many = sym are.later.count ∙ sym (length-map ran entries_on)
-
-    volumes-at : AreVolumesAt before after shapes catalogs histories (map at_of between)
-    volumes-at = record {
-      count = length-map between at_of ∙ as-many;
-      each = λ place geometry catalog entries at geometry_at catalog_at entries_at at_at.
-          volume-at place geometry catalog entries at
-          (mapped-at shape_of volumes place geometry geometry_at)
-          (mapped-at catalog_of volumes place catalog catalog_at)
-          (mapped-at entries_on ran place entries entries_at)
-          (mapped-at at_of between place at at_at);
+    volume-at : (place : ℕ) (first here now : VolumeNow D)
+        → slice_get volumes place ≡ Some first → slice_get between place ≡ Some here
+        → slice_get ran place ≡ Some now
+        → IsVolumeAt before after (from_of (openings place) first now)
+        (at_of (openings place) here)
+    volume-at place first here now first_is here_is now_is = record {
+      shape_is = later-shape first here (since-at place first here first_is here_is).is_later;
+      opening_is = refl;
+      cut = cut-at place first here now first_is here_is now_is now.file.entries refl;
+      catalog_is = catalog-at place first here first_is here_is first.file.catalog refl;
+      stopped_is = later-shows first here (since-at place first here first_is here_is).is_later
+          (held place first first_is).shows;
     }
+
+    seen-volume : (place : ℕ) (from : VolumeFrom) (at : VolumeAt)
+        → IsFromAt openings volumes ran place from
+        → (here : VolumeNow D) × (slice_get between place ≡ Some here)
+        × (at ≡ at_of (openings place) here)
+        → IsVolumeAt before after from at
+    seen-volume place from at is here =
+        subst (λ (f : VolumeFrom). IsVolumeAt before after f at) (sym is.is)
+        (subst (IsVolumeAt before after (from_of (openings place) is.first is.now)) (sym here.2)
+        (volume-at place is.first here.0 is.now is.first_is here.1 is.now_is))
+
+    as-many : length between ≡ length ran
+    as-many = sym are.later.count
+
+    volumes-at : AreVolumesAt before after froms (each_seen at_of openings between)
+    volumes-at = record {
+      count = seen-count at_of openings between ∙ as-many
+          ∙ sym (froms-count openings volumes ran (sym are.since.count ∙ as-many));
+      each = λ place from at from_at at_at. seen-volume place from at
+          (froms-there openings volumes ran place from from_at)
+          (seen-there at_of openings between place at at_at);
+    }
+
+    -- a later state of a volume is held from the same state
+    later-held : (opening : State) (old new : VolumeNow D) → Later old new
+        → IsHeldFrom tells seen opening old → IsHeldFrom tells seen opening new
+    later-held opening old new later from = ⊎_elim
+        (λ same. subst (IsHeldFrom tells seen opening) (sym same) from)
+        (λ went. record {
+          shows = went.on.shows from.shows;
+          held = λ told. went.held told opening (from.held told);
+        }) later
+
+    between-held : EachHeld (IsHeldFrom tells seen) openings between
+    between-held = held-each (IsHeldFrom tells seen) openings between (λ place here here_is.
+        let near : place < length volumes =
+        omega (arith, slice_get_within between place here here_is, are.since.count) in
+        let first_is = slice_get-get_or volumes place here near in
+        later-held (openings place) (get_or volumes place here) here
+        (since-at place (get_or volumes place here) here first_is here_is).is_later
+        (held place (get_or volumes place here) first_is))
 
   -- ---- the catalogs by which decks are bound
 
@@ -197,7 +281,7 @@ module _ {D : Type 0} (tells : Bool) (seen : D → Seen) (faults : D → Faults)
             (bound number).catalogs_are
             ∙ length-map (bound number).volumes shown_catalog
             ∙ as-many (take number steps) (drop number steps) (bound number).volumes
-            (bound number).between;
+            (bound number).between ∙ sym (length-map ran entries_on);
         each = λ number place catalog given entries catalog_at entries_at given_at.
             catalog-then number place catalog given entries
             (mapped-at catalog_of volumes place catalog catalog_at)
@@ -214,20 +298,23 @@ module _ {D : Type 0} (tells : Bool) (seen : D → Seen) (faults : D → Faults)
         (report : StepReport)
         → IsReportAt shown_of shape_of answering entries_on Later by before step after volumes ran
         report
-        → IsReportOf before step after shapes catalogs histories report
+        → IsReportOf tells before step after froms report
     report-of before step after report is = record {
-      volumes = map at_of is.volumes;
+      volumes = each_seen at_of openings is.volumes;
       volumes_are = volumes-at before (Utilities step ∷ after) is.volumes is.between;
-      left = map at_of is.left;
+      left = each_seen at_of openings is.left;
       left_are = volumes-at (before ++ Utilities step ∷ []) after is.left is.then;
-      is = report-seen at_of shown_at shape_at answering AnswersBy (answers-by tells seen faults)
-          step.commands is.volumes is.left report is.is;
+      is = report-seen shape_of shown_of entries_on answering (AnswersBy tells)
+          (IsHeldFrom tells seen) (λ opening old line exchange new from so.
+          answers-by tells seen faults opening old line exchange new from so)
+          openings step.commands is.volumes is.left report
+          (between-held before (Utilities step ∷ after) is.volumes is.between) is.is;
     }
 
     pub reported-from : (before steps : List JobStep) (reports : List StepReport)
         → AreReportedBy shown_of shape_of answering entries_on Later by before volumes ran steps
         reports
-        → AreReportedFrom before shapes catalogs histories steps reports
+        → AreReportedFrom tells before froms steps reports
     reported-from before [] reports is = is
     reported-from before (Decks step ∷ steps) reports is =
         reported-from (before ++ Decks step ∷ []) steps reports is
@@ -238,10 +325,9 @@ module _ {D : Type 0} (tells : Bool) (seen : D → Seen) (faults : D → Faults)
     )
 
 -- where nothing ran, nothing is reported
-pub reported-none : (before : List JobStep) (shapes_of : List Geometry)
-    (catalogs_had : List (List CatEntry)) (entries_had : List (List Entry)) (steps : List JobStep)
-    → AreReportedFrom before shapes_of catalogs_had entries_had steps []
-reported-none before shapes_of catalogs_had entries_had [] = refl
-reported-none before shapes_of catalogs_had entries_had (Decks step ∷ steps) =
-    reported-none (before ++ Decks step ∷ []) shapes_of catalogs_had entries_had steps
-reported-none before shapes_of catalogs_had entries_had (Utilities step ∷ steps) = tt
+pub reported-none : (tells : Bool) (before : List JobStep) (of : List VolumeFrom)
+    (steps : List JobStep) → AreReportedFrom tells before of steps []
+reported-none tells before of [] = refl
+reported-none tells before of (Decks step ∷ steps) =
+    reported-none tells (before ++ Decks step ∷ []) of steps
+reported-none tells before of (Utilities step ∷ steps) = tt

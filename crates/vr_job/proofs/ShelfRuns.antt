@@ -10,9 +10,10 @@ use Rattle.vr_types.specs.Seen.{Seen}
 use Rattle.vr_types.specs.declared.geometry.Geometry.{Geometry}
 use Rattle.vr_catalog.specs.declared.entry.CatEntry.{CatEntry}
 use Rattle.vr_history.specs.Merged.{in_order, numbered_from, part_of_deck}
+use Rattle.vr_history.specs.State.{State}
 use Rattle.vr_history.specs.declared.entry.Entry.{Entry}
 use Rattle.vr_job_text.specs.declared.job.JobStep.{JobStep}
-use Rattle.vr_event.specs.Volume.{VolumeNow}
+use Rattle.vr_event.specs.Volume.{IsHeld, VolumeNow}
 use Rattle.vr_recover.specs.declared.open_no.OpenNo.{OpenNo}
 use Rattle.vr_recover.specs.declared.open_no.OpenNo.TheVariants as opens
 use Rattle.vr_worker.specs.Decks.{IsUsedUp}
@@ -28,18 +29,21 @@ use Rattle.vr_trace.specs.declared.report.StepReport.{StepReport}
 use Rattle.vr_trace.specs.declared.no.RunNo.{RunNo}
 use Rattle.vr_trace.specs.declared.no.RunNo.TheVariants as nos
 use Rattle.vr_job.specs.Faultless.{has_stopped}
-use Rattle.vr_job.specs.Going.{Follows, ShowsStop}
+use Rattle.vr_job.specs.Going.{Follows}
 use Rattle.vr_job.specs.OpenEnds.{IsOpenLine, open_line}
-use Rattle.vr_job.specs.Reported.{AreBound, AreReportedFrom, IsCatalogAt}
+use Rattle.vr_job.specs.Reported.{AreBound, AreReportedFrom, IsCatalogAt, VolumeFrom}
 use Rattle.vr_job.specs.Shelf.{Answer, AreClosing, AreOpen, Closing, HaveClosed, HaveOpened}
 use Rattle.vr_job.specs.Shelf.{HaveRun, HaveRunWhere, IsClosing, IsRest, IsUnsynced, Opening}
-use Rattle.vr_job.specs.Shelf.{catalog_of, end_of, entries_on, shape_of}
+use Rattle.vr_job.specs.Shelf.{catalog_of, end_of, entries_on}
 use Rattle.vr_job.specs.ShelfRun.{AreEmpty, AreVolumeRuns, AsAsked, ByClosing, ByOpening}
 use Rattle.vr_job.specs.ShelfRun.{IsShelfEnd, IsShelfRun, VolumeOf, WereRun, run_end, run_line}
+use Rattle.vr_job.specs.ShelfRun.{volume_from}
 use Rattle.vr_job.specs.VolumeRun.{HasFaultCause, IsFaultEnd, IsNotOpen}
 use Rattle.vr_job.specs.VolumeRun.{IsOpen, IsUnopened, IsVolumeRun}
 use Rattle.vr_job.proofs.Devices.{same-some}
-use Rattle.vr_job.proofs.Reported.{are-bound, reported-from, reported-none}
+use Rattle.vr_job.proofs.AnsweredBy.{IsHeldFrom}
+use Rattle.vr_job.proofs.Reported.{are-bound, froms_of, reported-from, reported-none}
+use Rattle.vr_job.proofs.Shelves.{no_state}
 use Rattle.vr_job.proofs.VolumeRuns.{ended-rose, volume-run, was-run}
 
 -- ---- ends
@@ -119,20 +123,21 @@ module _ {D : Type 0} (tells : Bool) (seen : D → Seen) (faults : D → Faults)
       × AreSince openings closings
 
   -- the volumes of a run, and what each has of these
-  abbrev shapes-in : List (VolumeOf D) → List Geometry
-  shapes-in volumes = map (λ (one : VolumeOf D). one.geometry) volumes
-
   abbrev catalogs-in : List (VolumeOf D) → List (List CatEntry)
   catalogs-in volumes = map (λ (one : VolumeOf D). one.catalog) volumes
 
   abbrev histories-in : List (VolumeOf D) → List (List Entry)
   histories-in volumes = map (λ (one : VolumeOf D). one.entries) volumes
 
+  abbrev froms-in : List (VolumeOf D) → List VolumeFrom
+  froms-in volumes = map volume_from volumes
+
   abbrev volumes-of : List (Opening D) → List (Closing D) → List (VolumeOf D)
   volumes-of [] closings = []
   volumes-of (opening ∷ openings) [] = []
   volumes-of (opening ∷ openings) (closing ∷ closings) = record {
     geometry = opening.volume.file.geometry;
+    opening = opening.state;
     catalog = opening.volume.file.catalog;
     entries = closing.entries;
     device = opening.device;
@@ -174,7 +179,7 @@ module _ {D : Type 0} (tells : Bool) (seen : D → Seen) (faults : D → Faults)
         record {
           is_later = inl head;
           of_steps = subst (AreOfSteps steps)
-              (sym (ap entries_on head ∙ opens_so.0.begins)) (of-none steps);
+              (sym (ap entries_on head ∙ opens_so.0.on.begins)) (of-none steps);
         },
         each-itself openings closings (number + 1) opens_so.1 tail,
       )
@@ -220,15 +225,34 @@ module _ {D : Type 0} (tells : Bool) (seen : D → Seen) (faults : D → Faults)
       ap (λ (them : List (List CatEntry)). opening.volume.file.catalog ∷ them)
       (catalogs-are openings closings since.1)
 
-  shapes-are : (openings : List (Opening D)) (closings : List (Closing D))
-      → AreSince openings closings
-      → map shape_of (volumes_in openings) ≡ shapes-in (volumes-of openings closings)
-  shapes-are [] [] since = refl
-  shapes-are (one ∷ others) [] since = absurd since
-  shapes-are [] (one ∷ others) since = absurd since
-  shapes-are (opening ∷ openings) (closing ∷ closings) since =
-      ap (λ (them : List Geometry). opening.volume.file.geometry ∷ them)
-      (shapes-are openings closings since.1)
+  -- the states in which they were opened
+  abbrev state-at : List (Opening D) → ℕ → State
+  state-at [] place = no_state
+  state-at (opening ∷ openings) zero = opening.state
+  state-at (opening ∷ openings) (suc place) = state-at openings place
+
+  -- what reports speak of
+  froms-are : (openings : List (Opening D)) (closings : List (Closing D))
+      → AreSince openings closings → AreClosing tells seen faults closings
+      → froms_of (state-at openings) (volumes_in openings) (volumes_at closings)
+      ≡ froms-in (volumes-of openings closings)
+  froms-are [] [] since closed = refl
+  froms-are (one ∷ others) [] since closed = absurd since
+  froms-are [] (one ∷ others) since closed = absurd since
+  froms-are (opening ∷ openings) (closing ∷ closings) since closed =
+      ap (λ (entries : List Entry). from-with opening entries
+      ∷ froms_of (state-at openings) (volumes_in openings) (volumes_at closings))
+      (sym closed.0.entries_are)
+      ∙ ap (λ (them : List VolumeFrom). from-with opening closing.entries ∷ them)
+      (froms-are openings closings since.1 closed.1)
+    where
+      from-with : Opening D → List Entry → VolumeFrom
+      from-with one entries = record {
+        geometry = one.volume.file.geometry;
+        opening = one.state;
+        catalog = one.volume.file.catalog;
+        entries = entries;
+      }
 
   -- what is owed of each by how the job ended
   abbrev AreOwed : End → ℕ → List (Opening D) → List (Closing D) → Type 0
@@ -248,13 +272,13 @@ module _ {D : Type 0} (tells : Bool) (seen : D → Seen) (faults : D → Faults)
   each-run end number (one ∷ others) [] opens_so since closing owed = tt
   each-run end number (opening ∷ openings) (closing ∷ closings) opens_so since closed owed = (
     volume-run tells seen faults number steps opening.device opening.volume closing.result
-        closing.left closing.entries opens_so.0 (record {
+        closing.left closing.entries opens_so.0.on (record {
           end = closing.volume;
           later = since.0.is_later;
           of_steps = since.0.of_steps;
           closed = closed.0.closed;
           entries_are = closed.0.entries_are;
-        }) end owed.0 owed.1,
+        }) opening.state opens_so.0.state_is end owed.0 owed.1,
     each-run end (number + 1) openings closings opens_so.1 since.1 closed.1 owed.2,
   )
 
@@ -267,13 +291,13 @@ module _ {D : Type 0} (tells : Bool) (seen : D → Seen) (faults : D → Faults)
   each-ran end number (one ∷ others) [] opens_so since closing owed told = tt
   each-ran end number (opening ∷ openings) (closing ∷ closings) opens_so since closed owed told = (
     was-run tells seen faults number steps opening.device opening.volume closing.result
-        closing.left closing.entries opens_so.0 (record {
+        closing.left closing.entries opens_so.0.on (record {
           end = closing.volume;
           later = since.0.is_later;
           of_steps = since.0.of_steps;
           closed = closed.0.closed;
           entries_are = closed.0.entries_are;
-        }) end owed.0 told,
+        }) opening.state opens_so.0.state_is end owed.0 told,
     each-ran end (number + 1) openings closings opens_so.1 since.1 closed.1 owed.2 told,
   )
 
@@ -330,7 +354,7 @@ module _ {D : Type 0} (tells : Bool) (seen : D → Seen) (faults : D → Faults)
   owed-closing failing number (one ∷ others) [] opens_so since closed fails = tt
   owed-closing failing number (opening ∷ openings) (closing ∷ closings) opens_so since closed fails = (
     λ ran. absurd cc,
-    λ fault. inr (closing-rose number opening closing opens_so.0 since.0 closed.0
+    λ fault. inr (closing-rose number opening closing opens_so.0.on since.0 closed.0
         (fails.0 (unsynced-is failing number fault))),
     owed-closing failing (number + 1) openings closings opens_so.1 since.1 closed.1 fails.1,
   )
@@ -395,6 +419,7 @@ module _ {D : Type 0} (tells : Bool) (seen : D → Seen) (faults : D → Faults)
   abbrev untouched : D → VolumeOf D
   untouched device = record {
     geometry = no_shape;
+    opening = no_state;
     catalog = [];
     entries = [];
     device = device;
@@ -423,7 +448,8 @@ module _ {D : Type 0} (tells : Bool) (seen : D → Seen) (faults : D → Faults)
 
   untouched-run : (line : EndLine) (unopened number : ℕ) (device : D)
       → IsOpenLine unopened line → unopened < number
-      → IsVolumeRun tells seen faults number steps no_shape [] (Line line) [] device device device
+      → IsVolumeRun tells seen faults number steps no_shape no_state [] (Line line) [] device
+      device device
   untouched-run line unopened number device shown past = record {
     stamped = tt;
     of_steps = of-none steps;
@@ -471,7 +497,8 @@ module _ {D : Type 0} (tells : Bool) (seen : D → Seen) (faults : D → Faults)
 
   unopened-run : (line : EndLine) (number : ℕ) (device left : D)
       → IsNotOpen tells seen faults number device left line
-      → IsVolumeRun tells seen faults number steps no_shape [] (Line line) [] device left left
+      → IsVolumeRun tells seen faults number steps no_shape no_state [] (Line line) [] device left
+      left
   unopened-run line number device left is = record {
     stamped = tt;
     of_steps = of-none steps;
@@ -552,7 +579,7 @@ module _ {D : Type 0} (tells : Bool) (seen : D → Seen) (faults : D → Faults)
   empty-opened (opening ∷ openings) (closing ∷ closings) number opens_so same closed =
       let head : closing.volume ≡ opening.volume = cc in
       let tail : volumes_at closings ≡ volumes_in openings = cc in (
-        closed.0.entries_are ∙ ap entries_on head ∙ opens_so.0.begins,
+        closed.0.entries_are ∙ ap entries_on head ∙ opens_so.0.on.begins,
         empty-opened openings closings (number + 1) opens_so.1 tail closed.1,
       )
 
@@ -630,17 +657,24 @@ module _ {D : Type 0} (tells : Bool) (seen : D → Seen) (faults : D → Faults)
 
   -- ---- the whole
 
-  -- a volume that was opened has no history yet, and shows that it hasn't stopped
+  -- a volume that was opened has no history yet, shows that it hasn't stopped, and is held from the
+  -- state in which it was opened
+  abbrev OpensAt : State → VolumeNow D → Type 0
+  OpensAt state volume = (volume.file.entries ≡ []) × IsHeldFrom tells seen state volume
+
   open-at : (openings : List (Opening D)) (number place : ℕ) (volume : VolumeNow D)
       → AreOpen tells seen faults number openings
       → slice_get (volumes_in openings) place ≡ Some volume
-      → (volume.file.entries ≡ []) × ShowsStop volume.file
+      → OpensAt (state-at openings place) volume
   open-at [] number place volume opens_so is = absurd cc
   open-at (opening ∷ openings) number zero volume opens_so is =
-      subst (λ (v : VolumeNow D). (v.file.entries ≡ []) × ShowsStop v.file)
-      (same-some opening.volume volume is) (
-        opens_so.0.begins,
-        ap is_some opens_so.0.going ∙ ap has_stopped (sym opens_so.0.begins),
+      subst (OpensAt opening.state) (same-some opening.volume volume is) (
+        opens_so.0.on.begins,
+        record {
+          shows = ap is_some opens_so.0.on.going ∙ ap has_stopped (sym opens_so.0.on.begins);
+          held = λ told. subst (λ (state : State). IsHeld seen state opening.volume)
+              (sym (opens_so.0.state_is told)) (opens_so.0.on.held told).run.held;
+        },
       )
   open-at (opening ∷ openings) number (suc place) volume opens_so is =
       open-at openings (number + 1) place volume opens_so.1 is
@@ -677,8 +711,11 @@ module _ {D : Type 0} (tells : Bool) (seen : D → Seen) (faults : D → Faults)
           opened.rest_is.1
           ∙ append-nil histories ∙ closed.histories_are ∙ entries-are openings closings since
 
+      abbrev states : ℕ → State
+      states = state-at openings
+
       opens-at : (place : ℕ) (volume : VolumeNow D) → slice_get volumes place ≡ Some volume
-          → (volume.file.entries ≡ []) × ShowsStop volume.file
+          → OpensAt (states place) volume
       opens-at place volume there = open-at openings 0 place volume opened.opens
           (ap (λ (them : List (VolumeNow D)). slice_get them place) (sym opened.volumes_are)
           ∙ there)
@@ -687,17 +724,19 @@ module _ {D : Type 0} (tells : Bool) (seen : D → Seen) (faults : D → Faults)
           → volume.file.entries ≡ []
       begins place volume there = (opens-at place volume there).0
 
-      shows : (place : ℕ) (volume : VolumeNow D) → slice_get volumes place ≡ Some volume
-          → ShowsStop volume.file
-      shows place volume there = (opens-at place volume there).1
+      held : (place : ℕ) (volume : VolumeNow D) → slice_get volumes place ≡ Some volume
+          → IsHeldFrom tells seen (states place) volume
+      held place volume there = (opens-at place volume there).1
 
       first-catalogs : map catalog_of volumes ≡ catalogs-in all
       first-catalogs = ap (λ (them : List (VolumeNow D)). map catalog_of them) opened.volumes_are
           ∙ catalogs-are openings closings since
 
-      first-shapes : map shape_of volumes ≡ shapes-in all
-      first-shapes = ap (λ (them : List (VolumeNow D)). map shape_of them) opened.volumes_are
-          ∙ shapes-are openings closings since
+      first-froms : froms_of states volumes ran ≡ froms-in all
+      first-froms = ap (λ (them : List (VolumeNow D)). froms_of states them ran)
+          opened.volumes_are
+          ∙ ap (froms_of states (volumes_in openings)) closed.volumes_are
+          ∙ froms-are openings closings since closed.closing
 
       abbrev by_number : ℕ → List (List CatEntry)
       by_number = has_run.done.catalogs
@@ -716,17 +755,13 @@ module _ {D : Type 0} (tells : Bool) (seen : D → Seen) (faults : D → Faults)
           AreBound steps (catalogs-in all) them by_number) ran-entries
           (subst (λ (them : List (List CatEntry)).
           AreBound steps them (map entries_on ran) by_number) first-catalogs
-          (are-bound tells seen faults volumes ran begins shows steps by_number has_run.done.bound))
+          (are-bound tells seen faults volumes ran states begins held steps by_number
+          has_run.done.bound))
 
-      reported-so : AreReportedFrom [] (shapes-in all) (catalogs-in all) kept steps reports
-      reported-so = subst (λ (them : List (List Entry)). AreReportedFrom [] (shapes-in all)
-          (catalogs-in all) them steps reports) ran-entries
-          (subst (λ (them : List (List CatEntry)). AreReportedFrom [] (shapes-in all) them
-          (map entries_on ran) steps reports) first-catalogs
-          (subst (λ (them : List Geometry). AreReportedFrom [] them (map catalog_of volumes)
-          (map entries_on ran) steps reports) first-shapes
-          (reported-from tells seen faults volumes ran begins shows by_number [] steps reports
-          has_run.done.reported)))
+      reported-so : AreReportedFrom tells [] (froms-in all) steps reports
+      reported-so = subst (λ (them : List VolumeFrom). AreReportedFrom tells [] them steps reports)
+          first-froms (reported-from tells seen faults volumes ran states begins held by_number
+          [] steps reports has_run.done.reported)
 
       -- however the job ended
       with-end : (end : End) → AreOwed end 0 openings closings
@@ -837,10 +872,8 @@ module _ {D : Type 0} (tells : Bool) (seen : D → Seen) (faults : D → Faults)
       in_steps = subst (ComeInSteps steps) (sym kept-are) (none-in-steps all all-empty);
       gapless = subst (AreGapless steps) (sym kept-are)
           (gapless-none (λ (one : VolumeOf D). one.entries) steps all (each-empty all all-empty));
-      reported = subst (AreReportedFrom [] (shapes-in all) (catalogs-in all)
-          (histories ++ map (λ (device : D). []) unopened) steps) (sym none)
-          (reported-none [] (shapes-in all) (catalogs-in all)
-          (histories ++ map (λ (device : D). []) unopened) steps);
+      reported = subst (AreReportedFrom tells [] (froms-in all) steps) (sym none)
+          (reported-none tells [] (froms-in all) steps);
       all_reported = tt;
       stamps = λ used. absurd (open-line-stamps (length openings) fault.line.0
           (sym fault.line.1 ∙ line-is end StampsUsedUp used));
@@ -877,6 +910,7 @@ module _ {D : Type 0} (tells : Bool) (seen : D → Seen) (faults : D → Faults)
         one : VolumeOf D
         one = record {
           geometry = no_shape;
+          opening = no_state;
           catalog = [];
           entries = [];
           device = device;

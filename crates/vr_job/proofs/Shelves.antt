@@ -1,11 +1,14 @@
 -- The volumes of a shelf, as they are opened and closed one after another.
 use Rattle.std.proofs.Common.{◌≡◌, ◌∙◌, ◌+◌, ◌<◌, ℕ, zero, suc, Bool, List, [], ◌∷◌, ◌++◌, Result, Ok, Err}
 use Rattle.std.proofs.Common.{All, Option, Some, None, arith, get_or, true, false, refl, sym, ap, subst, append_assoc, length, map}
-use Rattle.std.specs.Prelude.{slice_get}
+use Rattle.std.specs.Prelude.{IsTrue, slice_get}
+use Rattle.std.proofs.Math.Bool.{Bool-set}
+use Rattle.std.proofs.lemmas.Bool.{true≢false}
 use Rattle.std.proofs.lemmas.List.{append-nil, length-append, length-map, map-append}
 use Rattle.vr_types.specs.Faults.{Faults}
 use Rattle.vr_types.specs.Seen.{Seen}
 use Rattle.vr_types.specs.declared.fault.Failed.{Failed}
+use Rattle.vr_history.specs.State.{State}
 use Rattle.vr_history.specs.declared.entry.Entry.{Entry}
 use Rattle.vr_event.specs.Volume.{VolumeNow}
 use Rattle.vr_job_text.specs.declared.job.JobStep.{JobStep}
@@ -15,13 +18,28 @@ use Rattle.vr_worker.specs.Decks.{ArePlaced}
 use Rattle.vr_trace.specs.declared.no.RunNo.{RunNo}
 use Rattle.vr_job.specs.Shelf.{Answer, AreBeingClosed, AreClosing, AreOpen, AreOpening, Closing, HasClosedNext}
 use Rattle.vr_job.specs.Shelf.{HasOpenedNext, HasOpenedOrKept, HaveClosed, HaveOpened, HaveRunWhere}
-use Rattle.vr_job.specs.Shelf.{IsClosing}
+use Rattle.vr_job.specs.Shelf.{IsClosing, IsOpenAs}
 use Rattle.vr_job.specs.Shelf.{IsUnsynced, Opening, failed_at, or_failed}
-use Rattle.vr_job.specs.VolumeRun.{IsOpen}
+use Rattle.vr_job.specs.VolumeRun.{IsOpen, opening_of}
 
 pub none-left : {X : Type 0} (xs : List X) → length xs ≡ 0 → xs ≡ []
 none-left [] none = refl
 none-left (x ∷ xs) none = absurd (omega (arith, none))
+
+-- of a volume that wasn't opened, or whose device doesn't report its contents, nothing is said of the
+-- state in which it was
+abbrev pub no_state : State
+no_state = opening_of (λ (part : ℕ). []) []
+
+-- what is known where the device reports its contents, and else this
+abbrev where-told : {X : Type 0} (tells : Bool) → X → (IsTrue tells → X) → X
+where-told true other known = known refl
+where-told false other known = other
+
+told-is : {X : Type 0} (tells : Bool) (other : X) (known : IsTrue tells → X) (told : IsTrue tells)
+    → where-told tells other known ≡ known told
+told-is true other known told = ap known (Bool-set true true refl told)
+told-is false other known told = absurd (true≢false (sym told))
 
 module _ {D : Type 0} (tells : Bool) (seen : D → Seen) (faults : D → Faults) where
   abbrev device_of : Opening D → D
@@ -34,17 +52,36 @@ module _ {D : Type 0} (tells : Bool) (seen : D → Seen) (faults : D → Faults)
 
   open-more : (number : ℕ) (first : List (Opening D)) (one : Opening D)
       → AreOpen tells seen faults number first
-      → IsOpen tells seen faults (number + length first) one.device one.volume
+      → IsOpenAs tells seen faults (number + length first) one
       → AreOpen tells seen faults number (first ++ one ∷ [])
   open-more number [] one opens_so is = (
-    subst (λ (n : ℕ). IsOpen tells seen faults n one.device one.volume) (omega arith) is,
+    subst (λ (n : ℕ). IsOpenAs tells seen faults n one) (omega arith) is,
     tt,
   )
   open-more number (other ∷ others) one opens_so is = (
     opens_so.0,
     open-more (number + 1) others one opens_so.1
-        (subst (λ (n : ℕ). IsOpen tells seen faults n one.device one.volume) (omega arith) is),
+        (subst (λ (n : ℕ). IsOpenAs tells seen faults n one) (omega arith) is),
   )
+
+  -- a volume that was opened, with the state in which it was
+  abbrev opening-of : (number : ℕ) (device : D) (volume : VolumeNow D)
+      → IsOpen tells seen faults number device volume → Opening D
+  opening-of number device volume is = record {
+    device = device;
+    state = where-told tells no_state
+        (λ told. opening_of (is.held told).contents (is.held told).owners);
+    volume = volume;
+  }
+
+  open-as : (number : ℕ) (device : D) (volume : VolumeNow D)
+      (is : IsOpen tells seen faults number device volume)
+      → IsOpenAs tells seen faults number (opening-of number device volume is)
+  open-as number device volume is = record {
+    on = is;
+    state_is = told-is tells no_state
+        (λ told. opening_of (is.held told).contents (is.held told).owners);
+  }
 
   -- no device was opened yet
   pub opening-none : (devices : List D) (value : Unit {0})
@@ -85,12 +122,8 @@ module _ {D : Type 0} (tells : Bool) (seen : D → Seen) (faults : D → Faults)
         opened = record {
           first = so.opened.first ++ one ∷ [];
           opens = open-more 0 so.opened.first one so.opened.opens
-              (subst (λ (n : ℕ). IsOpen tells seen faults n device next.0)
-              (omega (
-                arith,
-                ap (λ (them : List (VolumeNow D)). length them) so.opened.volumes_are,
-                length-map so.opened.first volume_of,
-              )) next.3);
+              (subst (λ (n : ℕ). IsOpenAs tells seen faults n one) (omega arith)
+              (open-as (length so.opened.first) device next.0 is_open));
           volumes_are = next.1
               ∙ ap (λ (them : List (VolumeNow D)). them ++ next.0 ∷ []) so.opened.volumes_are
               ∙ sym (map-append volume_of so.opened.first (one ∷ []));
@@ -113,8 +146,15 @@ module _ {D : Type 0} (tells : Bool) (seen : D → Seen) (faults : D → Faults)
         );
       }
         where
+          is_open : IsOpen tells seen faults (length so.opened.first) device next.0
+          is_open = subst (λ (n : ℕ). IsOpen tells seen faults n device next.0) (omega (
+            arith,
+            ap (λ (them : List (VolumeNow D)). length them) so.opened.volumes_are,
+            length-map so.opened.first volume_of,
+          )) next.3
+
           one : Opening D
-          one = record { device = device; volume = next.0 }
+          one = opening-of (length so.opened.first) device next.0 is_open
       opening-next value volumes' unopened' (Err end) so next = record {
         taken = so.taken ++ device ∷ [];
         all = append_assoc so.taken (device ∷ []) rest ∙ so.all;
@@ -353,7 +393,7 @@ module _ {D : Type 0} (tells : Bool) (seen : D → Seen) (faults : D → Faults)
       → (get_or (map volume_of first) place volume).number ≡ number + place
   open-placed number [] open_now place volume near = absurd (omega (arith, near))
   open-placed number (one ∷ others) open_now zero volume near =
-      omega (arith, open_now.0.number_is)
+      omega (arith, open_now.0.on.number_is)
   open-placed number (one ∷ others) open_now (suc place) volume near =
       omega (arith, open-placed (number + 1) others open_now.1 place volume (omega (arith, near)))
 
@@ -368,7 +408,7 @@ module _ {D : Type 0} (tells : Bool) (seen : D → Seen) (faults : D → Faults)
       → (place : ℕ) (volume : VolumeNow D) → place < length (map volume_of first)
       → (get_or (map volume_of first) place volume).file.entries ≡ []
   open-begins number [] open_now place volume near = absurd (omega (arith, near))
-  open-begins number (one ∷ others) open_now zero volume near = open_now.0.begins
+  open-begins number (one ∷ others) open_now zero volume near = open_now.0.on.begins
   open-begins number (one ∷ others) open_now (suc place) volume near =
       open-begins (number + 1) others open_now.1 place volume (omega (arith, near))
 

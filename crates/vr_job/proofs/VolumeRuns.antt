@@ -36,7 +36,8 @@ use Rattle.vr_job.specs.Going.{GoesOn, HasRun, WentOn}
 use Rattle.vr_job.specs.ReadFaults.{read_faults}
 use Rattle.vr_job.specs.OpenEnds.{NeverFall}
 use Rattle.vr_job.specs.Opened.{IsOpenHeld}
-use Rattle.vr_job.specs.VolumeRun.{HasEnded, HasFaultCause, IsOpen, IsRun, IsVolumeRun}
+use Rattle.vr_job.specs.VolumeRun.{HasEnded, HasFaultCause, IsOpen, IsRun, IsRunFrom, IsVolumeRun}
+use Rattle.vr_job.specs.VolumeRun.{opening_of}
 
 -- a volume on which nothing was asked
 goes-start : {B : Type 0} (seen : B → Seen) (faults : B → Faults) (volume : VolumeNow B)
@@ -156,7 +157,10 @@ module _ {D : Type 0} (tells : Bool) (seen : D → Seen) (faults : D → Faults)
   ended-stamped = subst (IsStamped 0) (sym ended.entries_are)
       (on.stamped (subst (IsStamped 0) (sym opens_so.begins) tt))
 
-  module _ (by : End) (synced : by ≡ Ran → result ≡ Ok tt) (told : IsTrue tells) where
+  -- by the state in which it was opened
+  module _ (from : State) (from_is : (told : IsTrue tells) → from
+      ≡ opening_of (opens_so.held told).contents (opens_so.held told).owners)
+      (by : End) (synced : by ≡ Ran → result ≡ Ok tt) (told : IsTrue tells) where
     held : IsOpenHeld seen faults number (seen first) volume
     held = opens_so.held told
 
@@ -211,12 +215,8 @@ module _ {D : Type 0} (tells : Bool) (seen : D → Seen) (faults : D → Faults)
         (IsLeftBy end.file.geometry end.number opening end.file.entries) MayLeave run.left
         (λ image is. inr (inr is)))
 
-    abbrev Ran-as : ℕ → List Entry → Type 0
-    Ran-as n es =
-        IsRun tells seen faults n volume.file.geometry volume.file.catalog by es first end.blocks
-        device
-
-    at-end : Ran-as end.number end.file.entries
+    at-end : IsRun tells seen faults end.number volume.file.geometry volume.file.catalog by
+        end.file.entries first end.blocks device
     at-end = record {
       geometry = end.file.geometry;
       shape_is = sym same-geometry;
@@ -255,22 +255,32 @@ module _ {D : Type 0} (tells : Bool) (seen : D → Seen) (faults : D → Faults)
       forced = λ ran goes. unstopped-forced (synced ran) told (run.held.file.now.stopped ∙ goes);
     }
 
+    abbrev Ran-as : ℕ → List Entry → Type 0
+    Ran-as n es = IsRunFrom tells seen faults n volume.file.geometry from volume.file.catalog by es
+        first end.blocks device
+
     ended-run : Ran-as number entries
+    unfolding at-end held
     ended-run = subst (λ (es : List Entry). Ran-as number es) (sym ended.entries_are)
-        (subst (λ (n : ℕ). Ran-as n end.file.entries) same-number at-end)
+        (subst (λ (n : ℕ). Ran-as n end.file.entries) same-number
+        (record { run = at-end; opening_is = from_is told }))
 
   -- where the device reports its contents, such a volume was run
-  pub was-run : (by : End) → (by ≡ Ran → result ≡ Ok tt) → IsTrue tells
-      → IsRun tells seen faults number volume.file.geometry volume.file.catalog by entries first
-      end.blocks device
-  was-run by synced told = ended-run by synced told
+  pub was-run : (from : State) → ((told : IsTrue tells) → from
+      ≡ opening_of (opens_so.held told).contents (opens_so.held told).owners)
+      → (by : End) → (by ≡ Ran → result ≡ Ok tt) → IsTrue tells
+      → IsRunFrom tells seen faults number volume.file.geometry from volume.file.catalog by entries
+      first end.blocks device
+  was-run from from_is by synced told = ended-run from from_is by synced told
 
   -- a volume that was opened, run and closed, by how the job ended
-  pub volume-run : (by : End) → (by ≡ Ran → result ≡ Ok tt)
+  pub volume-run : (from : State) → ((told : IsTrue tells) → from
+      ≡ opening_of (opens_so.held told).contents (opens_so.held told).owners)
+      → (by : End) → (by ≡ Ran → result ≡ Ok tt)
       → HasFaultCause number (faults first) (faults device) by
-      → IsVolumeRun tells seen faults number steps volume.file.geometry volume.file.catalog by
+      → IsVolumeRun tells seen faults number steps volume.file.geometry from volume.file.catalog by
       entries first end.blocks device
-  volume-run by synced cause = record {
+  volume-run from from_is by synced cause = record {
     stamped = ended-stamped;
     of_steps = subst (Rattle.vr_worker.specs.Steps.AreOfSteps steps) (sym ended.entries_are)
         ended.of_steps;
@@ -280,5 +290,5 @@ module _ {D : Type 0} (tells : Bool) (seen : D → Seen) (faults : D → Faults)
     cause = cause;
     faulted = ended-faultless;
     refused_reads = ended-reads;
-    run = λ told. inl (ended-run by synced told);
+    run = λ told. inl (ended-run from from_is by synced told);
   }

@@ -1,16 +1,27 @@
--- How a volume answers to a DEFINE of a cluster, and when: what an event of vr_event promises of
--- it. The rules are this project's own.
-use Rattle.std.specs.Prelude.{◌≡◌, ℕ, Bool, IsTrue, Ok}
+-- How a volume answers to a command of IDCAMS, and when: what an event of vr_event promises of it.
+-- The rules are this project's own.
+use Rattle.std.specs.Prelude.{◌≡◌, ℕ, Bool, IsTrue, None, Ok}
 use Rattle.vr_types.specs.Faults.{Faults}
 use Rattle.vr_types.specs.Seen.{Seen}
 use Rattle.vr_catalog.specs.declared.entry.CatEntry.{CatEntry}
+use Rattle.vr_ams_define.specs.Answers.{Exchange}
+use Rattle.vr_ams_define.specs.Answers.Exchange.{Counting, Defining}
+use Rattle.vr_ams_define.specs.declared.answer.Counted.{Counted}
+use Rattle.vr_ams_define.specs.declared.answer.Counted.TheVariants as numbers
 use Rattle.vr_ams_define.specs.declared.answer.Defined.{Defined}
 use Rattle.vr_ams_define.specs.declared.answer.Defined.TheVariants as answers
 use Rattle.vr_event.specs.Defining.{HasDefineFaults, utility_unit}
 use Rattle.vr_event.specs.DefineSteps.{HasCome, LacksRoomWhere}
-use Rattle.vr_event.specs.Volume.{VolumeNow}
+use Rattle.vr_event.specs.Counts.{AreCounts, CountedBy as CountedFor, HasCountFaults}
+use Rattle.vr_event.specs.Volume.{IsHeld, VolumeNow}
+use Rattle.vr_event.specs.declared.counts.Count.{Count}
+use Rattle.vr_event.specs.declared.counts.Count.TheVariants as counts
 use Rattle.vr_event.specs.declared.define.Define.{Define}
 use Rattle.vr_event.specs.declared.define.Define.TheVariants as events
+use Rattle.vr_history.specs.State.{State}
+use Rattle.vr_record_file.specs.Now.{FileNow, state_now}
+use Rattle.vr_job.specs.Going.{WentOn}
+use Rattle.vr_job.specs.Reported.{numbers_of}
 use Rattle.vr_job.specs.Serving.{StaysServing}
 
 -- the answer of an event, as a command has it
@@ -23,16 +34,51 @@ answer_of events.Held = answers.Held
 answer_of events.Full = answers.Full
 answer_of (events.Fault fault) = answers.Fault fault
 
--- It was made ready, which enters nothing, and in one event came to this answer, by the causes of
--- the event and its count of faults.
-pub record IsAnswered {B : Type 0} (tells : Bool) (seen : B → Seen) (faults : B → Faults)
+-- A definition: the volume was made ready, which enters nothing, hadn't stopped, and in one event
+-- came to this answer, by the causes of the event and its count of faults.
+pub record IsDefinedIn {B : Type 0} (tells : Bool) (seen : B → Seen) (faults : B → Faults)
     (old : VolumeNow B) (line : ℕ) (entry : CatEntry) (answer : Defined) (new : VolumeNow B) : Type 0
   where
     pub ready : VolumeNow B
     pub stays : StaysServing tells seen faults old ready
+    pub going : ready.file.stopped ≡ None
+    pub went : WentOn tells seen faults ready new
     pub after : ℕ
     pub event : Define
     pub answer_is : answer ≡ answer_of event
     pub come : HasCome seen after (utility_unit ready.file) line entry (Ok event) ready new
     pub no_room : IsTrue tells → LacksRoomWhere seen entry (Ok event) ready
     pub cause : HasDefineFaults (faults ready.blocks) (faults new.blocks) (Ok event)
+
+-- what an event counted, as a command has it
+abbrev pub counted_of : Count → Counted
+counted_of (counts.Counted found) = numbers.Done (numbers_of found)
+counted_of (counts.Fault fault) = numbers.Fault fault
+
+-- what an event counted is what the state has that the history gives
+abbrev pub IsCountOf : Count → CatEntry → State → FileNow → Type 0
+IsCountOf (counts.Counted found) entry opening file =
+    AreCounts (state_now opening file) file.entries entry found
+IsCountOf (counts.Fault fault) entry opening file = Unit {0}
+
+-- A count: so it was made ready, and counted in one event.
+pub record IsCountedIn {B : Type 0} (tells : Bool) (seen : B → Seen) (faults : B → Faults)
+    (old : VolumeNow B) (line : ℕ) (entry : CatEntry) (counted : Counted) (new : VolumeNow B)
+    : Type 0 where
+  pub ready : VolumeNow B
+  pub stays : StaysServing tells seen faults old ready
+  pub went : WentOn tells seen faults ready new
+  pub after : ℕ
+  pub event : Count
+  pub counted_is : counted ≡ counted_of event
+  pub entered : CountedFor event after (utility_unit ready.file) line ready.file new.file
+  pub found : IsTrue tells → (opening : State) → IsHeld seen opening ready
+      → IsCountOf event entry opening ready.file
+  pub cause : HasCountFaults (faults ready.blocks) (faults new.blocks) (Ok event)
+
+abbrev pub IsAnswered : {B : Type 0} → Bool → (B → Seen) → (B → Faults) → VolumeNow B → ℕ
+    → Exchange → VolumeNow B → Type 0
+IsAnswered tells seen faults old line (Defining entry answer) new =
+    IsDefinedIn tells seen faults old line entry answer new
+IsAnswered tells seen faults old line (Counting entry counted) new =
+    IsCountedIn tells seen faults old line entry counted new

@@ -1,7 +1,25 @@
 -- What the steps of IDCAMS of a job report, by what the volumes had as each of them ran. The rules
 -- are this project's own.
-use Rattle.std.specs.Prelude.{◌≡◌, ◌∷◌, ◌++◌, ℕ, All, List, [], Some, drop, length, slice_get}
-use Rattle.std.specs.Prelude.{take}
+use Rattle.std.specs.Prelude.{◌≡◌, ◌≢◌, ◌≤◌, ◌+◌, ◌∷◌, ◌++◌, ℕ, All, Bool, IsTrue, List, [], None}
+use Rattle.std.specs.Prelude.{Some, drop, length, slice_get, take}
+use Rattle.vr_types.specs.LogSpace.{IsLogFull, log_size}
+use Rattle.vr_types.specs.Locks.{first_conflict}
+use Rattle.vr_types.specs.declared.request.Request.TheVariants.{Commit}
+use Rattle.vr_types.specs.declared.unit.Mode.TheVariants.{Exclusive}
+use Rattle.vr_types.specs.declared.unit.Unit.{Unit as UnitOfRecovery}
+use Rattle.vr_history.specs.Legal.{state_of}
+use Rattle.vr_history.specs.RefusedRoom.{free_areas}
+use Rattle.vr_history.specs.State.{State}
+use Rattle.vr_history.specs.Step.{case_of}
+use Rattle.vr_record_file.specs.Defining.{entry_name, need_to_define}
+use Rattle.vr_event.specs.Counts.{AreCounts}
+use Rattle.vr_event.specs.Defining.{entry_place}
+use Rattle.vr_event.specs.declared.counts.Counts.{Counts}
+use Rattle.vr_trace.specs.declared.statistics.Statistics.{Statistics}
+use Rattle.vr_ams_define.specs.Answers.{Exchange, IsShownAfter, IsShownCounted}
+use Rattle.vr_ams_define.specs.Answers.Exchange.{Counting, Defining}
+use Rattle.vr_ams_define.specs.declared.answer.Counted.{Counted}
+use Rattle.vr_ams_define.specs.declared.answer.Counted.TheVariants as counts
 use Rattle.vr_ams_define.specs.declared.answer.Defined.{Defined}
 use Rattle.vr_ams_define.specs.declared.answer.Defined.TheVariants.{Again, Done, Fault, Full, Held}
 use Rattle.vr_ams_define.specs.declared.answer.Defined.TheVariants.{NoArea, NoRoom}
@@ -27,9 +45,11 @@ use Rattle.vr_job.specs.Faultless.{has_stopped}
 
 -- ---- a volume between two commands
 
--- a volume as commands have it: its shape, what is shown of it, and its history so far
+-- A volume as commands have it: its shape, the state in which it was opened, what is shown of it,
+-- and its history so far.
 pub record VolumeAt : Type 0 where
   pub geometry : Geometry
+  pub opening : State
   pub shown : Shown
   pub entries : List Entry
 
@@ -39,6 +59,18 @@ shape_at at = at.geometry
 abbrev pub shown_at : VolumeAt → Shown
 shown_at at = at.shown
 
+-- the state that its history so far gives
+abbrev pub state_at : VolumeAt → State
+state_at at = state_of at.geometry at.opening at.entries
+
+-- A volume of a job: its shape, the state in which it was opened, its catalog then, and its history
+-- at the end.
+pub record VolumeFrom : Type 0 where
+  pub geometry : Geometry
+  pub opening : State
+  pub catalog : List CatEntry
+  pub entries : List Entry
+
 -- Some first entries of a history are those of these steps, and the rest those of the steps after.
 pub record IsCutAt (before after : List JobStep) (entries first : List Entry) : Type 0 where
   pub rest : List Entry
@@ -46,74 +78,132 @@ pub record IsCutAt (before after : List JobStep) (entries first : List Entry) : 
   pub of_before : AreOfSteps before first
   pub of_after : AreOfSteps after rest
 
--- A volume with this shape, with this catalog as it was opened and this history at the end, as the
--- steps before left it: the entries of its catalog are those that they made them, and it has
--- stopped where they show it.
-pub record IsVolumeAt (before after : List JobStep) (geometry : Geometry) (catalog : List CatEntry)
-    (entries : List Entry) (at : VolumeAt) : Type 0 where
-  pub shape_is : at.geometry ≡ geometry
-  pub cut : IsCutAt before after entries at.entries
-  pub catalog_is : at.shown.catalog ≡ catalog_by catalog at.entries
-  pub stopped_is : at.shown.stopped ≡ has_stopped at.entries
+-- A volume of a job as the steps before left it: the entries of its catalog are those that they
+-- made them, and it has stopped where they show it.
+pub record IsVolumeAt (before after : List JobStep) (from : VolumeFrom) (at : VolumeAt) : Type 0
+  where
+    pub shape_is : at.geometry ≡ from.geometry
+    pub opening_is : at.opening ≡ from.opening
+    pub cut : IsCutAt before after from.entries at.entries
+    pub catalog_is : at.shown.catalog ≡ catalog_by from.catalog at.entries
+    pub stopped_is : at.shown.stopped ≡ has_stopped at.entries
 
--- ---- how a volume answers to a DEFINE, by what it enters
+-- ---- how a volume answers, by what it enters
 
 -- The definition of the entry with that area is entered where it is done, stages of the catalog
 -- where it is to be asked again, a stop where a write failed, and nothing where it is refused.
-abbrev pub MadeBy : Defined → CatEntry → List Entry → Type 0
-MadeBy (Done area) entry made =
+abbrev pub DefinedBy : Defined → CatEntry → List Entry → Type 0
+DefinedBy (Done area) entry made =
     IsDefinition entry.part area (spelling (with_area area entry)) made
-MadeBy Again entry made = All IsCatalogStage made
-MadeBy NoArea entry made = made ≡ []
-MadeBy NoRoom entry made = made ≡ []
-MadeBy Held entry made = made ≡ []
-MadeBy Full entry made = made ≡ []
-MadeBy (Fault Read) entry made = made ≡ []
-MadeBy (Fault Write) entry made = IsStop made
+DefinedBy Again entry made = All IsCatalogStage made
+DefinedBy NoArea entry made = made ≡ []
+DefinedBy NoRoom entry made = made ≡ []
+DefinedBy Held entry made = made ≡ []
+DefinedBy Full entry made = made ≡ []
+DefinedBy (Fault Read) entry made = made ≡ []
+DefinedBy (Fault Write) entry made = IsStop made
 
--- They are the utilities' own, on the line of the command.
-pub record AnswersBy (old : VolumeAt) (line : ℕ) (entry : CatEntry) (answer : Defined)
+-- Counting enters nothing, but a stop where a write failed.
+abbrev pub CountedBy : Counted → List Entry → Type 0
+CountedBy (counts.Done numbers) made = made ≡ []
+CountedBy (counts.Fault Read) made = made ≡ []
+CountedBy (counts.Fault Write) made = IsStop made
+
+abbrev pub MadeBy : Exchange → List Entry → Type 0
+MadeBy (Defining entry answer) made = DefinedBy answer entry made
+MadeBy (Counting entry counted) made = CountedBy counted made
+
+-- ---- and by the state that its history gives
+
+-- the unit of recovery of the utilities, which are deck 0
+abbrev pub utility_unit_in : State → UnitOfRecovery
+utility_unit_in state = record { deck = 0; number = state.numbers 0 }
+
+-- how many areas of a volume no part has
+abbrev pub areas_free : Geometry → State → ℕ
+areas_free geometry state = free_areas (case_of geometry state (utility_unit_in state) Commit)
+
+-- Why a definition is refused: no area is free; a lock of a unit is on the place of the record; the
+-- log has no room for the change; or, where neither of these two is so, the catalog has no room for
+-- the record, which its blocks show.
+abbrev pub DefineCause : Defined → CatEntry → VolumeAt → Type 0
+DefineCause NoArea entry at = areas_free at.geometry (state_at at) ≡ 0
+DefineCause Held entry at = first_conflict (state_at at).locks (utility_unit_in (state_at at))
+    Exclusive (entry_name (entry_place entry)) ≢ None
+DefineCause Full entry at =
+    IsLogFull at.geometry (state_at at).used (need_to_define (entry_place entry))
+DefineCause NoRoom entry at = (first_conflict (state_at at).locks
+    (utility_unit_in (state_at at)) Exclusive (entry_name (entry_place entry)) ≡ None)
+    × ((state_at at).used + need_to_define (entry_place entry) ≤ log_size at.geometry)
+DefineCause answer entry at = Unit {0}
+
+-- what is counted, as a command shows it
+abbrev pub numbers_of : Counts → Statistics
+numbers_of counts = record {
+  records = counts.records;
+  areas = counts.areas;
+  interval_splits = counts.interval_splits;
+  area_splits = counts.area_splits;
+}
+
+-- The numbers are those of the state.
+abbrev pub CountCause : Counted → CatEntry → VolumeAt → Type 0
+CountCause (counts.Done numbers) entry at = (counts : Counts)
+    × AreCounts (state_at at) at.entries entry counts × (numbers ≡ numbers_of counts)
+CountCause (counts.Fault fault) entry at = Unit {0}
+
+abbrev pub CauseBy : Exchange → VolumeAt → Type 0
+CauseBy (Defining entry answer) at = DefineCause answer entry at
+CauseBy (Counting entry counted) at = CountCause counted entry at
+
+-- what a volume shows then
+abbrev pub IsShownBy : Exchange → Shown → Shown → Type 0
+IsShownBy (Defining entry answer) old new = IsShownAfter answer entry old new
+IsShownBy (Counting entry counted) old new = IsShownCounted counted old new
+
+-- What it enters is the utilities' own, on the line of the command; it shows what its answer leaves,
+-- and has the shape and the opening that it had; and where the device reports its contents, the
+-- answer has its cause.
+pub record AnswersBy (tells : Bool) (old : VolumeAt) (line : ℕ) (exchange : Exchange)
     (new : VolumeAt) : Type 0 where
   pub made : List Entry
   pub entries_are : new.entries ≡ old.entries ++ made
   pub own : All (IsOfCommand line) made
-  pub by : MadeBy answer entry made
+  pub by : MadeBy exchange made
+  pub shown_is : IsShownBy exchange old.shown new.shown
+  pub shape_is : new.geometry ≡ old.geometry
+  pub opening_is : new.opening ≡ old.opening
+  pub cause : IsTrue tells → CauseBy exchange old
 
 -- ---- reports
 
 -- each of these is of the volume at its place
-pub record AreVolumesAt (before after : List JobStep) (geometries : List Geometry)
-    (catalogs : List (List CatEntry)) (histories : List (List Entry)) (volumes : List VolumeAt)
-    : Type 0 where
-  pub count : length volumes ≡ length histories
-  pub each : (place : ℕ) (geometry : Geometry) (catalog : List CatEntry) (entries : List Entry)
-      (at : VolumeAt) → slice_get geometries place ≡ Some geometry
-      → slice_get catalogs place ≡ Some catalog → slice_get histories place ≡ Some entries
-      → slice_get volumes place ≡ Some at → IsVolumeAt before after geometry catalog entries at
+pub record AreVolumesAt (before after : List JobStep) (froms : List VolumeFrom)
+    (volumes : List VolumeAt) : Type 0 where
+  pub count : length volumes ≡ length froms
+  pub each : (place : ℕ) (from : VolumeFrom) (at : VolumeAt) → slice_get froms place ≡ Some from
+      → slice_get volumes place ≡ Some at → IsVolumeAt before after from at
 
 -- The report of a step of IDCAMS is that of its commands, over the volumes as the steps before it
 -- left them, and it left them so.
-pub record IsReportOf (before : List JobStep) (step : UtilityStep) (after : List JobStep)
-    (geometries : List Geometry) (catalogs : List (List CatEntry)) (histories : List (List Entry))
-    (report : StepReport) : Type 0 where
+pub record IsReportOf (tells : Bool) (before : List JobStep) (step : UtilityStep)
+    (after : List JobStep) (froms : List VolumeFrom) (report : StepReport) : Type 0 where
   pub volumes : List VolumeAt
-  pub volumes_are : AreVolumesAt before (Utilities step ∷ after) geometries catalogs histories
-      volumes
+  pub volumes_are : AreVolumesAt before (Utilities step ∷ after) froms volumes
   pub left : List VolumeAt
-  pub left_are : AreVolumesAt (before ++ Utilities step ∷ []) after geometries catalogs histories
-      left
-  pub is : IsReport shown_at shape_at AnswersBy step.commands volumes left report
+  pub left_are : AreVolumesAt (before ++ Utilities step ∷ []) after froms left
+  pub is : IsReport shown_at shape_at (AnswersBy tells) step.commands volumes left report
 
 -- The steps of IDCAMS that ran have these reports, in order, where these steps came before.
-abbrev pub AreReportedFrom : List JobStep → List Geometry → List (List CatEntry)
-    → List (List Entry) → List JobStep → List StepReport → Type 0
-AreReportedFrom before geometries catalogs histories [] reports = reports ≡ []
-AreReportedFrom before geometries catalogs histories (Decks step ∷ steps) reports =
-    AreReportedFrom (before ++ Decks step ∷ []) geometries catalogs histories steps reports
-AreReportedFrom before geometries catalogs histories (Utilities step ∷ steps) [] = Unit {0}
-AreReportedFrom before geometries catalogs histories (Utilities step ∷ steps) (report ∷ reports) =
-    IsReportOf before step steps geometries catalogs histories report
-    × AreReportedFrom (before ++ Utilities step ∷ []) geometries catalogs histories steps reports
+abbrev pub AreReportedFrom : Bool → List JobStep → List VolumeFrom → List JobStep
+    → List StepReport → Type 0
+AreReportedFrom tells before froms [] reports = reports ≡ []
+AreReportedFrom tells before froms (Decks step ∷ steps) reports =
+    AreReportedFrom tells (before ++ Decks step ∷ []) froms steps reports
+AreReportedFrom tells before froms (Utilities step ∷ steps) [] = Unit {0}
+AreReportedFrom tells before froms (Utilities step ∷ steps) (report ∷ reports) =
+    IsReportOf tells before step steps froms report
+    × AreReportedFrom tells (before ++ Utilities step ∷ []) froms steps reports
 
 -- ---- the catalogs by which decks are bound
 

@@ -1,12 +1,13 @@
 -- The volumes of a shelf as they are opened, run and closed, one after another. The rules are this
 -- project's own.
 use Rattle.std.specs.Prelude.{◌≡◌, ◌+◌, ℕ, Bool, List, [], ◌∷◌, ◌++◌, Option, Some, None, Ok, Err}
-use Rattle.std.specs.Prelude.{Result, IsErr, IsErrOf, length, map, slice_get, true, false}
+use Rattle.std.specs.Prelude.{Result, IsErr, IsErrOf, IsTrue, length, map, slice_get, true, false}
 use Rattle.vr_types.specs.Faults.{Faults}
 use Rattle.vr_types.specs.Seen.{Seen}
 use Rattle.vr_types.specs.declared.fault.Failed.{Failed}
 use Rattle.vr_types.specs.declared.geometry.Geometry.{Geometry}
 use Rattle.vr_catalog.specs.declared.entry.CatEntry.{CatEntry}
+use Rattle.vr_history.specs.State.{State}
 use Rattle.vr_history.specs.declared.entry.Entry.{Entry}
 use Rattle.vr_event.specs.Volume.{VolumeNow}
 use Rattle.vr_job_text.specs.declared.job.JobStep.{JobStep}
@@ -23,21 +24,28 @@ use Rattle.vr_job.specs.Answering.{IsAnswered}
 use Rattle.vr_job.specs.Going.{Follows}
 use Rattle.vr_job.specs.Serving.{shown_of}
 use Rattle.vr_job.specs.ShelfRun.{run_line}
-use Rattle.vr_job.specs.VolumeRun.{IsClosed, IsNotOpen, IsOpen}
+use Rattle.vr_job.specs.VolumeRun.{IsClosed, IsNotOpen, IsOpen, opening_of}
 
 abbrev pub Answer : Type 0
 Answer = Result (Unit {0}) EndLine
 
--- a volume that was opened on a device
+-- a volume that was opened on a device, and the state in which it was
 pub record Opening (D : Type 0) : Type 0 where
   pub device : D
+  pub state : State
   pub volume : VolumeNow D
+
+-- It was opened so, and where the device reports its contents in this state.
+pub record IsOpenAs {D : Type 0} (tells : Bool) (seen : D → Seen) (faults : D → Faults) (number : ℕ)
+    (one : Opening D) : Type 0 where
+  pub on : IsOpen tells seen faults number one.device one.volume
+  pub state_is : (told : IsTrue tells) → one.state
+      ≡ opening_of (on.held told).contents (on.held told).owners
 
 abbrev pub AreOpen : {D : Type 0} → Bool → (D → Seen) → (D → Faults) → ℕ → List (Opening D) → Type 0
 AreOpen tells seen faults number [] = Unit {0}
 AreOpen tells seen faults number (one ∷ others) =
-    IsOpen tells seen faults number one.device one.volume
-    × AreOpen tells seen faults (number + 1) others
+    IsOpenAs tells seen faults number one × AreOpen tells seen faults (number + 1) others
 
 -- what comes of the devices after those whose volumes were opened: there is none, or the first of them
 -- is one whose volume was not opened, and those after it are as they were

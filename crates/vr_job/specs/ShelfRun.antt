@@ -19,8 +19,9 @@ use Rattle.vr_trace.specs.declared.no.RunNo.{RunNo}
 use Rattle.vr_trace.specs.declared.no.RunNo.TheVariants as nos
 use Rattle.vr_job.specs.OpenEnds.{IsOpenLine}
 use Rattle.vr_worker.specs.Reports.{utility_count}
-use Rattle.vr_job.specs.Reported.{AreBound, AreReportedFrom}
-use Rattle.vr_job.specs.VolumeRun.{IsRun, IsUnopened, IsVolumeRun}
+use Rattle.vr_history.specs.State.{State}
+use Rattle.vr_job.specs.Reported.{AreBound, AreReportedFrom, VolumeFrom}
+use Rattle.vr_job.specs.VolumeRun.{IsRunFrom, IsUnopened, IsVolumeRun}
 
 -- how a job ends whose requests weren't all answered
 abbrev pub run_line : RunNo → EndLine
@@ -31,16 +32,26 @@ abbrev pub run_end : Result (Unit {0}) RunNo → End
 run_end (Ok value) = Ran
 run_end (Err fault) = Line (run_line fault)
 
--- A volume of a run: its shape, its catalog as it was opened, its history, and its device before,
--- as the requests left it before it was closed (of a volume that was not opened, as it came back),
--- and as it came back.
+-- A volume of a run: its shape, the state in which it was opened, its catalog then, its history,
+-- and its device before, as the requests left it before it was closed (of a volume that was not
+-- opened, as it came back), and as it came back.
 pub record VolumeOf (D : Type 0) : Type 0 where
   pub geometry : Geometry
+  pub opening : State
   pub catalog : List CatEntry
   pub entries : List Entry
   pub device : D
   pub ended : D
   pub left : D
+
+-- what reports speak of
+abbrev pub volume_from : {D : Type 0} → VolumeOf D → VolumeFrom
+volume_from volume = record {
+  geometry = volume.geometry;
+  opening = volume.opening;
+  catalog = volume.catalog;
+  entries = volume.entries;
+}
 
 -- Each volume was run, the first of them having this number.
 abbrev pub AreVolumeRuns : {D : Type 0} → Bool → (D → Seen) → (D → Faults) → List JobStep → End
@@ -48,8 +59,8 @@ abbrev pub AreVolumeRuns : {D : Type 0} → Bool → (D → Seen) → (D → Fau
     → List (VolumeOf D) → Type 0
 AreVolumeRuns tells seen faults steps end number [] = Unit {0}
 AreVolumeRuns tells seen faults steps end number (volume ∷ volumes) =
-    IsVolumeRun tells seen faults number steps volume.geometry volume.catalog end volume.entries
-    volume.device volume.ended volume.left
+    IsVolumeRun tells seen faults number steps volume.geometry volume.opening volume.catalog end
+    volume.entries volume.device volume.ended volume.left
     × AreVolumeRuns tells seen faults steps end (number + 1) volumes
 
 -- Each volume, the first of them having this number, was opened, run and closed.
@@ -57,8 +68,8 @@ abbrev pub WereRun : {D : Type 0} → Bool → (D → Seen) → (D → Faults) �
     → Type 0
 WereRun tells seen faults end number [] = Unit {0}
 WereRun tells seen faults end number (volume ∷ volumes) =
-    IsRun tells seen faults number volume.geometry volume.catalog end volume.entries volume.device
-    volume.ended volume.left
+    IsRunFrom tells seen faults number volume.geometry volume.opening volume.catalog end
+    volume.entries volume.device volume.ended volume.left
     × WereRun tells seen faults end (number + 1) volumes
 
 -- the volume of this number
@@ -110,8 +121,7 @@ pub record IsShelfRun {D : Type 0} (tells : Bool) (seen : D → Seen) (faults : 
     pub asked : HasAsked catalogs steps by histories
     pub in_steps : ComeInSteps steps histories
     pub gapless : AreGapless steps histories
-    pub reported : AreReportedFrom [] (map (λ (volume : VolumeOf D). volume.geometry) volumes)
-        (map (λ (volume : VolumeOf D). volume.catalog) volumes) histories steps reports
+    pub reported : AreReportedFrom tells [] (map volume_from volumes) steps reports
     pub all_reported : OnOk by (length reports ≡ utility_count steps)
     pub stamps : end ≡ Line StampsUsedUp
         → (number : ℕ) × (volume : VolumeOf D) × IsAt number volume volumes

@@ -104,6 +104,13 @@ pub record IsRun {D : Type 0} (tells : Bool) (seen : D → Seen) (faults : D →
       → (state_of geometry (opening_state contents (owned_in owners)) entries).stopped ≡ None
       → AllForced (seen new).count (seen new).cur (seen new).may
 
+-- Such a run, from this state: its opening.
+pub record IsRunFrom {D : Type 0} (tells : Bool) (seen : D → Seen) (faults : D → Faults)
+    (number : ℕ) (shape : Geometry) (opening : State) (catalog : List CatEntry) (end : End)
+    (entries : List Entry) (old ended new : D) : Type 0 where
+  pub run : IsRun tells seen faults number shape catalog end entries old ended new
+  pub opening_is : opening ≡ opening_of run.contents run.owners
+
 -- how a job ends by a fault of the device of this volume
 abbrev pub IsFaultEnd : ℕ → End → Type 0
 IsFaultEnd number end = (end ≡ Line (DeviceFault number)) ⊎ (end ≡ Unsynced number)
@@ -150,8 +157,8 @@ pub record IsUntouched {D : Type 0} (number : ℕ) (end : End) (entries : List E
 -- and a job comes through only where none rose then, so that no sync that failed is hidden. Each reply
 -- 904 is one for which the count of failed reads rose: the history has at most as many as it rose by.
 pub record IsVolumeRun {D : Type 0} (tells : Bool) (seen : D → Seen) (faults : D → Faults)
-    (number : ℕ) (steps : List JobStep) (shape : Geometry) (catalog : List CatEntry) (end : End)
-    (entries : List Entry) (old ended new : D) : Type 0 where
+    (number : ℕ) (steps : List JobStep) (shape : Geometry) (opening : State)
+    (catalog : List CatEntry) (end : End) (entries : List Entry) (old ended new : D) : Type 0 where
   pub stamped : IsStamped 0 entries
   pub of_steps : AreOfSteps steps entries
   pub never_fall : NeverFall (faults old) (faults ended)
@@ -160,7 +167,8 @@ pub record IsVolumeRun {D : Type 0} (tells : Bool) (seen : D → Seen) (faults :
   pub cause : HasFaultCause number (faults old) (faults new) end
   pub faulted : (faults new).writes ≡ (faults old).writes → AreFaultless entries
   pub refused_reads : (faults old).reads + read_faults entries ≤ (faults new).reads
-  pub run : IsTrue tells → IsRun tells seen faults number shape catalog end entries old ended new
+  pub run : IsTrue tells
+      → IsRunFrom tells seen faults number shape opening catalog end entries old ended new
       ⊎ IsUnopened tells number end entries (seen old) (seen new)
       ⊎ IsUntouched number end entries old new
 

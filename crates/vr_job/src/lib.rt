@@ -12,6 +12,7 @@
 //! that no request moves another file than its own.
 #![tactic(auto)]
 
+mod counting;
 mod done;
 mod formatting;
 mod job;

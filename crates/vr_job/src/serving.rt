@@ -1,9 +1,11 @@
 //! A volume that the threads of decks share, and the utilities between them: one event of a
-//! request, under the volume's latch, or of a definition.
+//! request, under the volume's latch, or of a definition or a count.
 ghost use Rattle.std.specs.Prelude.{◌≡◌, ◌<◌, ◌≤◌, ◌==◌, ◌+◌, ◌-◌, ◌^◌, [], IsTrue, OnErr, OnOk};
-ghost use Rattle.std.specs.Prelude.{false, true, IfOk, IsErr, None, is_some};
-ghost use Rattle.vr_ams_define.specs.Answers.{IsShownAfter};
-ghost use Rattle.vr_ams_define.specs.Grown.{HasEntered as HasDefinedOn};
+ghost use Rattle.std.specs.Prelude.{false, true, Contains, IfOk, IsErr, None, is_some};
+ghost use Rattle.vr_catalog.specs.declared.entry.EntryKind.TheVariants.{Cluster};
+ghost use Rattle.vr_ams_define.specs.Answers.{IsShownAfter, IsShownCounted};
+ghost use Rattle.vr_ams_define.specs.Answers.Exchange.{Counting, Defining};
+ghost use Rattle.vr_ams_define.specs.Grown.{HasEntered as HasEnteredOn};
 ghost use Rattle.vr_ams_define.specs.NewCluster.{IsNewCluster};
 ghost use Rattle.vr_event.specs.DefineSteps.{HasCome, LacksRoomWhere, MayDefineNow};
 ghost use Rattle.vr_event.specs.Defining.{HasDefineFaults, utility_unit};
@@ -18,9 +20,10 @@ ghost use Rattle.vr_job.specs.Answering.{IsAnswered};
 ghost use Rattle.vr_job.specs.Going.{Follows, WentOn};
 ghost use Rattle.vr_job.specs.Serving.{IsServing, StaysServing, is_done, shown_of, unit_of};
 
+use crate::counting::count;
 use std::alloc::Global;
 use std::marker::Model;
-use vr_ams_define::{Defined, OwnedVolume};
+use vr_ams_define::{Counted, Defined, OwnedVolume};
 use vr_catalog::{CatEntry, Catalog};
 use vr_device::BlockDevice;
 use vr_event::{Act, Define, Volume};
@@ -63,7 +66,7 @@ fn make_room<B: Blocks, P: Part>(volume: &mut Volume<B, P>, deck: u32) -> Result
 
 /// Makes room for one event of a deck whose last stamp is `after`, and sees that there are stamps
 /// and numbers for it. Nothing is entered in the history, whatever the answer.
-fn make_ready<B: Blocks, P: Part>(
+pub(crate) fn make_ready<B: Blocks, P: Part>(
     volume: &mut Volume<B, P>,
     deck: u32,
     after: u64,
@@ -183,7 +186,7 @@ fn define_event<B: Blocks, P: Start + Drop>(
     ensures no_room { IsTrue B.tells → LacksRoomWhere B.seen entry.now result volume.old }
     ensures cause { HasDefineFaults (B.faults volume.old.blocks) (B.faults volume.new.blocks)
         result }
-    ensures entered { HasDefinedOn line after volume.old.file.entries volume.new.file.entries }
+    ensures entered { HasEnteredOn line after volume.old.file.entries volume.new.file.entries }
 {
     volume.define(alloc, line, entry, after)
 }
@@ -202,11 +205,11 @@ fn define<B: Blocks, P: Start + Drop>(
     ensures serving { IsServing B.tells B.seen volume.new }
     ensures follows { Follows B.tells B.seen B.faults volume.old volume.new }
     ensures answered { IfOk result (λ answer. IsAnswered B.tells B.seen B.faults volume.old line
-        entry.now answer volume.new) }
+        (Defining entry.now answer) volume.new) }
     ensures shown { IfOk result (λ answer. IsShownAfter answer entry.now (shown_of volume.old)
         (shown_of volume.new)) }
     ensures refused { IsErr result → shown_of volume.new ≡ shown_of volume.old }
-    ensures entered { HasDefinedOn line after volume.old.file.entries volume.new.file.entries }
+    ensures entered { HasEnteredOn line after volume.old.file.entries volume.new.file.entries }
     ensures number { volume.new.number ≡ volume.old.number }
     ensures geometry { volume.new.file.geometry ≡ volume.old.file.geometry }
 {
@@ -331,8 +334,8 @@ impl<D: BlockDevice> OwnedVolume for Serving<D> {
     ghost goes_further = { λ a b c first second.
         follows-on D.tells D.seen D.faults a b c first second };
 
-    ghost answers = { λ old line entry answer new.
-        IsAnswered D.tells D.seen D.faults old line entry answer new };
+    ghost answers = { λ old line exchange new.
+        IsAnswered D.tells D.seen D.faults old line exchange new };
 
     fn geometry(&self) -> Geometry
         ensures { result ≡ self.now.file.geometry }
@@ -350,15 +353,31 @@ impl<D: BlockDevice> OwnedVolume for Serving<D> {
         requires going { is_some self.old.file.stopped ≡ false }
         requires entry { IsNewCluster self.old.file.geometry self.old.file.catalog entry.now }
         ensures answered { IfOk result (λ answer. IsAnswered D.tells D.seen D.faults self.old line
-            entry.now answer self.new) }
+            (Defining entry.now answer) self.new) }
         ensures shown { IfOk result (λ answer. IsShownAfter answer entry.now (shown_of self.old)
             (shown_of self.new)) }
         ensures refused { IsErr result → shown_of self.new ≡ shown_of self.old }
-        ensures entered { HasDefinedOn line after self.old.file.entries self.new.file.entries }
+        ensures entered { HasEnteredOn line after self.old.file.entries self.new.file.entries }
         ensures goes { Follows D.tells D.seen D.faults self.old self.new }
         ensures geometry { self.new.file.geometry ≡ self.old.file.geometry }
     {
         define(self.alloc, &mut self.volume, line, entry, after)
+    }
+
+    fn count(&mut self, line: u32, entry: &CatEntry, after: u64) -> Result<Counted, RunNo>
+        requires going { is_some self.old.file.stopped ≡ false }
+        requires entry { Contains self.old.file.catalog entry.now }
+        requires cluster { entry.now.entry_kind ≡ Cluster }
+        ensures counted { IfOk result (λ counted. IsAnswered D.tells D.seen D.faults self.old line
+            (Counting entry.now counted) self.new) }
+        ensures shown { IfOk result (λ counted. IsShownCounted counted (shown_of self.old)
+            (shown_of self.new)) }
+        ensures refused { IsErr result → shown_of self.new ≡ shown_of self.old }
+        ensures entered { HasEnteredOn line after self.old.file.entries self.new.file.entries }
+        ensures goes { Follows D.tells D.seen D.faults self.old self.new }
+        ensures geometry { self.new.file.geometry ≡ self.old.file.geometry }
+    {
+        count(self.alloc, &mut self.volume, line, entry, after)
     }
 }
 

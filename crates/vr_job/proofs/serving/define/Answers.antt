@@ -70,6 +70,8 @@ pub returns-clause-answered : goal.returns-clause-answered
 returns-clause-answered g c = record {
   ready = c.make_ready.new.volume;
   stays = c.make_ready.ensures.stays;
+  going = c.make_ready.ensures.stopped ∙ c.requires.going;
+  went = c.define_event.ensures.went;
   after = c.args.after;
   event = c.in_ok-event.event;
   answer_is = c.answer_of.ensures;

@@ -18,8 +18,7 @@ returns g c =
     let new = c.define.new.self in
     record {
       serving = defined-serving B.seen B.faults c.args.after c.args.line c.args.entry.now
-          c.define.result old new cluster c.requires.may come c.define.ensures.cause B.tells held
-          c.requires.serving;
+          c.define.result old new cluster c.requires.may come B.tells held c.requires.serving;
       went = defined-went B.seen B.faults c.args.after c.args.line c.args.entry.now
           c.define.result old new cluster c.requires.may come c.define.ensures.cause B.tells held
           (g.met.B.Blocks.cur_may old.blocks)
