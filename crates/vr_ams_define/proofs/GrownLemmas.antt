@@ -386,3 +386,39 @@ run-on history goes further lines more a b c first second = record {
   next = both-next history goes further lines more a b c first second;
   rising = λ risen. second.rising (first.rising risen);
 }
+
+-- ---- a command that has more than one event
+
+-- an entry on one of these lines, of which each is there twice
+once : (lines : List ℕ) (entry : Entry) → IsOfUtilities (lines ++ lines) entry
+    → IsOfUtilities lines entry
+once lines entry own = (
+  own.0,
+  elim (Contains-append_cases lines lines entry.line own.1) [
+    | inl first ↦ first
+    | inr second ↦ second
+  ],
+)
+
+-- what events of a command enter, and others of it then, is by its lines
+pub run-again : {V : Type 0} (history : V → List Entry) (goes : V → V → Type 0)
+    → ((a b c : V) → goes a b → goes b c → goes a c) → (lines : List ℕ) (a b c : List V)
+    → AreRunOn history goes lines a b → AreRunOn history goes lines b c
+    → AreRunOn history goes lines a c
+run-again history goes further lines a b c first second =
+    let both = run-on history goes further lines lines a b c first second in
+    record {
+      count = both.count;
+      each = λ place volume near.
+          let run = both.each place volume near in
+          record {
+            is_later = run.is_later;
+            made = run.made;
+            grew = run.grew;
+            own = All-weaker (IsOfUtilities (lines ++ lines)) (IsOfUtilities lines) (once lines)
+                run.made run.own;
+          };
+      above = both.above;
+      next = both.next;
+      rising = both.rising;
+    }

@@ -1,7 +1,11 @@
+mod Alterations
 mod Choosing
+mod Deletions
 mod Entering
 pub mod GrownLemmas
 pub mod Later
 mod NewEntries
 mod OnVolume
 mod Rising
+mod Targets
+mod WorkedDeletions

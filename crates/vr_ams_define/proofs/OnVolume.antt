@@ -22,7 +22,7 @@ use Rattle.vr_ams_define.specs.Outcomes.{IsDefinedBy, IsLeft}
 use Rattle.vr_ams_define.specs.Steps.{IsEnd, IsEntered, IsUndone}
 
 -- what one of the volumes shows
-shown-at : {V T : Type 0} (shown : V → T) (volumes : List V) (number : ℕ) (spare : V)
+pub shown-at : {V T : Type 0} (shown : V → T) (volumes : List V) (number : ℕ) (spare : V)
     → number < length volumes
     → slice_get (map shown volumes) number ≡ Some (shown (get_or volumes number spare))
 shown-at shown volumes number spare within =

@@ -1,9 +1,12 @@
--- What a volume answers to a DEFINE of a cluster, and to LISTCAT ALL, and what it shows then. The
--- rules are this project's own.
-use Rattle.std.specs.Prelude.{◌≡◌, ◌≢◌, ℕ, true}
+-- What a volume answers to a DEFINE of a cluster, to ALTER and DELETE, and to LISTCAT ALL, and what
+-- it shows then. The rules are this project's own.
+use Rattle.std.specs.Prelude.{◌≡◌, ◌≢◌, ℕ, Option, true}
 use Rattle.vr_types.specs.declared.fault.DeviceFault.TheVariants.{Read, Write}
 use Rattle.vr_catalog.specs.declared.entry.CatEntry.{CatEntry}
 use Rattle.vr_trace.specs.Shown.{Shown}
+use Rattle.vr_ams_define.specs.EntryChanges.{IsShownChanged}
+use Rattle.vr_ams_define.specs.declared.answer.Changed.{Changed}
+use Rattle.vr_ams_define.specs.declared.answer.Changed.TheVariants as changes
 use Rattle.vr_ams_define.specs.declared.answer.Counted.{Counted}
 use Rattle.vr_ams_define.specs.declared.answer.Counted.TheVariants as counts
 use Rattle.vr_ams_define.specs.declared.answer.Defined.{Defined}
@@ -33,28 +36,38 @@ IsShownCounted (counts.Done numbers) old new = new ≡ old
 IsShownCounted (counts.Fault Read) old new = new ≡ old
 IsShownCounted (counts.Fault Write) old new = new.stopped ≡ true
 
--- What a volume was asked for, and its answer: the definition of an entry, or the numbers of one.
+-- What a volume was asked for, and its answer: the definition of an entry, the numbers of one, or a
+-- change of one, to the other where it is altered, and to none where it is deleted.
 pub data Exchange : Type 0 where
   Defining : CatEntry → Defined → Exchange
   Counting : CatEntry → Counted → Exchange
+  Changing : CatEntry → Option CatEntry → Changed → Exchange
 
 -- how a volume may answer on a line, and be then
 abbrev pub Answering : Type 0 → Type 1
 Answering V = V → ℕ → Exchange → V → Type 0
 
--- It was asked, and did stages one after another.
-pub data HasStaged {V : Type 0} (answers : Answering V) (line : ℕ) (entry : CatEntry) (old : V)
+-- It was asked, and said each time that it is to be asked again, after a stage.
+pub data HasStaged {V : Type 0} (answers : Answering V) (line : ℕ) (again : Exchange) (old : V)
     : V → Type 0 where
-  Unstaged : HasStaged answers line entry old old
-  Staged : (before after : V) → HasStaged answers line entry old before
-      → answers before line (Defining entry Again) after
-      → HasStaged answers line entry old after
+  Unstaged : HasStaged answers line again old old
+  Staged : (before after : V) → HasStaged answers line again old before
+      → answers before line again after → HasStaged answers line again old after
 
 -- It was asked again until it gave another answer, and shows what that leaves.
 pub record HasAnswered {V : Type 0} (shown : V → Shown) (answers : Answering V) (line : ℕ)
     (entry : CatEntry) (old new : V) (answer : Defined) : Type 0 where
   pub before : V
-  pub stages : HasStaged answers line entry old before
+  pub stages : HasStaged answers line (Defining entry Again) old before
   pub answered : answers before line (Defining entry answer) new
   pub last : answer ≢ Again
   pub left : IsShownAfter answer entry (shown old) (shown new)
+
+-- So it was asked for a change.
+pub record HasChanged {V : Type 0} (shown : V → Shown) (answers : Answering V) (line : ℕ)
+    (entry : CatEntry) (to : Option CatEntry) (old new : V) (answer : Changed) : Type 0 where
+  pub before : V
+  pub stages : HasStaged answers line (Changing entry to changes.Again) old before
+  pub answered : answers before line (Changing entry to answer) new
+  pub last : answer ≢ changes.Again
+  pub left : IsShownChanged answer entry to (shown old) (shown new)

@@ -1,3 +1,4 @@
+pub mod EntryChanges
 pub mod NewCluster
 pub mod Answers
 pub mod Chosen
@@ -6,3 +7,6 @@ pub mod Grown
 pub mod Outcomes
 pub mod Steps
 pub mod Runs
+pub mod Altered
+pub mod Deleted
+pub mod ChangeSteps

@@ -24,9 +24,9 @@ abbrev pub no_by : CatFault → DefineNo
 no_by faults.Memory = Ended Memory
 no_by fault = Refused (catalog_failure fault)
 
--- A refusal is by the first cause, and the volume wasn't asked; where stamps or memory run out, it
--- shows what it showed.
-abbrev pub IsUndone : {V : Type 0} → (V → Shown) → Option Failure → V → V → DefineNo → Type 0
+-- A refusal is by the first cause, and no volume was asked; where stamps or memory run out, what is
+-- shown is what was.
+abbrev pub IsUndone : {V S : Type 0} → (V → S) → Option Failure → V → V → DefineNo → Type 0
 IsUndone shown first old new (Refused failure) = (first ≡ Some failure) × (new ≡ old)
 IsUndone shown first old new (Ended end) = shown new ≡ shown old
 

@@ -1,4 +1,4 @@
-//! What a volume answers to a DEFINE of a cluster, and to LISTCAT ALL.
+//! What a volume answers to a DEFINE of a cluster, to ALTER and DELETE, and to LISTCAT ALL.
 
 use vr_trace::Statistics;
 use vr_types::{AreaNo, DeviceFault};
@@ -26,6 +26,23 @@ pub enum Defined {
 #[derive(Clone, Copy)]
 pub enum Counted {
     Done(Statistics),
+    /// The device failed. A write that fails stops the volume.
+    Fault(DeviceFault),
+}
+
+/// What one event of a change of an entry, by ALTER or DELETE, came to.
+#[derive(Clone, Copy)]
+pub enum Changed {
+    /// The entry is altered, or it is deleted with its records, and its areas are free.
+    Done,
+    /// A stage was done that has to come first: ask again.
+    Again,
+    /// A lock of a unit of recovery is on the place of the record.
+    Held,
+    /// A unit of recovery is live on the volume.
+    Live,
+    /// The log has no room for the change.
+    Full,
     /// The device failed. A write that fails stops the volume.
     Fault(DeviceFault),
 }

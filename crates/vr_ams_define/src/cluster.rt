@@ -9,13 +9,13 @@ ghost use Rattle.vr_ams_define.specs.Runs.{is_plain_cluster};
 ghost use Rattle.vr_ams_define.specs.Steps.{IsEnd};
 ghost use Rattle.vr_ams_define.specs.declared.answer.Defined.TheVariants.{Again};
 ghost use Rattle.vr_ams_define.specs.declared.refusal.DefineNo.TheVariants.{Ended};
-ghost use Rattle.vr_trace.specs.Commands.{done as done_with};
 ghost use Rattle.vr_trace.specs.Shown.{Shown};
 
 use crate::answer::Defined;
 use crate::chosen::chosen;
 use crate::defining::define_on;
 use crate::failure::{catalog_failure, early_failure, fault_failure, held_failure, log_failure};
+use crate::outcome::done;
 use crate::owned::OwnedVolume;
 use crate::refusal::DefineNo;
 use crate::stamps::last_of;
@@ -23,17 +23,6 @@ use std::alloc::Global;
 use vr_catalog::{CatFault, Define};
 use vr_trace::{Outcome, RunNo, refused, write_outcome};
 use vr_types::{Bytes, OutOfMemory};
-
-/// The outcome of a definition that was done.
-fn done(alloc: Global) -> Outcome
-    ensures { result ≡ done_with [] }
-{
-    Outcome {
-        lines: Bytes::new(alloc),
-        code: 0,
-        fault: None,
-    }
-}
 
 /// The outcome by the last answer of a volume.
 fn outcome_of(alloc: Global, answer: Defined) -> Outcome

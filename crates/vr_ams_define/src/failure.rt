@@ -66,14 +66,14 @@ pub fn fault_failure(fault: DeviceFault) -> Failure
 }
 
 /// The failure, where its cause is there.
-fn failure_if(cause: bool, failure: Failure) -> Option<Failure>
+pub(crate) fn failure_if(cause: bool, failure: Failure) -> Option<Failure>
     ensures { result ≡ stated.failure_if cause failure }
 {
     if cause { Some(failure) } else { None }
 }
 
 /// The failure of a volume that has stopped.
-fn stopped_failure<V: ShownVolume>(volume: &V) -> Option<Failure>
+pub(crate) fn stopped_failure<V: ShownVolume>(volume: &V) -> Option<Failure>
     ensures { result ≡ stated.stopped_failure (V.shown volume.now) }
 {
     let failure = volume_failure(&Refusal::Stopped { stamp: 0 });

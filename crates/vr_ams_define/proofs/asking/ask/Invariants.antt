@@ -1,12 +1,14 @@
 use Rattle.std.proofs.Common.{◌≡◌}
 use Rattle.vr_ams_define.specs.Answers.{HasStaged}
+use Rattle.vr_ams_define.specs.Answers.Exchange.{Defining}
+use Rattle.vr_ams_define.specs.declared.answer.Defined.TheVariants.{Again}
 use Rattle.vr_ams_define.specs.Steps.{IsLater}
 use Rattle.vr_ams_define.proofs.asking.ask.Given as goal
 
 -- the volume did stages, and shows what it showed
 abbrev pub invariant-loop-turn : goal.invariant-loop-turn
 invariant-loop-turn g l = record {
-  staged : HasStaged g.V.OwnedVolume.answers l.line l.entry l.fn.volume l.volume;
+  staged : HasStaged g.V.OwnedVolume.answers l.line (Defining l.entry Again) l.fn.volume l.volume;
   shown : g.V.ShownVolume.shown l.volume ≡ g.V.ShownVolume.shown l.fn.volume;
   later : IsLater g.V.OwnedVolume.history g.V.OwnedVolume.goes l.line l.after l.fn.volume
       l.volume;

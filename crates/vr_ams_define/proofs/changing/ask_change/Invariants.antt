@@ -1,0 +1,18 @@
+use Rattle.std.proofs.Common.{◌≡◌}
+use Rattle.std.specs.Option.{option_copied}
+use Rattle.vr_ams_define.specs.Answers.{HasStaged}
+use Rattle.vr_ams_define.specs.Answers.Exchange.{Changing}
+use Rattle.vr_ams_define.specs.declared.answer.Changed.TheVariants.{Again}
+use Rattle.vr_ams_define.specs.Steps.{IsLater}
+use Rattle.vr_ams_define.proofs.changing.ask_change.Given as goal
+
+-- the volume did stages, and shows what it showed
+abbrev pub invariant-loop-turn : goal.invariant-loop-turn
+invariant-loop-turn g l = record {
+  staged : HasStaged g.V.OwnedVolume.answers l.line (Changing l.entry (option_copied l.to) Again)
+      l.fn.volume l.volume;
+  shown : g.V.ShownVolume.shown l.volume ≡ g.V.ShownVolume.shown l.fn.volume;
+  later : IsLater g.V.OwnedVolume.history g.V.OwnedVolume.goes l.line l.after l.fn.volume
+      l.volume;
+  geometry : g.V.OwnedVolume.geometry l.volume ≡ g.V.OwnedVolume.geometry l.fn.volume;
+}
