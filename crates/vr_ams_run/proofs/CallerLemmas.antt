@@ -1,19 +1,22 @@
 -- What crates above cite of reports: the code of a step is 16 at most.
 use Rattle.std.proofs.Common.{◌≡◌, ◌≤◌, ℕ, Bool, true, false, List, [], ◌∷◌, Option, Some, None}
 use Rattle.std.proofs.Common.{arith, inl, inr, map, subst, sym}
-use Rattle.std.specs.Prelude.{not, ◌&&◌, length, if◌then◌else◌, IfSome}
+use Rattle.std.specs.Prelude.{not, ◌&&◌, length, if◌then◌else◌, IfSome, is_some, slice_get}
 use Rattle.std.specs.Option.{option_and_then, option_map, option_or}
 use Rattle.std.proofs.Math.Nat.{max-le, min-le_right}
 use Rattle.vr_types.specs.declared.fault.DeviceFault.{DeviceFault}
 use Rattle.vr_types.specs.declared.fault.DeviceFault.TheVariants.{Read, Write}
 use Rattle.vr_types.specs.declared.geometry.Geometry.{Geometry}
 use Rattle.vr_types.specs.declared.reply.Refusal.TheVariants.{Stopped}
+use Rattle.vr_catalog.specs.Alter.{altered as altered_entry}
 use Rattle.vr_catalog.specs.Define.{define_fault, new_entry}
 use Rattle.vr_catalog.specs.Entry.{is_entry}
 use Rattle.vr_catalog.specs.Fault.{fault_code}
 use Rattle.vr_catalog.specs.declared.entry.CatEntry.{CatEntry}
+use Rattle.vr_catalog.specs.declared.entry.EntryKind.{EntryKind}
 use Rattle.vr_catalog.specs.declared.fault.CatFault.{CatFault}
 use Rattle.vr_catalog.specs.declared.fault.CatFault.TheVariants as faults
+use Rattle.vr_catalog.specs.declared.order.Alter.{Alter}
 use Rattle.vr_catalog.specs.declared.order.Define.{Define}
 use Rattle.vr_amsparse.specs.declared.command.CodeVariable.{CodeVariable}
 use Rattle.vr_amsparse.specs.declared.command.CodeVariable.TheVariants.{LastCode, MaxCode}
@@ -30,13 +33,17 @@ use Rattle.vr_trace.specs.declared.report.StepReport.{StepReport}
 use Rattle.vr_ams_list.specs.Faults.{failure_of, has_stopped, is_missing, not_found, stopped}
 use Rattle.vr_ams_list.specs.Listing.{detail_lines}
 use Rattle.vr_ams_list.specs.Outcomes.{listed}
+use Rattle.vr_ams_define.specs.declared.answer.Changed.{Changed}
+use Rattle.vr_ams_define.specs.declared.answer.Changed.TheVariants as changes
 use Rattle.vr_ams_define.specs.declared.answer.Defined.{Defined}
 use Rattle.vr_ams_define.specs.declared.answer.Defined.TheVariants.{Done, Again, NoArea, NoRoom}
 use Rattle.vr_ams_define.specs.declared.answer.Defined.TheVariants.{Held, Full, Fault}
+use Rattle.vr_ams_define.specs.Altered as altered
 use Rattle.vr_ams_define.specs.Answers.{Answering}
 use Rattle.vr_ams_define.specs.Chosen.{chosen}
+use Rattle.vr_ams_define.specs.Deleted as deleted
 use Rattle.vr_ams_define.specs.Failures.{catalog_failure, early_failure, failure_at, failure_if}
-use Rattle.vr_ams_define.specs.Failures.{failure_on, name_failure, record_failure}
+use Rattle.vr_ams_define.specs.Failures.{failure_on, fault_failure, name_failure, record_failure}
 use Rattle.vr_ams_define.specs.Failures.{stopped_failure, volume_at, volume_failure}
 use Rattle.vr_ams_define.specs.Outcomes.{IsDefined, IsOutcome}
 use Rattle.vr_ams_define.specs.Runs.{is_plain_cluster}
@@ -44,8 +51,8 @@ use Rattle.vr_ams_run.specs.declared.codes.Codes.{Codes}
 use Rattle.vr_ams_run.specs.declared.going.Going.{Going}
 use Rattle.vr_ams_run.specs.Codes.{set_to}
 use Rattle.vr_ams_run.specs.ListedAll.{IsListedAll}
-use Rattle.vr_ams_run.specs.Running.{CommandRun, DefineRun, IsReport, ListRun, NodeRunWhere}
-use Rattle.vr_ams_run.specs.Running.{NodesRun, Stage, first_stage, list_run}
+use Rattle.vr_ams_run.specs.Running.{AlterRun, CommandRun, DefineRun, IsReport, ListRun}
+use Rattle.vr_ams_run.specs.Running.{NodeRunWhere, NodesRun, Stage, first_stage, list_run}
 use Rattle.vr_ams_run.specs.Running.{reaches}
 
 -- ---- failures
@@ -192,6 +199,148 @@ all-few shown answers line names old new outcome came = elim came [
   ]
 ]
 
+-- ---- changes of entries
+
+kind-mild : (entry : CatEntry) → IfSome (altered.kind_failure entry) IsMild
+kind-mild entry = by (altered.is_cluster entry.entry_kind) (not (is_entry entry))
+  where
+    by : (cluster unspelled : Bool) → IfSome (if cluster
+        then failure_if unspelled (catalog_failure faults.WrongKind)
+        else Some (catalog_failure faults.WrongKind)) IsMild
+    by true unspelled = if-mild unspelled (catalog_failure faults.WrongKind) (omega arith)
+    by false unspelled = omega arith
+
+-- what a change of an entry is refused for on its volume
+entry-mild : (volume : Option Shown) (entry : Option CatEntry)
+    → IfSome (altered.failure_on volume entry) IsMild
+entry-mild None entry = omega arith
+entry-mild (Some volume) None = omega arith
+entry-mild (Some volume) (Some entry) =
+    first-mild (stopped_failure volume) (altered.kind_failure entry)
+    (if-mild volume.stopped (volume_failure (Stopped 0)) (omega arith)) (kind-mild entry)
+
+target-mild : (volumes : List Shown) (place : Option ℕ) (name : List ℕ)
+    → IfSome (altered.target_failure volumes place name) IsMild
+target-mild volumes None name = omega arith
+target-mild volumes (Some place) name =
+    entry-mild (slice_get volumes place) (altered.entry_at volumes place name)
+
+named-mild : (volumes : List Shown) (name : List ℕ)
+    → IfSome (altered.name_failure volumes name) IsMild
+named-mild volumes name = target-mild volumes (altered.place_of volumes name) name
+
+altered-mild : (entry : Option CatEntry) (order : Alter)
+    → IfSome (altered.altered_failure entry order) IsMild
+altered-mild None order = tt
+altered-mild (Some entry) order = if-mild (not (is_entry (altered_entry entry order)))
+    (catalog_failure faults.CatalogFull) (omega arith)
+
+-- whatever an ALTER is refused for
+alter-mild : (volumes : List Shown) (order : Alter)
+    → IfSome (altered.alter_failure volumes order) IsMild
+alter-mild volumes order = first-mild (altered.name_failure volumes order.name) (at
+    (altered.place_of volumes order.name)) (named-mild volumes order.name)
+    (by (altered.place_of volumes order.name))
+  where
+    at : Option ℕ → Option Failure
+    at place = option_and_then (λ (place : ℕ). altered.altered_failure (altered.entry_at volumes
+        place order.name) order) place
+
+    by : (place : Option ℕ) → IfSome (at place) IsMild
+    by None = tt
+    by (Some place) = altered-mild (altered.entry_at volumes place order.name) order
+
+-- whatever the deletion of a name is refused for
+delete-mild : (volumes : List Shown) (kind : Option EntryKind) (name : List ℕ)
+    → IfSome (deleted.delete_failure volumes kind name) IsMild
+delete-mild volumes kind name = first-mild (altered.name_failure volumes name) (at
+    (deleted.allows_clusters kind)) (named-mild volumes name) (by (deleted.allows_clusters kind))
+  where
+    at : Bool → Option Failure
+    at allowed = if allowed then None else Some (catalog_failure faults.WrongKind)
+
+    by : (allowed : Bool) → IfSome (at allowed) IsMild
+    by true = tt
+    by false = omega arith
+
+fault-few : (fault : DeviceFault) → IsMild (fault_failure fault)
+fault-few Read = omega arith
+fault-few Write = omega arith
+
+-- whatever a volume refuses a change for
+changed-mild : (answer : Changed) → IfSome (altered.failure_by answer) IsMild
+changed-mild changes.Done = tt
+changed-mild changes.Again = tt
+changed-mild changes.Held = omega arith
+changed-mild changes.Live = omega arith
+changed-mild changes.Full = omega arith
+changed-mild (changes.Fault fault) = fault-few fault
+
+altered-few : (failure : Option Failure) → IfSome failure IsMild
+    → (altered.outcome_by failure).code ≤ 16
+altered-few None mild = omega arith
+altered-few (Some failure) mild = mild
+
+mild-as : (failure other : Option Failure) → failure ≡ other → IfSome other IsMild
+    → IfSome failure IsMild
+mild-as failure other is mild =
+    subst (λ (first : Option Failure). IfSome first IsMild) (sym is) mild
+
+alter-few : {V : Type 0} (shown : V → Shown) (answers : Answering V) (line : ℕ) (order : Alter)
+    (old new : List V) (outcome : Outcome)
+    → altered.IsAlteredBy shown answers line order old new outcome → outcome.code ≤ 16
+alter-few shown answers line order old new outcome came = elim came [
+  | inl refused ↦ code-of outcome _ refused.outcome_is
+      (subst (λ (first : Option Failure). IfSome first IsMild) refused.first_is
+      (alter-mild (map shown old) order))
+  | inr allowed ↦ elim allowed [
+    | inl nothing ↦ code-of outcome _ nothing.outcome_is (omega arith)
+    | inr asked ↦ code-of outcome _ asked.outcome_is
+        (altered-few (altered.failure_by asked.answer) (changed-mild asked.answer))
+  ]
+]
+
+-- each of these is mild
+abbrev AreMild : List (Option Failure) → Type 0
+AreMild [] = Unit {0}
+AreMild (failure ∷ failures) = IfSome failure IsMild × AreMild failures
+
+code-few : (failure : Option Failure) → IfSome failure IsMild → deleted.code_of failure ≤ 16
+code-few None mild = omega arith
+code-few (Some failure) mild = mild
+
+-- the greatest code of names that are each refused for something mild, or not
+worst-few : (failures : List (Option Failure)) → AreMild failures
+    → deleted.worst_code failures ≤ 16
+worst-few [] mild = omega arith
+worst-few (failure ∷ failures) (mild, more) =
+    max-le (code-few failure mild) (worst-few failures more)
+
+module _ {V : Type 0} (shown : V → Shown) (answers : Answering V) (line : ℕ)
+    (kind : Option EntryKind) where
+  one-mild : (name : List ℕ) (old new : List V) (failure : Option Failure)
+      → deleted.IsOneDeleted shown answers line kind name old new failure
+      → IfSome failure IsMild
+  one-mild name old new failure came = elim came [
+    | inl kept ↦ mild-as failure (Some kept.why) kept.failure_is
+        (subst (λ (first : Option Failure). IfSome first IsMild) kept.first_is
+        (delete-mild (map shown old) kind name))
+    | inr asked ↦ mild-as failure (altered.failure_by asked.answer) asked.failure_is
+        (changed-mild asked.answer)
+  ]
+
+  each-mild : (names : List (List ℕ)) (old new : List V) (failures : List (Option Failure))
+      → deleted.AreDeleted shown answers line kind names old new failures → AreMild failures
+  each-mild [] old new failures (same, none) = subst AreMild (sym none) tt
+  each-mild (name ∷ names) old new [] ran = absurd ran
+  each-mild (name ∷ names) old new (failure ∷ failures) (between, one, more) =
+      (one-mild name old between failure one, each-mild names between new failures more)
+
+  delete-few : (names : List (List ℕ)) (old new : List V) (outcome : Outcome)
+      → deleted.IsDeletedBy shown answers line kind names old new outcome → outcome.code ≤ 16
+  delete-few names old new outcome came = code-of outcome _ came.outcome_is
+      (worst-few came.failures (each-mild names old new came.failures came.ran))
+
 -- ---- commands
 
 abbrev IsFew : Going → Type 0
@@ -226,12 +375,21 @@ module _ {V : Type 0} (shown : V → Shown) (geometry : V → Geometry) (answers
   list-run-few false line command old new few run = few-as new.going _ run.going
       (list-few (map shown old.volumes) old.going line command few)
 
+  alter-run-few : (runs : Bool) (line : ℕ) (order : Alter) (old new : Stage V)
+      → IsFew old.going → AlterRun shown answers runs line order old new → IsFew new.going
+  alter-run-few true line order old new few run = few-as new.going _ run.going (max-le few
+      (alter-few shown answers line order old.volumes new.volumes run.outcome run.altered))
+  alter-run-few false line order old new few run = few-as new.going _ run.going few
+
   command-few : (line : ℕ) (command : Command) (old new : Stage V) → IsFew old.going
       → CommandRun shown geometry answers line command old new → IsFew new.going
   command-few line (commands.Define command) old new few run =
       define-few (is_plain_cluster command.order.what) line command old new few run
-  command-few line (commands.Alter command) old new few run = few-as new.going _ run.going few
-  command-few line (commands.Delete command) old new few run = few-as new.going _ run.going few
+  command-few line (commands.Alter order) old new few run =
+      alter-run-few (not (is_some order.new_name)) line order old new few run
+  command-few line (commands.Delete command) old new few run = few-as new.going _ run.going (max-le
+      few (delete-few shown answers line command.kind command.names old.volumes new.volumes
+      run.outcome run.deleted))
   command-few line (commands.Repro command) old new few run = few-as new.going _ run.going few
   command-few line (commands.BuildIndex command) old new few run = few-as new.going _ run.going few
   command-few line (commands.Print command) old new few run = few-as new.going _ run.going few

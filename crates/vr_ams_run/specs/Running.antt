@@ -2,7 +2,7 @@
 -- and SET after Access Method Services Commands. That a SET to 16 leaves the later steps is this
 -- project's own.
 use Rattle.std.specs.Prelude.{◌≡◌, ℕ, Bool, true, false, not, ◌&&◌, List, []}
-use Rattle.std.specs.Prelude.{◌∷◌, ◌++◌, codes, map, slice_get, Option, Some, None}
+use Rattle.std.specs.Prelude.{◌∷◌, ◌++◌, codes, is_some, map, slice_get, Option, Some, None}
 use Rattle.vr_types.specs.declared.geometry.Geometry.{Geometry}
 use Rattle.vr_amsparse.specs.declared.command.Branch.{Branch}
 use Rattle.vr_amsparse.specs.declared.command.Branch.TheVariants.{Then, Else}
@@ -10,6 +10,7 @@ use Rattle.vr_amsparse.specs.declared.command.Command.{Command}
 use Rattle.vr_amsparse.specs.declared.command.Command.TheVariants as commands
 use Rattle.vr_amsparse.specs.declared.command.Condition.{Condition}
 use Rattle.vr_amsparse.specs.declared.command.DefineCommand.{DefineCommand}
+use Rattle.vr_amsparse.specs.declared.command.DeleteCommand.{DeleteCommand}
 use Rattle.vr_amsparse.specs.declared.command.ListCommand.{ListCommand}
 use Rattle.vr_amsparse.specs.declared.command.Node.{Node}
 use Rattle.vr_amsparse.specs.declared.command.Setting.{Setting}
@@ -19,7 +20,10 @@ use Rattle.vr_trace.specs.Shown.{Shown}
 use Rattle.vr_trace.specs.declared.command.Outcome.{Outcome}
 use Rattle.vr_trace.specs.declared.report.StepReport.{StepReport}
 use Rattle.vr_ams_list.specs.Outcomes.{listed}
+use Rattle.vr_catalog.specs.declared.order.Alter.{Alter}
+use Rattle.vr_ams_define.specs.Altered.{IsAlteredBy}
 use Rattle.vr_ams_define.specs.Answers.{Answering}
+use Rattle.vr_ams_define.specs.Deleted.{IsDeletedBy}
 use Rattle.vr_ams_define.specs.Outcomes.{IsDefined}
 use Rattle.vr_ams_define.specs.Runs.{is_plain_cluster}
 use Rattle.vr_ams_run.specs.declared.going.Going.{Going}
@@ -29,8 +33,8 @@ use Rattle.vr_ams_run.specs.Codes.{no_codes, holds, with_code, set_by, ends}
 -- the commands that are run yet
 abbrev pub is_run : Command → Bool
 is_run (commands.Define command) = is_plain_cluster command.order.what
-is_run (commands.Alter command) = false
-is_run (commands.Delete command) = false
+is_run (commands.Alter order) = not (is_some order.new_name)
+is_run (commands.Delete command) = true
 is_run (commands.Repro command) = false
 is_run (commands.BuildIndex command) = false
 is_run (commands.Print command) = false
@@ -164,6 +168,27 @@ ListRun shown answers true line command old new =
 ListRun shown answers false line command old new =
     IsQuiet (list_run (map shown old.volumes) old.going line command) old new
 
+-- ALTER came to an outcome
+pub record IsAlteredAs {V : Type 0} (shown : V → Shown) (answers : Answering V) (line : ℕ)
+    (order : Alter) (old new : Stage V) : Type 0 where
+  pub outcome : Outcome
+  pub altered : IsAlteredBy shown answers line order old.volumes new.volumes outcome
+  pub going : new.going ≡ ended line (codes "ALTER") outcome old.going
+
+-- ALTER; with NEWNAME, which isn't run yet, it is passed over
+abbrev pub AlterRun : {V : Type 0} → (V → Shown) → Answering V → Bool → ℕ → Alter → Stage V → Stage V
+    → Type 0
+AlterRun shown answers true line order old new = IsAlteredAs shown answers line order old new
+AlterRun shown answers false line order old new = IsQuiet (passed old.going) old new
+
+-- DELETE came to an outcome
+pub record IsDeletedAs {V : Type 0} (shown : V → Shown) (answers : Answering V) (line : ℕ)
+    (command : DeleteCommand) (old new : Stage V) : Type 0 where
+  pub outcome : Outcome
+  pub deleted : IsDeletedBy shown answers line command.kind command.names old.volumes new.volumes
+      outcome
+  pub going : new.going ≡ ended line (codes "DELETE") outcome old.going
+
 -- a command that leaves the volumes as they were
 abbrev pub QuietRun : {V : Type 0} → (V → Shown) → ℕ → Command → Stage V → Stage V → Type 0
 QuietRun shown line command old new =
@@ -176,6 +201,10 @@ CommandRun shown geometry answers line (commands.Define command) old new =
     DefineRun shown geometry answers (is_plain_cluster command.order.what) line command old new
 CommandRun shown geometry answers line (commands.ListCatalog command) old new =
     ListRun shown answers command.all line command old new
+CommandRun shown geometry answers line (commands.Alter order) old new =
+    AlterRun shown answers (not (is_some order.new_name)) line order old new
+CommandRun shown geometry answers line (commands.Delete command) old new =
+    IsDeletedAs shown answers line command old new
 CommandRun shown geometry answers line command old new = QuietRun shown line command old new
 
 -- one command more, where it is reached

@@ -1,5 +1,5 @@
 //! The commands of a step.
-ghost use Rattle.std.specs.Prelude.{◌≡◌, ◌∷◌, [], map, IfOk, OnOk};
+ghost use Rattle.std.specs.Prelude.{◌≡◌, ◌∷◌, [], is_some, map, not, IfOk, OnOk};
 ghost use Rattle.vr_ams_define.specs.Grown.{AreRunOn};
 ghost use Rattle.vr_ams_define.specs.Runs.{is_plain_cluster as is_plain};
 ghost use Rattle.vr_ams_run.specs.Running as stated;
@@ -7,9 +7,10 @@ ghost use Rattle.vr_ams_run.specs.Running as stated;
 use crate::going::Going;
 use crate::listed_all::list_all;
 use std::alloc::Global;
-use vr_ams_define::{OwnedVolume, define_cluster, is_plain_cluster};
+use vr_ams_define::{OwnedVolume, alter_entry, define_cluster, delete_entries, is_plain_cluster};
 use vr_ams_list::list_entries;
-use vr_amsparse::{Command, DefineCommand, ListCommand, Node};
+use vr_amsparse::{Command, DefineCommand, DeleteCommand, ListCommand, Node};
+use vr_catalog::Alter;
 use vr_trace::{RunNo, StepReport};
 
 /// Whether a command is run yet.
@@ -17,11 +18,10 @@ pub fn is_run(command: &Command) -> bool
     ensures { result ≡ stated.is_run command.now }
 {
     match command {
-        Command::ListCatalog(_) | Command::If(_) | Command::Set(_) => true,
+        Command::Delete(_) | Command::ListCatalog(_) | Command::If(_) | Command::Set(_) => true,
         Command::Define(define) => is_plain_cluster(&define.order.what),
-        Command::Alter(_)
-        | Command::Delete(_)
-        | Command::Repro(_)
+        Command::Alter(order) => order.new_name.is_none(),
+        Command::Repro(_)
         | Command::BuildIndex(_)
         | Command::Print(_)
         | Command::Verify(_)
@@ -72,6 +72,45 @@ fn run_define<V: OwnedVolume>(
     Ok(going.end(alloc, line, b"DEFINE CLUSTER", &outcome)?)
 }
 
+/// ALTER. With NEWNAME it isn't run yet.
+fn run_alter<V: OwnedVolume>(
+    alloc: Global,
+    volumes: &mut [V],
+    line: u32,
+    order: &Alter,
+    going: &mut Going,
+) -> Result<(), RunNo>
+    ensures ran { OnOk result (stated.AlterRun V.shown V.answers
+        (not (is_some order.now.new_name)) line order.now
+        (record { volumes = volumes.old; going = going.old })
+        (record { volumes = volumes.new; going = going.new })) }
+    ensures grew { AreRunOn V.history V.goes (line ∷ []) volumes.old volumes.new }
+{
+    if order.new_name.is_some() {
+        return Ok(going.pass()?);
+    }
+    let outcome = alter_entry(alloc, volumes, line, order)?;
+    Ok(going.end(alloc, line, b"ALTER", &outcome)?)
+}
+
+/// DELETE.
+fn run_delete<V: OwnedVolume>(
+    alloc: Global,
+    volumes: &mut [V],
+    line: u32,
+    command: &DeleteCommand,
+    going: &mut Going,
+) -> Result<(), RunNo>
+    ensures ran { OnOk result (stated.IsDeletedAs V.shown V.answers line command.now
+        (record { volumes = volumes.old; going = going.old })
+        (record { volumes = volumes.new; going = going.new })) }
+    ensures grew { AreRunOn V.history V.goes (line ∷ []) volumes.old volumes.new }
+{
+    let names = command.names.as_slice();
+    let outcome = delete_entries(alloc, volumes, line, names, command.kind)?;
+    Ok(going.end(alloc, line, b"DELETE", &outcome)?)
+}
+
 /// Runs a command that is reached.
 fn run_command<V: OwnedVolume>(
     alloc: Global,
@@ -90,9 +129,9 @@ fn run_command<V: OwnedVolume>(
         Command::Set(setting) => Ok(going.set(*setting)?),
         Command::Define(define) => run_define(alloc, volumes, line, define, going),
         Command::ListCatalog(list) => run_list(alloc, volumes, line, list, going),
-        Command::Alter(_)
-        | Command::Delete(_)
-        | Command::Repro(_)
+        Command::Alter(order) => run_alter(alloc, volumes, line, order, going),
+        Command::Delete(delete) => run_delete(alloc, volumes, line, delete, going),
+        Command::Repro(_)
         | Command::BuildIndex(_)
         | Command::Print(_)
         | Command::Verify(_)
@@ -139,10 +178,10 @@ fn run_all<V: OwnedVolume>(
 }
 
 /// Runs the commands of a step over the volumes, volume 0 first, in order, and gives the report of
-/// the step: DEFINE of a cluster, LISTCAT, IF and SET, after Access Method Services Commands. Each
-/// runs over the volumes as those before it left them. A command for which `is_run` is false does
-/// nothing. Where stamps or memory run out there is no report, and the volumes are as the commands
-/// so far left them.
+/// the step: DEFINE of a cluster, ALTER of FREESPACE and SHAREOPTIONS, DELETE, LISTCAT, IF and SET,
+/// after Access Method Services Commands. Each runs over the volumes as those before it left them.
+/// A command for which `is_run` is false does nothing. Where stamps or memory run out there is no
+/// report, and the volumes are as the commands so far left them.
 pub fn run_commands<V: OwnedVolume>(
     alloc: Global,
     volumes: &mut [V],

@@ -16,11 +16,11 @@ returns-in_err-branch-in-If-clause-grew g c = nothing g c.args.line c.args.volum
 pub returns-in_err-set-in-Set-clause-grew : goal.returns-in_err-set-in-Set-clause-grew
 returns-in_err-set-in-Set-clause-grew g c = nothing g c.args.line c.args.volumes.now
 
-pub returns-in_err-pass-in-Alter-clause-grew : goal.returns-in_err-pass-in-Alter-clause-grew
-returns-in_err-pass-in-Alter-clause-grew g c = nothing g c.args.line c.args.volumes.now
+pub returns-in_err-pass-in-Repro-clause-grew : goal.returns-in_err-pass-in-Repro-clause-grew
+returns-in_err-pass-in-Repro-clause-grew g c = nothing g c.args.line c.args.volumes.now
 
 pub returns-in_ok-branch-in-If-clause-grew : goal.returns-in_ok-branch-in-If-clause-grew
 returns-in_ok-branch-in-If-clause-grew g c = nothing g c.args.line c.args.volumes.now
 
-pub returns-in_ok-pass-in-Alter-clause-grew : goal.returns-in_ok-pass-in-Alter-clause-grew
-returns-in_ok-pass-in-Alter-clause-grew g c = nothing g c.args.line c.args.volumes.now
+pub returns-in_ok-pass-in-Repro-clause-grew : goal.returns-in_ok-pass-in-Repro-clause-grew
+returns-in_ok-pass-in-Repro-clause-grew g c = nothing g c.args.line c.args.volumes.now
