@@ -2,7 +2,7 @@
 -- where the step ends, at the next EXEC card or at the end of the text, so its fault goes before the
 -- faults of later cards.
 use Rattle.std.specs.Prelude.{◌≡◌, ◌⊎◌, ℕ, Bool, true, false, not, if◌then◌else◌}
-use Rattle.std.specs.Prelude.{List, [], ◌∷◌, length, sum_by, Option, Some, None, Ok, Err}
+use Rattle.std.specs.Prelude.{List, [], ◌∷◌, length, sum_by, Option, Some, None, Ok, Err, is_some}
 use Rattle.vr_amsparse.specs.declared.command.Command.{Command}
 use Rattle.vr_amsparse.specs.declared.command.Command.TheVariants.{Define, Alter, Delete, Repro}
 use Rattle.vr_amsparse.specs.declared.command.Command.TheVariants.{BuildIndex, Print, ListCatalog}
@@ -109,12 +109,12 @@ is_plain_cluster (Cluster kind spanned options) = not spanned
 is_plain_cluster (Alternate related unique options) = false
 is_plain_cluster (Path related) = false
 
--- the commands that are run: DEFINE of a cluster that isn't spanned, LISTCAT, and the modal commands
--- IF and SET
+-- the commands that are run: DEFINE of a cluster that isn't spanned, ALTER without NEWNAME, DELETE,
+-- LISTCAT, and the modal commands IF and SET
 abbrev pub is_run : Command → Bool
 is_run (Define define) = is_plain_cluster define.order.what
-is_run (Alter alter) = false
-is_run (Delete delete) = false
+is_run (Alter order) = not (is_some order.new_name)
+is_run (Delete delete) = true
 is_run (Repro repro) = false
 is_run (BuildIndex build) = false
 is_run (Print print) = false

@@ -93,16 +93,16 @@ fn is_plain_cluster(what: &NewEntry) -> bool
     }
 }
 
-/// Whether a command is run yet: DEFINE of a cluster that isn't spanned is, LISTCAT, and IF and SET.
+/// Whether a command is run yet: DEFINE of a cluster that isn't spanned is, ALTER without NEWNAME,
+/// DELETE, LISTCAT, and IF and SET.
 fn is_run(command: &Command) -> bool
     ensures { result ≡ is_run command.now }
 {
     match command {
         Command::Define(define) => is_plain_cluster(&define.order.what),
-        Command::ListCatalog(_) | Command::If(_) | Command::Set(_) => true,
-        Command::Alter(_)
-        | Command::Delete(_)
-        | Command::Repro(_)
+        Command::Alter(order) => order.new_name.is_none(),
+        Command::Delete(_) | Command::ListCatalog(_) | Command::If(_) | Command::Set(_) => true,
+        Command::Repro(_)
         | Command::BuildIndex(_)
         | Command::Print(_)
         | Command::Verify(_)

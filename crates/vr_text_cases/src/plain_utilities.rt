@@ -125,7 +125,8 @@ fn first_unrun(nodes: &[Node]) -> Option<u32> {
             Command::Define(define) => {
                 matches!(define.order.what, NewEntry::Cluster { spanned: false, .. })
             }
-            Command::ListCatalog(_) | Command::If(_) | Command::Set(_) => true,
+            Command::Alter(order) => order.new_name.is_none(),
+            Command::Delete(_) | Command::ListCatalog(_) | Command::If(_) | Command::Set(_) => true,
             _ => false,
         };
         if !runs {
