@@ -2,7 +2,7 @@
 -- item where one was settled as a crash came.
 use Rattle.std.proofs.Common.{◌≡◌, ◌≢◌, ◌⊎◌, ⊎_elim, ◌∙◌, ◌+◌, ◌<◌, ◌≤◌, ℕ, suc, Bool, true, false, cond}
 use Rattle.std.proofs.Common.{List, [], ◌∷◌, ◌++◌, Option, Some, None, All, ap, arith, bytes_eq}
-use Rattle.std.proofs.Common.{◌==◌, if◌then◌else◌, length, map, refl, subst, sym}
+use Rattle.std.proofs.Common.{if◌then◌else◌, length, map, refl, subst, sym}
 use Rattle.std.specs.Prelude.{Contains, nat_eq, option_and_then, option_map}
 use Rattle.std.specs.List.{AllByRecursion, AllPairs, IsDistinct}
 use Rattle.std.proofs.lemmas.Bool.{ne_eqb, true≢false}
@@ -11,22 +11,29 @@ use Rattle.std.proofs.lemmas.List.Elements.{All-cons, All-nil, Contains-append_l
 use Rattle.std.proofs.lemmas.List.Elements.{Contains-append_right}
 use Rattle.std.proofs.lemmas.Map.Made.{Contains-tail}
 use Rattle.std.proofs.lemmas.Slice.Eq.{bytes_eq-Decides}
-use Rattle.vr_types.specs.Content.{Content, Item, Standing, item_at, places_of, with_item}
+use Rattle.vr_types.specs.Content.{Ascends, Content, Item, Standing, item_at, places_of}
 use Rattle.vr_types.specs.Faults.{Faults}
 use Rattle.vr_types.specs.Geometry.{area_count}
 use Rattle.vr_types.specs.Seen.{Seen}
 use Rattle.vr_types.specs.declared.geometry.Geometry.{Geometry}
-use Rattle.vr_types.specs.declared.unit.Kind.TheVariants.{Entry as EntrySequenced}
+use Rattle.vr_types.specs.declared.unit.Kind.TheVariants.{Entry as EntrySequenced, Keyed}
 use Rattle.vr_types.specs.declared.unit.PartNo.{PartNo}
 use Rattle.vr_types.specs.declared.unit.Unit.{Unit as UnitOfRecovery}
-use Rattle.vr_altkey.proofs.CallerLemmas.{item_first}
+use Rattle.vr_altkey.proofs.CallerLemmas.{item_first, placed_elsewhere}
 use Rattle.vr_catalog.specs.Catalog.{cluster_definition, definition_of, entries_in, entry_with_part}
+use Rattle.vr_catalog.specs.Catalog.{parts_in}
 use Rattle.vr_catalog.specs.Definition.{catalog_definition}
 use Rattle.vr_catalog.specs.declared.definition.Definition.{Definition}
 use Rattle.vr_catalog.specs.declared.entry.CatEntry.{CatEntry}
+use Rattle.vr_catalog.specs.declared.entry.EntryKind.{EntryKind}
+use Rattle.vr_catalog.specs.declared.entry.EntryKind.TheVariants.{Alternate, Cluster, Path}
+use Rattle.vr_undo.proofs.CallerLemmas.{stands-entries}
 use Rattle.vr_history.specs.Addresses.{AreOwned, IsEntrySequenced, IsEntrySequencedThroughout}
 use Rattle.vr_history.specs.Addresses.{RunsOver, addresses_given}
+use Rattle.vr_history.specs.Change.{Change}
+use Rattle.vr_history.specs.Effects.{has_part, placed_in}
 use Rattle.vr_history.specs.Legal.{AreSteps, state_of}
+use Rattle.vr_history.specs.Opened.{catalog_of}
 use Rattle.vr_history.specs.State.{Owned, State}
 use Rattle.vr_history.specs.Step.{state_after}
 use Rattle.vr_history.specs.declared.entry.Entry.{Entry}
@@ -37,11 +44,14 @@ use Rattle.vr_recover.specs.Addresses.{HasItem, IsSettledAt}
 use Rattle.vr_recover.specs.Opening.{HasContents}
 use Rattle.vr_recover.proofs.CallerLemmas.{entry-addressed}
 use Rattle.vr_volume.specs.Crashes.{IsUnlogged}
-use Rattle.vr_job.specs.Committed.{KeepTheCatalog, KeepsCatalog}
+use Rattle.vr_job.specs.Catalogs.{catalog_after}
+use Rattle.vr_job.specs.Committed.{IsAddition, IsAlike, IsReplacement, KeepTheCatalog, KeepsCatalog}
+use Rattle.vr_job.specs.Committed.{StaysIn}
 use Rattle.vr_job.specs.VolumeRun.{IsRun, opening_of}
-use Rattle.vr_job.proofs.Additions.{IsWith, catalog-changed, entry-adds, part-with, spelled}
-use Rattle.vr_job.proofs.Additions.{with-record}
-use Rattle.vr_job.proofs.Ascending.{history-ascends}
+use Rattle.vr_job.proofs.Ascending.{AllAscend, history-ascends}
+use Rattle.vr_job.proofs.CatalogChanges.{catalog-changed, entry-changes}
+use Rattle.vr_job.proofs.CatalogEntries.{HasEntry, StandsAt, apart-at, find-part, has-entry}
+use Rattle.vr_job.proofs.CatalogEntries.{same-or-apart, stays-after, was-like}
 use Rattle.vr_job.proofs.Keeping.{keep-first}
 use Rattle.vr_job.proofs.Logging.{history-logged, settled-unlogged}
 use Rattle.vr_job.proofs.RunCommitted.{steps-first}
@@ -86,64 +96,145 @@ are-owned geometry owners count = record {
 
 -- ---- the catalog has the part throughout
 
--- these entries of a catalog have it as an entry-sequenced one
-abbrev HasAsEntries : ℕ → List CatEntry → Type 0
-HasAsEntries part entries = option_map (λ (definition : Definition). definition.kind)
-    (definition_of entries part) ≡ Some EntrySequenced
+-- an entry is that of an entry-sequenced cluster
+abbrev KindIs : Option Definition → Type 0
+KindIs found = option_map (λ (definition : Definition). definition.kind) found ≡ Some EntrySequenced
 
--- the catalog itself, or a cluster that an entry is
-abbrev definition_by : Bool → Option CatEntry → Option Definition
-definition_by itself found = if itself then Some catalog_definition else option_and_then
-    (λ (entry : CatEntry). cluster_definition entry.entry_kind entry) found
+abbrev IsOfEntries : CatEntry → Type 0
+IsOfEntries entry = KindIs (cluster_definition entry.entry_kind entry)
 
--- entries more, of parts that none has, leave what it is
-as-entries-with : (part : ℕ) (more old new : List CatEntry) → IsWith more old new
-    → AllByRecursion (λ (entry : CatEntry). entry_with_part old entry.part.0 ≡ None) more
-    → HasAsEntries part old → HasAsEntries part new
-as-entries-with part more old new is fresh has = by-test (part == 0) has
+-- so is one like it
+alike-entries : (entry new : CatEntry) → IsAlike entry new → IsOfEntries entry → IsOfEntries new
+alike-entries entry new alike is =
+    subst IsOfEntries (sym alike) (by_kind entry.entry_kind ∙ is)
   where
-    no-kind : None ≡ Some EntrySequenced → ⊥
-    no-kind same = cc
+    by_kind : (kind : EntryKind) → option_map (λ (definition : Definition). definition.kind)
+        (cluster_definition kind (record entry {
+          free_space = new.free_space;
+          share_options = new.share_options;
+        }))
+        ≡ option_map (λ (definition : Definition). definition.kind) (cluster_definition kind entry)
+    by_kind Cluster = refl
+    by_kind Alternate = refl
+    by_kind Path = refl
 
-    by-test : (itself : Bool)
-        → option_map (λ (definition : Definition). definition.kind)
-        (definition_by itself (entry_with_part old part)) ≡ Some EntrySequenced
-        → option_map (λ (definition : Definition). definition.kind)
-        (definition_by itself (entry_with_part new part)) ≡ Some EntrySequenced
-    by-test true so = so
-    by-test false so = ap (λ (found : Option CatEntry).
-        option_map (λ (definition : Definition). definition.kind) (definition_by false found))
-        (part-with part more old new is fresh (λ none. no-kind
-        (sym (ap (λ (found : Option CatEntry).
-        option_map (λ (definition : Definition). definition.kind) (definition_by false found)) none)
-        ∙ so))) ∙ so
+-- each record of an entry of the part is that of an entry-sequenced cluster
+abbrev AreOfEntries : ℕ → Content → Type 0
+AreOfEntries part content = (place : List ℕ) → (is : StandsAt part content place)
+    → IsOfEntries is.entry
 
--- an entry leaves it so
-as-entries-after : (geometry : Geometry) (part : ℕ) (state : State) (entry : Entry)
-    → KeepsCatalog geometry state entry → IsEntrySequenced part state
-    → IsEntrySequenced part (state_after geometry state entry)
-as-entries-after geometry part state entry keeps has =
-    subst (λ (catalog : Content). HasAsEntries part (entries_in catalog))
+-- a change of one record leaves it so, while the catalog has the part
+entries-changed : (part : ℕ) (state : State) (change : Change)
+    → IsAddition state change ⊎ IsReplacement state change → HasEntry part (catalog_of state)
+    → AreOfEntries part (state.contents 0)
+    → AreOfEntries part (placed_in change.place change.new (state.contents 0))
+entries-changed part state change may has are place is = ⊎_elim
+    (λ same. here is (subst (λ (p : List ℕ).
+    item_at (placed_in change.place change.new (state.contents 0)) p
+    ≡ Some (Standing is.bytes)) same is.stands))
+    (λ apart. are place (record {
+      bytes = is.bytes;
+      stands = sym (placed_elsewhere change.place change.new (state.contents 0) place apart)
+          ∙ is.stands;
+      entry = is.entry;
+      spelled = is.spelled;
+      part_is = is.part_is;
+    }))
+    (same-or-apart change.place place)
+  where
+    here : (is : StandsAt part (placed_in change.place change.new (state.contents 0)) place)
+        → item_at (placed_in change.place change.new (state.contents 0)) change.place
+        ≡ Some (Standing is.bytes) → IsOfEntries is.entry
+    here is stands =
+        let was = was-like part state change may has (record {
+          bytes = is.bytes;
+          stands = stands;
+          entry = is.entry;
+          spelled = is.spelled;
+          part_is = is.part_is;
+        }) in
+        alike-entries was.standing.entry is.entry was.alike (are change.place was.standing)
+
+-- and so does an entry
+entries-after : (geometry : Geometry) (part : ℕ) (state : State) (entry : Entry)
+    → KeepsCatalog geometry state entry → HasEntry part (catalog_of state)
+    → AreOfEntries part (state.contents 0)
+    → AreOfEntries part ((state_after geometry state entry).contents 0)
+entries-after geometry part state entry keeps has are =
+    subst (AreOfEntries part)
     (sym (catalog-changed geometry state entry.unit entry.stamp entry.what))
     (⊎_elim
-    (λ stays. subst (λ (catalog : Content). HasAsEntries part (entries_in catalog))
-    (sym (stays state.contents)) has)
-    (λ added. subst (λ (catalog : Content). HasAsEntries part (entries_in catalog))
-    (sym (added.is state.contents))
-    (as-entries-with part (spelled added.bytes) (entries_in (state.contents 0))
-    (entries_in (with_item (state.contents 0) added.place (Standing added.bytes)))
-    (with-record added.bytes added.place (state.contents 0) added.absent) added.fresh has))
-    (entry-adds geometry state entry.unit entry.what keeps))
+    (λ stays. subst (AreOfEntries part) (sym (stays state.contents)) are)
+    (λ one. subst (AreOfEntries part) (sym (one.is state.contents))
+    (entries-changed part state one.change one.may has are))
+    (entry-changes geometry state entry.unit entry.what keeps.may))
 
-has-throughout : (geometry : Geometry) (part : ℕ) (state : State) (entries : List Entry)
-    → IsEntrySequenced part state → KeepTheCatalog geometry state entries
+-- the catalog itself is key-sequenced
+not-own : (part : ℕ) (entries : List CatEntry) → KindIs (definition_of entries part)
+    → nat_eq part 0 ≡ false
+not-own part entries is = by_test (nat_eq part 0) is
+  where
+    keyed : Some Keyed ≡ Some EntrySequenced → ⊥
+    keyed same = cc
+
+    by_test : (b : Bool) → KindIs (if b then Some catalog_definition else option_and_then
+        (λ (entry : CatEntry). cluster_definition entry.entry_kind entry)
+        (entry_with_part entries part)) → b ≡ false
+    by_test true is = absurd (keyed is)
+    by_test false is = refl
+
+-- another part is what its entry says
+definition-by : (part : ℕ) (entries : List CatEntry) → nat_eq part 0 ≡ false
+    → definition_of entries part ≡ option_and_then
+    (λ (entry : CatEntry). cluster_definition entry.entry_kind entry) (entry_with_part entries part)
+definition-by part entries other = ap (λ (b : Bool). if b then Some catalog_definition
+    else option_and_then (λ (entry : CatEntry). cluster_definition entry.entry_kind entry)
+    (entry_with_part entries part)) other
+
+-- where no part is that of two entries, the catalog has it so if each of its entries is so
+first-entries : (part : ℕ) (content : Content)
+    → IsDistinct nat_eq (0 ∷ parts_in (entries_in content))
+    → KindIs (definition_of (entries_in content) part) → AreOfEntries part content
+unfolding IsDistinct
+first-entries part content apart is place stands =
+    subst KindIs (ap (option_and_then (λ (entry : CatEntry).
+    cluster_definition entry.entry_kind entry)) found)
+    (subst KindIs (definition-by part (entries_in content)
+    (not-own part (entries_in content) is)) is)
+  where
+    found : entry_with_part (entries_in content) part ≡ Some stands.entry
+    found = subst (λ (p : ℕ). entry_with_part (entries_in content) p ≡ Some stands.entry)
+        stands.part_is
+        (apart-at content place stands.bytes stands.entry apart.1 stands.stands stands.spelled)
+
+entries-first : (part : ℕ) (content : Content) → nat_eq part 0 ≡ false → Ascends content
+    → HasEntry part (entries_in content) → AreOfEntries part content
+    → KindIs (definition_of (entries_in content) part)
+entries-first part content other ascends has are =
+    let is = find-part part content ascends has in
+    subst KindIs (sym (definition-by part (entries_in content) other))
+    (subst KindIs (sym (ap (option_and_then (λ (entry : CatEntry).
+    cluster_definition entry.entry_kind entry)) is.found)) (are is.place is.standing))
+
+stays-entries : (geometry : Geometry) (part : ℕ) (state : State) (catalog : List CatEntry)
+    (entries : List Entry) → nat_eq part 0 ≡ false → catalog ≡ catalog_of state
+    → StaysIn part catalog entries → AllAscend state.contents
+    → AreOfEntries part (state.contents 0) → KeepTheCatalog geometry state entries
     → IsEntrySequencedThroughout geometry part state entries
-has-throughout geometry part state [] has keep = tt
-has-throughout geometry part state (entry ∷ entries) has keep = (
-  has,
-  has-throughout geometry part (state_after geometry state entry) entries
-      (as-entries-after geometry part state entry keep.0 has) keep.1,
+stays-entries geometry part state catalog [] other same stays ascend are keep = tt
+stays-entries geometry part state catalog (entry ∷ entries) other same stays ascend are keep = (
+  entries-first part (state.contents 0) other (ascend 0) has are,
+  stays-entries geometry part (state_after geometry state entry) (catalog_after entry catalog)
+      entries other (ap (catalog_after entry) same ∙ sym keep.0.makes)
+      (stays-after part catalog entry entries stays)
+      (history-ascends geometry state (entry ∷ []) ascend)
+      (entries-after geometry part state entry keep.0 has are) keep.1,
 )
+  where
+    has : HasEntry part (catalog_of state)
+    has = has-entry part (parts_in (catalog_of state)) other
+        (subst (λ (them : List CatEntry). has_part (parts_in them) part ≡ true) same
+        (stays [] (entry ∷ entries) refl))
 
 -- ---- places
 
@@ -217,10 +308,18 @@ module _ {D : Type 0} (tells : Bool) (seen : D → Seen) (faults : D → Faults)
   abbrev opening : State
   opening = opening_of run.contents run.owners
 
+  -- no part of its catalog is that of two entries
+  parts-apart : IsDistinct nat_eq (0 ∷ parts_in (entries_in (run.contents 0)))
+  parts-apart = subst (λ (entries : List CatEntry). IsDistinct nat_eq (0 ∷ parts_in entries))
+      (stands-entries (run.contents 0))
+      (subst (λ (content : Content). IsDistinct nat_eq (0 ∷ parts_in (entries_in content)))
+      (sym (run.volume.recovers.back 0)) run.volume.recovers.stands.catalog.parts)
+
   runs-over : (part : ℕ) → IsEntrySequenced part opening → (history : List Entry)
-      → AreSteps run.geometry opening history → KeepTheCatalog run.geometry opening history
+      → StaysIn part catalog history → AreSteps run.geometry opening history
+      → KeepTheCatalog run.geometry opening history
       → RunsOver run.geometry part run.contents (owned_in run.owners) history
-  runs-over part is history steps keep = record {
+  runs-over part is history stays steps keep = record {
     allowed = run.volume.allowed;
     opens = record {
       addressed = entry-addressed run.geometry number run.contents (seen old).cur
@@ -228,24 +327,26 @@ module _ {D : Type 0} (tells : Bool) (seen : D → Seen) (faults : D → Faults)
       areas = are-owned run.geometry run.owners run.owners_are.count;
     };
     steps = steps;
-    throughout = has-throughout run.geometry part opening history is keep;
+    throughout = stays-entries run.geometry part opening catalog history
+        (not-own part (entries_in (run.contents 0)) is) run.catalog_is stays run.ascends
+        (first-entries part (run.contents 0) parts-apart is) keep;
   }
 
-  pub never-given : (part : ℕ) → IsEntrySequenced part opening → (place : List ℕ)
-      → HasItem (run.contents part) place → Contains (addresses_given part entries) place → ⊥
-  never-given part is place has given =
+  pub never-given : (part : ℕ) → IsEntrySequenced part opening → StaysIn part catalog entries
+      → (place : List ℕ) → HasItem (run.contents part) place → Contains (addresses_given part entries) place → ⊥
+  never-given part is stays place has given =
       apart-both (places_of (run.contents part)) (addresses_given part entries) place
       (all_apart run.geometry part run.contents (owned_in run.owners) entries
-      (runs-over part is entries run.legal.steps run.keeps_catalog))
+      (runs-over part is entries stays run.legal.steps run.keeps_catalog))
       (item-place (run.contents part) place has) given
 
   module _ (before after : List Entry) (both : entries ≡ before ++ after) (part : ℕ)
-      (is : IsEntrySequenced part opening) where
+      (is : IsEntrySequenced part opening) (stays : StaysIn part catalog before) where
     -- what the opening had and what was given are the places of the state
     places-then : places_of ((state_of run.geometry opening before).contents part)
         ≡ places_of (run.contents part) ++ addresses_given part before
     places-then = (over_run run.geometry part run.contents (owned_in run.owners) before
-        (runs-over part is before
+        (runs-over part is before stays
         (steps-first run.geometry opening before after
         (subst (AreSteps run.geometry opening) both run.legal.steps))
         (keep-first run.geometry opening before after

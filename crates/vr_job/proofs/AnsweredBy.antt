@@ -1,70 +1,62 @@
 -- How a volume answers to a command of IDCAMS, by what it enters in its history and by the state
 -- that this gives.
-use Rattle.std.proofs.Common.{◌≡◌, ◌≤◌, ◌∙◌, ◌+◌, ⊎_elim, inl, inr, ℕ, Bool, true, false, IsTrue}
-use Rattle.std.proofs.Common.{List, [], ◌∷◌, ◌++◌, Option, Some, None, append_assoc, ap, refl}
-use Rattle.std.proofs.Common.{subst, sym}
-use Rattle.std.specs.List.{position_from}
+use Rattle.std.proofs.Common.{◌≡◌, ◌≤◌, ◌∙◌, ◌+◌, inr, ℕ, Bool, IsTrue, List, [], ◌∷◌, ◌++◌}
+use Rattle.std.proofs.Common.{Option, Some, None, ap, refl, subst, sym}
+use Rattle.std.specs.List.{list_any, position_from}
 use Rattle.std.specs.Option.{is_none}
-use Rattle.std.specs.Prelude.{All, Ok, is_some}
+use Rattle.std.specs.Prelude.{◌||◌, Ok, is_some}
+use Rattle.std.proofs.lemmas.Bool.{true≢false}
 use Rattle.std.proofs.lemmas.List.{append-nil}
-use Rattle.std.proofs.lemmas.List.Elements.{All-cons, All-nil}
 use Rattle.std.proofs.lemmas.Iterator.Adapters.{position_from-zero}
 use Rattle.vr_types.specs.Faults.{Faults}
-use Rattle.vr_types.specs.Locks.{Lock, first_conflict}
+use Rattle.vr_types.specs.Locks.{Lock, first_conflict, same_unit}
 use Rattle.vr_types.specs.LogSpace.{IsLogFull, log_size}
 use Rattle.vr_types.specs.Seen.{Seen}
 use Rattle.vr_types.specs.Space.{free_count, least_free}
 use Rattle.vr_types.specs.declared.fault.DeviceFault.TheVariants.{Read, Write}
 use Rattle.vr_types.specs.declared.geometry.Geometry.{Geometry}
 use Rattle.vr_types.specs.declared.lock_name.LockName.{LockName}
-use Rattle.vr_types.specs.declared.reply.Refusal.TheVariants.{WriteFault}
-use Rattle.vr_types.specs.declared.reply.Reply.TheVariants as replies
-use Rattle.vr_types.specs.declared.request.Request.TheVariants.{Commit}
-use Rattle.vr_types.specs.declared.unit.AreaNo.{AreaNo}
 use Rattle.vr_types.specs.declared.unit.Mode.TheVariants.{Exclusive}
 use Rattle.vr_types.specs.declared.unit.PartNo.{PartNo}
 use Rattle.vr_types.specs.declared.unit.Unit.{Unit as UnitOfRecovery}
-use Rattle.vr_catalog.specs.Record.{spelling}
 use Rattle.vr_catalog.specs.declared.entry.CatEntry.{CatEntry}
-use Rattle.vr_log.specs.Live.{used_by}
+use Rattle.vr_log.specs.Live.{is_in, live_in, used_by}
 use Rattle.vr_history.specs.Legal.{state_of}
-use Rattle.vr_history.specs.State.{State}
+use Rattle.vr_history.proofs.CallerLemmas.{unit_self}
+use Rattle.vr_history.specs.State.{Logged, State}
 use Rattle.vr_history.specs.declared.entry.Entry.{Entry}
-use Rattle.vr_history.specs.declared.entry.What.{What}
-use Rattle.vr_history.specs.declared.entry.What.TheVariants.{Asked, Claimed, Faulted, Split}
 use Rattle.vr_record_file.specs.Defining.{entry_name, need_to_define}
-use Rattle.vr_record_file.specs.Now.{FileNow, entry_next, faulted, state_now}
+use Rattle.vr_record_file.specs.Now.{FileNow, state_now}
 use Rattle.vr_trace.specs.Shown.{Shown}
 use Rattle.vr_ams_define.specs.Answers.{Exchange, IsShownAfter, IsShownCounted}
-use Rattle.vr_ams_define.specs.Answers.Exchange.{Counting, Defining}
+use Rattle.vr_ams_define.specs.Answers.Exchange.{Changing, Counting, Defining}
+use Rattle.vr_ams_define.specs.EntryChanges.{IsShownChanged}
+use Rattle.vr_ams_define.specs.declared.answer.Changed.{Changed}
 use Rattle.vr_ams_define.specs.declared.answer.Counted.{Counted}
-use Rattle.vr_ams_define.specs.declared.answer.Counted.TheVariants as counts
 use Rattle.vr_ams_define.specs.declared.answer.Defined.{Defined}
-use Rattle.vr_ams_define.specs.declared.answer.Defined.TheVariants as answers
-use Rattle.vr_ams_define.specs.Grown.{IsOfCommand}
-use Rattle.vr_ams_define.specs.NewCluster.{with_area}
 use Rattle.vr_event.specs.Counts.{AreCounts, CountedBy}
 use Rattle.vr_event.specs.DefineSteps.{HasCome, LacksRoomWhere}
-use Rattle.vr_event.specs.Defining.{EnteredBy, catalog_file, catalog_part, entry_add}
-use Rattle.vr_event.specs.Defining.{entry_place, entry_with_area, file_defined, file_in_doubt}
-use Rattle.vr_event.specs.Defining.{utility_unit}
-use Rattle.vr_event.specs.Staging.{stage_entered}
+use Rattle.vr_event.specs.Defining.{entry_place, utility_unit}
+use Rattle.vr_event.specs.EntryChange.{log_for_change}
+use Rattle.vr_event.specs.EntryChangeSteps.{HasChangeCome}
 use Rattle.vr_event.specs.Volume.{IsHeld, IsWhole, VolumeNow}
 use Rattle.vr_event.specs.declared.counts.Count.{Count}
 use Rattle.vr_event.specs.declared.counts.Count.TheVariants as counting
 use Rattle.vr_event.specs.declared.define.Define.{Define}
 use Rattle.vr_event.specs.declared.define.Define.TheVariants as events
-use Rattle.vr_job.specs.Answering.{IsAnswered, IsCountOf, IsCountedIn, IsDefinedIn, answer_of}
-use Rattle.vr_job.specs.Answering.{counted_of}
-use Rattle.vr_job.specs.Definitions.{IsCatalogStage, IsRecorded}
-use Rattle.vr_job.specs.Events.{IsStop}
+use Rattle.vr_event.specs.declared.entry_change.EntryChange.{EntryChange}
+use Rattle.vr_event.specs.declared.entry_change.EntryChange.TheVariants as changing
+use Rattle.vr_job.specs.Answering.{IsAnswered, IsChangedIn, IsCountOf, IsCountedIn, IsDefinedIn}
+use Rattle.vr_job.specs.Answering.{answer_of, changed_of, counted_of}
 use Rattle.vr_job.specs.Faultless.{has_stopped}
-use Rattle.vr_job.specs.Going.{ShowsStop, WentOn}
-use Rattle.vr_job.specs.Reported.{AnswersBy, CountCause, DefineCause, MadeBy, VolumeAt}
+use Rattle.vr_job.specs.Going.{ShowsStop, WentOn, follows-catalog}
+use Rattle.vr_job.specs.Reported.{AnswersBy, ChangeCause, CountCause, DefineCause, MadeBy, VolumeAt}
 use Rattle.vr_job.specs.Reported.{areas_free, numbers_of, state_at, utility_unit_in}
 use Rattle.vr_job.specs.Serving.{StaysServing, shown_of}
+use Rattle.vr_job.proofs.ChangeShown.{change-shown}
 use Rattle.vr_job.proofs.CountEvents.{count-shown}
 use Rattle.vr_job.proofs.DefineShown.{come-shown, ready-catalog}
+use Rattle.vr_job.proofs.Gains.{Gained, gained, gained-change, gained-count}
 
 -- a volume as commands have it, which was opened in this state
 abbrev pub at_of : {D : Type 0} → State → VolumeNow D → VolumeAt
@@ -75,222 +67,12 @@ at_of opening volume = record {
   entries = volume.file.entries;
 }
 
--- It shows whether it has stopped, and where the device reports its contents, it is held from there.
+-- It shows whether it has stopped, and where the device reports its contents, it is held from
+-- there.
 pub record IsHeldFrom {D : Type 0} (tells : Bool) (seen : D → Seen) (opening : State)
     (volume : VolumeNow D) : Type 0 where
   pub shows : ShowsStop volume.file
   pub held : IsTrue tells → IsHeld seen opening volume
-
--- ---- histories that grow by an entry at a time
-
-two-more : (entries : List Entry) (a b : Entry)
-    → (entries ++ a ∷ []) ++ b ∷ [] ≡ entries ++ a ∷ b ∷ []
-two-more entries a b = append_assoc entries (a ∷ []) (b ∷ [])
-
-three-more : (entries : List Entry) (a b c : Entry)
-    → ((entries ++ a ∷ []) ++ b ∷ []) ++ c ∷ [] ≡ entries ++ a ∷ b ∷ c ∷ []
-three-more entries a b c = two-more (entries ++ a ∷ []) b c
-    ∙ append_assoc entries (a ∷ []) (b ∷ c ∷ [])
-
-four-more : (entries : List Entry) (a b c d : Entry)
-    → (((entries ++ a ∷ []) ++ b ∷ []) ++ c ∷ []) ++ d ∷ [] ≡ entries ++ a ∷ b ∷ c ∷ d ∷ []
-four-more entries a b c d = three-more (entries ++ a ∷ []) b c d
-    ∙ append_assoc entries (a ∷ []) (b ∷ c ∷ d ∷ [])
-
--- what a history gained by a command on this line, and how it answers by it
-record Gained (line : ℕ) (exchange : Exchange) (old new : FileNow) : Type 0 where
-  made : List Entry
-  entries_are : new.entries ≡ old.entries ++ made
-  own : All (IsOfCommand line) made
-  by : MadeBy exchange made
-
--- ---- one event
-
-module _ (volume after : ℕ) (unit : UnitOfRecovery) (line : ℕ) (entry : CatEntry)
-    (old new : FileNow) (of_utilities : unit.deck ≡ 0) where
-  -- all that it enters is of its unit and its line
-  own-more : (before : List Entry) (last : ℕ) (what : What) (others : List Entry)
-      → All (IsOfCommand line) others
-      → All (IsOfCommand line) (entry_next before last unit line what ∷ others)
-  own-more before last what others own = All-cons (IsOfCommand line)
-      (entry_next before last unit line what) others (of_utilities, refl) own
-
-  own-none : All (IsOfCommand line) []
-  own-none = All-nil (IsOfCommand line)
-
-  module _ (area : AreaNo) where
-    abbrev cluster : CatEntry
-    cluster = entry_with_area entry area
-
-    -- the entry of the area, that of the record, and what is entered after both
-    abbrev claims : What
-    claims = Claimed entry.part area
-
-    abbrev claim : Entry
-    claim = entry_next old.entries after unit line claims
-
-    abbrev claimed : List Entry
-    claimed = old.entries ++ claim ∷ []
-
-    abbrev adds : What
-    adds = Asked (entry_add volume cluster) (replies.Done 0 (Some (entry_place cluster)) None)
-
-    abbrev add : Entry
-    add = entry_next claimed 0 unit line adds
-
-    abbrev added : List Entry
-    added = claimed ++ add ∷ []
-
-    own-both : (others : List Entry) → All (IsOfCommand line) others
-        → All (IsOfCommand line) (claim ∷ add ∷ others)
-    own-both others own = own-more old.entries after claims (add ∷ others)
-        (own-more claimed 0 adds others own)
-
-    recorded : IsRecorded unit entry.part area (spelling (with_area area entry)) (claim ∷ add ∷ [])
-    recorded = record {
-      claim = claim;
-      add = add;
-      made_are = refl;
-      of_utilities = of_utilities;
-      claim_unit = refl;
-      add_unit = refl;
-      claim_is = refl;
-      file = catalog_file volume;
-      catalog = refl;
-      place = entry_place cluster;
-      add_is = refl;
-    }
-
-    abbrev commits : What
-    commits = Asked Commit (replies.Done 0 None None)
-
-    abbrev commit : Entry
-    commit = entry_next added 0 unit line commits
-
-    done : new ≡ file_defined volume after unit line entry area old
-        → Gained line (Defining entry (answers.Done area)) old new
-    done leaves = record {
-      made = claim ∷ add ∷ commit ∷ [];
-      entries_are = ap (λ (file : FileNow). file.entries) leaves
-          ∙ three-more old.entries claim add commit;
-      own = own-both (commit ∷ []) (own-more added 0 commits [] own-none);
-      by = record {
-        unit = unit;
-        first = claim ∷ add ∷ [];
-        recorded = recorded;
-        commit = commit;
-        made_are = refl;
-        commit_unit = refl;
-        commit_is = refl;
-      };
-    }
-
-    abbrev fails : What
-    fails = Asked Commit (replies.Refused WriteFault)
-
-    abbrev failing : Entry
-    failing = entry_next added 0 unit line fails
-
-    abbrev fault : Entry
-    fault = entry_next (added ++ failing ∷ []) 0 unit line (Faulted Write)
-
-    in-doubt : new ≡ file_in_doubt volume after unit line entry area old
-        → Gained line (Defining entry (answers.Fault Write)) old new
-    in-doubt leaves = record {
-      made = claim ∷ add ∷ failing ∷ fault ∷ [];
-      entries_are = ap (λ (file : FileNow). file.entries) leaves
-          ∙ four-more old.entries claim add failing fault;
-      own = own-both (failing ∷ fault ∷ []) (own-more added 0 fails (fault ∷ [])
-          (own-more (added ++ failing ∷ []) 0 (Faulted Write) [] own-none));
-      by = inl (record {
-        before = claim ∷ add ∷ [];
-        begun = inr (unit, entry.part, area, spelling (with_area area entry), recorded);
-        request = Commit;
-        failing = failing;
-        fault = fault;
-        made_are = refl;
-        failing_is = refl;
-        fault_is = refl;
-        unit_is = refl;
-        line_is = refl;
-      });
-    }
-
-  -- ---- a fault of a write alone, nothing, and stages of the catalog
-
-  abbrev one : What → Entry
-  one what = entry_next old.entries after unit line what
-
-  own-one : (what : What) → All (IsOfCommand line) (one what ∷ [])
-  own-one what = own-more old.entries after what [] own-none
-
-  alone : (exchange : Exchange) → ((made : List Entry) → IsStop made → MadeBy exchange made)
-      → new ≡ faulted after unit line old → Gained line exchange old new
-  alone exchange stops leaves = record {
-    made = one (Faulted Write) ∷ [];
-    entries_are = ap (λ (file : FileNow). file.entries) leaves;
-    own = own-one (Faulted Write);
-    by = stops (one (Faulted Write) ∷ []) (inr (record {
-      fault = one (Faulted Write);
-      made_are = refl;
-      fault_is = refl;
-      of_utilities = of_utilities;
-    }));
-  }
-
-  nothing : (exchange : Exchange) → MadeBy exchange [] → new ≡ old → Gained line exchange old new
-  nothing exchange none same = record {
-    made = [];
-    entries_are = ap (λ (file : FileNow). file.entries) same ∙ sym (append-nil old.entries);
-    own = own-none;
-    by = none;
-  }
-
-  one-stage : (stage : Entry) → IsCatalogStage stage → All IsCatalogStage (stage ∷ [])
-  one-stage stage is = All-cons IsCatalogStage stage [] is (All-nil IsCatalogStage)
-
-  stage : (split : Bool) (taken : Option AreaNo)
-      → new ≡ stage_entered after unit line catalog_part split taken old
-      → Gained line (Defining entry answers.Again) old new
-  stage split (Some area) leaves = record {
-    made = one (Claimed catalog_part area) ∷ [];
-    entries_are = ap (λ (file : FileNow). file.entries) leaves;
-    own = own-one (Claimed catalog_part area);
-    by = one-stage (one (Claimed catalog_part area)) (inr (area, refl));
-  }
-  stage true None leaves = record {
-    made = one (Split catalog_part) ∷ [];
-    entries_are = ap (λ (file : FileNow). file.entries) leaves;
-    own = own-one (Split catalog_part);
-    by = one-stage (one (Split catalog_part)) (inl refl);
-  }
-  stage false None leaves =
-      nothing (Defining entry answers.Again) (All-nil IsCatalogStage) leaves
-
-  -- ---- a definition, whatever it came to
-
-  gained : (event : Define) → EnteredBy event volume after unit line entry old new
-      → Gained line (Defining entry (answer_of event)) old new
-  gained (events.Done area) is = done area is
-  gained events.Again is = stage is.0 is.1 is.2
-  gained events.NoArea is = nothing (Defining entry answers.NoArea) refl is
-  gained events.NoRoom is = nothing (Defining entry answers.NoRoom) refl is
-  gained events.Held is = nothing (Defining entry answers.Held) refl is
-  gained events.Full is = nothing (Defining entry answers.Full) refl is
-  gained (events.Fault Read) is = nothing (Defining entry (answers.Fault Read)) refl is
-  gained (events.Fault Write) is = ⊎_elim
-      (alone (Defining entry (answers.Fault Write)) (λ made stop. stop))
-      (λ doubt. in-doubt doubt.0 doubt.1) is
-
-  -- ---- and a count
-
-  gained-count : (event : Count) → CountedBy event after unit line old new
-      → Gained line (Counting entry (counted_of event)) old new
-  gained-count (counting.Counted found) is =
-      nothing (Counting entry (counts.Done (numbers_of found))) refl is
-  gained-count (counting.Fault Read) is = nothing (Counting entry (counts.Fault Read)) refl is
-  gained-count (counting.Fault Write) is =
-      alone (Counting entry (counts.Fault Write)) (λ made stop. stop) is
 
 -- ---- by the state
 
@@ -350,6 +132,22 @@ module _ {D : Type 0} (seen : D → Seen) (at : VolumeAt) (ready : VolumeNow D)
         (from.whole.geometry going ∙ sym from.geometry_is)
         (subst (λ (used : ℕ). IsLogFull ready.store.log.geometry used need) used-is full)
 
+    -- where nothing is logged, no unit of recovery is live in the log
+    none-live : (state_at at).logged ≡ [] → live_in ready.store.log.records ≡ []
+    none-live none = by-list (live_in ready.store.log.records) refl
+      where
+        none-logged : state.logged ≡ []
+        none-logged = ap (λ (s : State). s.logged) (sym from.state_is) ∙ none
+
+        by-list : (units : List UnitOfRecovery) → live_in ready.store.log.records ≡ units
+            → units ≡ []
+        by-list [] is = refl
+        by-list (first ∷ units) is = absurd (true≢false
+            (sym (ap (is_in first) is
+            ∙ ap (λ (b : Bool). b || is_in first units) (unit_self first))
+            ∙ (from.held.stored going).volume.logged.live first
+            ∙ ap (list_any (λ (l : Logged). same_unit first l.unit)) none-logged))
+
     -- why a definition is refused
     define-cause : (event : Define) (after line : ℕ) (entry : CatEntry) (new : VolumeNow D)
         → HasCome seen after (utility_unit ready.file) line entry (Ok event) ready new
@@ -371,6 +169,21 @@ module _ {D : Type 0} (seen : D → Seen) (at : VolumeAt) (ready : VolumeNow D)
     define-cause events.Full after line entry new come lacks =
         log-full (need_to_define (entry_place entry)) (come.full refl)
     define-cause (events.Fault _) after line entry new come lacks = tt
+
+    -- why a change is refused
+    change-cause : (event : EntryChange) (after line : ℕ) (entry : CatEntry) (to : Option CatEntry)
+        (new : VolumeNow D)
+        → HasChangeCome seen after (utility_unit ready.file) line entry to (Ok event) ready new
+        → ChangeCause (changed_of event) entry at
+    change-cause changing.Done after line entry to new come = tt
+    change-cause changing.Again after line entry to new come = tt
+    change-cause changing.Held after line entry to new come = λ none. come.kept_out refl
+        (conflict-is (entry_name (entry_place entry)) ∙ none)
+    change-cause changing.Live after line entry to new come = λ none. come.live refl
+        (none-live none)
+    change-cause changing.Full after line entry to new come =
+        log-full (log_for_change entry) (come.full refl)
+    change-cause (changing.Fault _) after line entry to new come = tt
 
   -- which numbers are counted
   count-cause : (event : Count) (entry : CatEntry)
@@ -398,7 +211,7 @@ module _ {D : Type 0} (tells : Bool) (seen : D → Seen) (faults : D → Faults)
       ∙ ap (λ (stopped : Bool). record { catalog = old.file.catalog; stopped = stopped })
       (stays.went.on.shows shows ∙ ap has_stopped stays.entries ∙ sym shows)
 
-  -- and after an event of a definition, or of a count, what its answer leaves
+  -- and after an event of a definition, a count or a change, what its answer leaves
   define-shown : (event : Define) (after line : ℕ) (entry : CatEntry) (new : VolumeNow D)
       → HasCome seen after (utility_unit ready.file) line entry (Ok event) ready new
       → IsShownAfter (answer_of event) entry (shown_of old) (shown_of new)
@@ -412,6 +225,14 @@ module _ {D : Type 0} (tells : Bool) (seen : D → Seen) (faults : D → Faults)
   counted-shown event after line new is =
       subst (λ (s : Shown). IsShownCounted (counted_of event) s (shown_of new)) ready-shown
       (count-shown after line event ready new is)
+
+  changed-shown : (event : EntryChange) (after line : ℕ) (entry : CatEntry) (to : Option CatEntry)
+      (new : VolumeNow D)
+      → HasChangeCome seen after (utility_unit ready.file) line entry to (Ok event) ready new
+      → IsShownChanged (changed_of event) entry to (shown_of old) (shown_of new)
+  changed-shown event after line entry to new come =
+      subst (λ (s : Shown). IsShownChanged (changed_of event) entry to s (shown_of new)) ready-shown
+      (change-shown seen after line entry to event ready new come)
 
 -- ---- whatever it is asked
 
@@ -485,6 +306,33 @@ module _ {D : Type 0} (tells : Bool) (seen : D → Seen) (faults : D → Faults)
       gains = gained-count is.ready.number is.after (utility_unit is.ready.file) line entry
           is.ready.file new.file refl is.event is.entered
 
+  change-answers : (entry : CatEntry) (to : Option CatEntry) (answer : Changed)
+      (new : VolumeNow D) → IsHeldFrom tells seen opening old
+      → IsChangedIn tells seen faults old line entry to answer new
+      → AnswersBy tells (at_of opening old) line (Changing entry to answer) (at_of opening new)
+  change-answers entry to answer new held is = record {
+    made = gains.made;
+    entries_are = gains.entries_are
+        ∙ ap (λ (entries : List Entry). entries ++ gains.made) is.stays.entries;
+    own = gains.own;
+    by = subst (λ (given : Changed). MadeBy (Changing entry to given) gains.made)
+        (sym is.answer_is) gains.by;
+    shown_is = subst (λ (given : Changed).
+        IsShownChanged given entry to (shown_of old) (shown_of new)) (sym is.answer_is)
+        (changed-shown tells seen faults old is.ready is.stays held.shows is.event is.after line
+        entry to new is.come);
+    shape_is = is.went.on.geometry ∙ is.stays.went.on.geometry;
+    opening_is = refl;
+    cause = λ told. subst (λ (given : Changed). ChangeCause given entry (at_of opening old))
+        (sym is.answer_is) (change-cause seen (at_of opening old) is.ready
+        (ready-from is.ready is.stays held told) is.going is.event is.after line entry to new
+        is.come);
+  }
+    where
+      gains : Gained line (Changing entry to (changed_of is.event)) is.ready.file new.file
+      gains = gained-change is.ready.number is.after (utility_unit is.ready.file) line entry
+          is.ready.file new.file refl to is.event is.come.entered
+
   -- it is held as before
   went-on : (ready new : VolumeNow D) → StaysServing tells seen faults old ready
       → WentOn tells seen faults ready new → IsHeldFrom tells seen opening old
@@ -505,4 +353,8 @@ module _ {D : Type 0} (tells : Bool) (seen : D → Seen) (faults : D → Faults)
   answers-by (Counting entry counted) new held is = (
     went-on is.ready new is.stays is.went held,
     count-answers entry counted new held is,
+  )
+  answers-by (Changing entry to answer) new held is = (
+    went-on is.ready new is.stays is.went held,
+    change-answers entry to answer new held is,
   )

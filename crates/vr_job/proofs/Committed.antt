@@ -1,15 +1,15 @@
 -- What is committed in the state of a history whose entries keep the catalog is what the history
 -- committed.
-use Rattle.std.proofs.Common.{◌≡◌, ◌≢◌, ◌∙◌, ◌+◌, ◌<◌, ◌≤◌, ◌==◌, ◌&&◌, ◌||◌, ⊎_elim, ℕ, Bool, true}
+use Rattle.std.proofs.Common.{◌≡◌, ◌∙◌, ◌+◌, ◌<◌, ◌≤◌, ◌==◌, ◌&&◌, ◌||◌, ⊎_elim, ℕ, Bool, true}
 use Rattle.std.proofs.Common.{false, cond, if◌then◌else◌, List, [], ◌∷◌, ◌++◌, Option, Some, None}
 use Rattle.std.proofs.Common.{ap, arith, eq-eqb, filter, map, not, refl, subst, sym}
-use Rattle.std.specs.Prelude.{All}
+use Rattle.std.specs.Prelude.{All, nat_eq}
 use Rattle.std.specs.List.{AllByRecursion, list_any}
 use Rattle.std.specs.Option.{option_map_or}
 use Rattle.std.proofs.lemmas.Bool.{true≢false}
 use Rattle.std.proofs.lemmas.Bool.Decides.{nat_tests}
 use Rattle.std.proofs.lemmas.List.Elements.{All-cons, All-nil}
-use Rattle.vr_types.specs.Content.{Content, Item, Standing, item_at, with_item}
+use Rattle.vr_types.specs.Content.{Content}
 use Rattle.vr_types.specs.Image.{Image}
 use Rattle.vr_types.specs.Locks.{same_unit}
 use Rattle.vr_types.specs.declared.geometry.Geometry.{Geometry}
@@ -18,7 +18,6 @@ use Rattle.vr_types.specs.declared.request.Request.{Request}
 use Rattle.vr_types.specs.declared.request.Request.TheVariants.{Get, Point, Add, Update, Erase}
 use Rattle.vr_types.specs.declared.request.Request.TheVariants.{EndReq, Commit, Backout}
 use Rattle.vr_types.specs.declared.unit.Unit.{Unit as UnitOfRecovery}
-use Rattle.vr_altkey.proofs.CallerLemmas.{placed_elsewhere, placed_here}
 use Rattle.vr_catalog.specs.Catalog.{entries_in, parts_in}
 use Rattle.vr_catalog.specs.declared.entry.CatEntry.{CatEntry}
 use Rattle.vr_log.specs.declared.record.EndKind.TheVariants.{Committed}
@@ -27,10 +26,11 @@ use Rattle.vr_log.specs.declared.record.LogRecord.TheVariants.{End}
 use Rattle.vr_history.specs.Change.{Change}
 use Rattle.vr_history.specs.Committed.{changed, commits, committed, counted_entry, is_counted}
 use Rattle.vr_history.specs.Committed.{left_at_end}
-use Rattle.vr_history.specs.Effects.{changes, has_part, is_other, keeps_other, last_kept}
+use Rattle.vr_history.specs.Effects.{changes, has_part, is_other, keeps_other, last_kept, placed_in}
 use Rattle.vr_history.specs.Effects.{takes_out, without_last}
 use Rattle.vr_history.specs.Laws.{HasPartThroughout, record_now}
 use Rattle.vr_history.specs.Legal.{AreSteps, state_of}
+use Rattle.vr_history.specs.Opened.{catalog_of}
 use Rattle.vr_history.specs.State.{BeforeImage, Owned, State, is_kept, opening_state}
 use Rattle.vr_history.specs.Step.{MayEnter, after_what, change_back, place_changes, state_after}
 use Rattle.vr_history.specs.declared.entry.Entry.{Entry}
@@ -42,82 +42,37 @@ use Rattle.vr_volume.specs.Crashes.{committed_with, is_among, kept_but}
 use Rattle.vr_volume.specs.Volume.{Recovers}
 use Rattle.vr_volume.specs.PutBack.{put_back, standing}
 use Rattle.vr_volume.proofs.Histories.{committed-everywhere, record-back}
-use Rattle.vr_job.specs.Committed.{HasCommitted, KeepTheCatalog, KeepsCatalog}
-use Rattle.vr_job.proofs.Additions.{StaysOrAdded, catalog-changed, entry-adds, has-with, spelled}
-use Rattle.vr_job.proofs.Additions.{with-record}
+use Rattle.vr_job.specs.Catalogs.{catalog_after}
+use Rattle.vr_job.specs.Committed.{HasCommitted, KeepTheCatalog, KeepsCatalog, StaysIn}
 use Rattle.vr_job.proofs.Ascending.{AllAscend, history-ascends}
+use Rattle.vr_job.proofs.CatalogChanges.{StaysOrChanged, catalog-changed, entry-changes}
+use Rattle.vr_job.proofs.CatalogEntries.{HasEntry, IsFound, StandsWhere, both-changed, find-part}
+use Rattle.vr_job.proofs.CatalogEntries.{has-entry, has-own, has-parts, has-standing, one-changed}
+use Rattle.vr_job.proofs.CatalogEntries.{stays-after}
 use Rattle.vr_job.proofs.Effects.{IsDone, IsEnded, IsMade, done-is, ends, raised, refused-stays}
 use Rattle.vr_job.proofs.Effects.IsDone.{DoneChange, DoneEnd, DoneNothing}
 use Rattle.vr_job.proofs.Effects.MadeOr.{NoChange, OneChange}
 
--- ---- the catalog has each part of it throughout
+-- ---- a part that stays in the catalog is there throughout
 
 left-keeps : (ends : Bool) (contents : ℕ → Content) → left_at_end ends contents 0 ≡ contents 0
 left-keeps true contents = refl
 left-keeps false contents = refl
 
--- The catalog of the state has the part, and so has that of what counts; and a place without an
--- item in the one has none in the other.
-record IsThere (part : ℕ) (now counted : Content) : Type 0 where
-  here : has_part (parts_in (entries_in now)) part ≡ true
-  counts : has_part (parts_in (entries_in counted)) part ≡ true
-  absent : (place : List ℕ) → item_at now place ≡ None → item_at counted place ≡ None
+stands-in : (part : ℕ) (now now' counted counted' : Content) → now' ≡ now → counted' ≡ counted
+    → StandsWhere part now counted → StandsWhere part now' counted'
+stands-in part now now' counted counted' same also is =
+    subst (λ (one : Content). StandsWhere part one counted') (sym same)
+    (subst (λ (other : Content). StandsWhere part now other) (sym also) is)
 
-there-same : (part : ℕ) (now now' counted counted' : Content) → now' ≡ now → counted' ≡ counted
-    → IsThere part now counted → IsThere part now' counted'
-there-same part now now' counted counted' same also is =
-    subst (λ (one : Content). IsThere part one counted') (sym same)
-    (subst (λ (other : Content). IsThere part now other) (sym also) is)
-
-some-item : (item : Item) → Some item ≡ None → ⊥
-some-item item same = cc
-
--- where a record is put in the catalog of the state, another place is without an item as before
-module _ (part : ℕ) (place bytes : List ℕ) (now counted : Content)
-    (none : item_at now place ≡ None) (is : IsThere part now counted) where
-  apart : (other : List ℕ) → item_at (with_item now place (Standing bytes)) other ≡ None
-      → other ≢ place
-  apart other without same = some-item (Standing bytes)
-      (sym (placed_here place (Some (Standing bytes)) now)
-      ∙ ap (item_at (with_item now place (Standing bytes))) (sym same) ∙ without)
-
-  before : (other : List ℕ) → item_at (with_item now place (Standing bytes)) other ≡ None
-      → item_at now other ≡ None
-  before other without =
-      sym (placed_elsewhere place (Some (Standing bytes)) now other (apart other without))
-      ∙ without
-
-  -- it is there whether the record counts
-  there-counted : IsThere part (with_item now place (Standing bytes))
-      (with_item counted place (Standing bytes))
-  there-counted = record {
-    here = has-with part (spelled bytes) (entries_in now)
-        (entries_in (with_item now place (Standing bytes))) (with-record bytes place now none)
-        is.here;
-    counts = has-with part (spelled bytes) (entries_in counted)
-        (entries_in (with_item counted place (Standing bytes)))
-        (with-record bytes place counted (is.absent place none)) is.counts;
-    absent = λ other without.
-        placed_elsewhere place (Some (Standing bytes)) counted other (apart other without)
-        ∙ is.absent other (before other without);
-  }
-
-  -- or not
-  there-alone : IsThere part (with_item now place (Standing bytes)) counted
-  there-alone = record {
-    here = there-counted.here;
-    counts = is.counts;
-    absent = λ other without. is.absent other (before other without);
-  }
-
--- over an entry
-there-after : (geometry : Geometry) (part : ℕ) (state : State) (entry : Entry)
+-- over an entry: where a record of it stands in the state, one stands in what counts
+stands-after : (geometry : Geometry) (part : ℕ) (state : State) (entry : Entry)
     (contents : ℕ → Content) (counts : Bool) → KeepsCatalog geometry state entry
-    → IsThere part (state.contents 0) (contents 0)
-    → IsThere part ((state_after geometry state entry).contents 0)
+    → HasEntry part (catalog_of state) → StandsWhere part (state.contents 0) (contents 0)
+    → StandsWhere part ((state_after geometry state entry).contents 0)
     (cond counts (counted_entry geometry state entry contents) contents 0)
-there-after geometry part state entry contents counts keeps is = by-counts counts
-    (entry-adds geometry state entry.unit entry.what keeps)
+stands-after geometry part state entry contents counts keeps has is = by-counts counts
+    (entry-changes geometry state entry.unit entry.what keeps.may)
   where
     changes : List Change
     changes = place_changes geometry state entry.unit entry.what
@@ -128,37 +83,85 @@ there-after geometry part state entry contents counts keeps is = by-counts count
     counted : counted_entry geometry state entry contents 0 ≡ changed contents changes 0
     counted = left-keeps (commits entry.what) (changed contents changes)
 
-    by-counts : (counts : Bool) → StaysOrAdded state changes
-        → IsThere part ((state_after geometry state entry).contents 0)
+    by-counts : (counts : Bool) → StaysOrChanged state changes
+        → StandsWhere part ((state_after geometry state entry).contents 0)
         (cond counts (counted_entry geometry state entry contents) contents 0)
-    by-counts true adds = ⊎_elim
-        (λ stays. there-same part (state.contents 0) _ (contents 0) _ (now ∙ stays state.contents)
+    by-counts true changes = ⊎_elim
+        (λ stays. stands-in part (state.contents 0) _ (contents 0) _ (now ∙ stays state.contents)
         (counted ∙ stays contents) is)
-        (λ added. there-same part (with_item (state.contents 0) added.place (Standing added.bytes)) _
-        (with_item (contents 0) added.place (Standing added.bytes)) _
-        (now ∙ added.is state.contents) (counted ∙ added.is contents)
-        (there-counted part added.place added.bytes (state.contents 0) (contents 0) added.absent
-        is)) adds
-    by-counts false adds = ⊎_elim
-        (λ stays. there-same part (state.contents 0) _ (contents 0) _ (now ∙ stays state.contents)
+        (λ one. stands-in part (placed_in one.change.place one.change.new (state.contents 0)) _
+        (placed_in one.change.place one.change.new (contents 0)) _ (now ∙ one.is state.contents)
+        (counted ∙ one.is contents)
+        (both-changed part one.change.place one.change.new (state.contents 0) (contents 0) is))
+        changes
+    by-counts false changes = ⊎_elim
+        (λ stays. stands-in part (state.contents 0) _ (contents 0) _ (now ∙ stays state.contents)
         refl is)
-        (λ added. there-same part (with_item (state.contents 0) added.place (Standing added.bytes)) _
-        (contents 0) _ (now ∙ added.is state.contents) refl
-        (there-alone part added.place added.bytes (state.contents 0) (contents 0) added.absent
-        is)) adds
+        (λ one. stands-in part (placed_in one.change.place one.change.new (state.contents 0)) _
+        (contents 0) _ (now ∙ one.is state.contents) refl
+        (one-changed part state one.change (contents 0) one.may has is)) changes
 
--- so each part of it is there throughout
-part-throughout : (geometry : Geometry) (part : ℕ) (counts : UnitOfRecovery → Bool)
-    (state : State) (contents : ℕ → Content) (entries : List Entry)
-    → IsThere part (state.contents 0) (contents 0) → KeepTheCatalog geometry state entries
+-- the catalog's own part is in each
+own-throughout : (geometry : Geometry) (part : ℕ) (counts : UnitOfRecovery → Bool) (state : State)
+    (contents : ℕ → Content) (entries : List Entry) → nat_eq part 0 ≡ true
     → HasPartThroughout geometry part counts state contents entries
-part-throughout geometry part counts state contents [] is keep = tt
-part-throughout geometry part counts state contents (entry ∷ entries) is keep = (
-  (is.here, is.counts),
-  part-throughout geometry part counts (state_after geometry state entry)
-      (cond (counts entry.unit) (counted_entry geometry state entry contents) contents) entries
-      (there-after geometry part state entry contents (counts entry.unit) keep.0 is) keep.1,
+own-throughout geometry part counts state contents [] own = tt
+own-throughout geometry part counts state contents (entry ∷ entries) own = (
+  (
+    has-own part (parts_in (catalog_of state)) own,
+    has-own part (parts_in (entries_in (contents 0))) own,
+  ),
+  own-throughout geometry part counts (state_after geometry state entry)
+      (cond (counts entry.unit) (counted_entry geometry state entry contents) contents) entries own,
 )
+
+-- and so is one that stays in it
+stays-throughout : (geometry : Geometry) (part : ℕ) (counts : UnitOfRecovery → Bool) (state : State)
+    (contents : ℕ → Content) (catalog : List CatEntry) (entries : List Entry)
+    → nat_eq part 0 ≡ false → catalog ≡ catalog_of state → StaysIn part catalog entries
+    → AllAscend state.contents → StandsWhere part (state.contents 0) (contents 0)
+    → KeepTheCatalog geometry state entries
+    → HasPartThroughout geometry part counts state contents entries
+stays-throughout geometry part counts state contents catalog [] other same stays ascend is keep = tt
+stays-throughout geometry part counts state contents catalog (entry ∷ entries) other same stays
+    ascend is keep = (
+      (
+        here,
+        has-parts part (parts_in (entries_in (contents 0)))
+            (has-standing part (contents 0) found.place (is found.place found.standing)),
+      ),
+      stays-throughout geometry part counts (state_after geometry state entry)
+          (cond (counts entry.unit) (counted_entry geometry state entry contents) contents)
+          (catalog_after entry catalog) entries other
+          (ap (catalog_after entry) same ∙ sym keep.0.makes)
+          (stays-after part catalog entry entries stays)
+          (history-ascends geometry state (entry ∷ []) ascend)
+          (stands-after geometry part state entry contents (counts entry.unit) keep.0 has is)
+          keep.1,
+    )
+  where
+    here : has_part (parts_in (catalog_of state)) part ≡ true
+    here = subst (λ (them : List CatEntry). has_part (parts_in them) part ≡ true) same
+        (stays [] (entry ∷ entries) refl)
+
+    has : HasEntry part (catalog_of state)
+    has = has-entry part (parts_in (catalog_of state)) other here
+
+    found : IsFound part (state.contents 0)
+    found = find-part part (state.contents 0) (ascend 0) has
+
+part-throughout : (geometry : Geometry) (part : ℕ) (counts : UnitOfRecovery → Bool) (state : State)
+    (catalog : List CatEntry) (entries : List Entry) → catalog ≡ catalog_of state
+    → StaysIn part catalog entries → AllAscend state.contents → KeepTheCatalog geometry state entries
+    → HasPartThroughout geometry part counts state state.contents entries
+part-throughout geometry part counts state catalog entries same stays ascend keep =
+    by_part (nat_eq part 0) refl
+  where
+    by_part : (b : Bool) → nat_eq part 0 ≡ b
+        → HasPartThroughout geometry part counts state state.contents entries
+    by_part true own = own-throughout geometry part counts state state.contents entries own
+    by_part false other = stays-throughout geometry part counts state state.contents catalog entries
+        other same stays ascend (λ place standing. standing) keep
 
 -- ---- a unit that keeps a before-image has not ended
 
@@ -478,19 +481,19 @@ module _ (geometry : Geometry) (contents : ℕ → Content) (owned : List Owned)
 
   -- the records that are committed in the state are those that the history committed
   pub records-committed : KeepTheCatalog geometry opening entries
-      → (counted : List UnitOfRecovery) (part : ℕ)
-      → has_part (parts_in (entries_in (contents 0))) part ≡ true → (place : List ℕ)
+      → (counted : List UnitOfRecovery) (part : ℕ) (catalog : List CatEntry)
+      → catalog ≡ entries_in (contents 0) → StaysIn part catalog entries → (place : List ℕ)
       → record_now (committed_with counted end) part place
       ≡ record_now (committed geometry opening entries counted) part place
-  records-committed keep counted part has place =
+  records-committed keep counted part catalog same stays place =
       ap (λ (them : List BeforeImage).
       record_now (λ (p : ℕ). put_back p them (standing (end.contents p))) part place)
       (sym (kept-same counted end.befores))
       ∙ record-back part (kept_by (commits-of counted) end.befores) (end.contents part) place
       (history-ascends geometry opening entries ascend part)
       ∙ committed-everywhere geometry contents owned entries counted (commits-of counted) part steps
-      (part-throughout geometry part (is_counted counted entries) opening contents entries
-      (record { here = has; counts = has; absent = λ at none. none }) keep)
+      (part-throughout geometry part (is_counted counted entries) opening catalog entries same
+      stays ascend keep)
       (count-alike counted end.befores (all-now geometry opening entries steps tt)
       (from-one end.befores (all-now geometry opening entries steps tt))) place
 
@@ -501,6 +504,6 @@ module _ (geometry : Geometry) (contents : ℕ → Content) (owned : List Owned)
   has-committed number catalog is keep counted image recovers = record {
     recovered = committed_with counted end;
     recovers = recovers;
-    records = λ part has place. records-committed keep counted part
-        (subst (λ (c : List CatEntry). has_part (parts_in c) part ≡ true) is has) place;
+    records = λ part stays place.
+        records-committed keep counted part catalog is stays place;
   }

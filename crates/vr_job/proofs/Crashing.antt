@@ -15,13 +15,23 @@ use Rattle.vr_volume.specs.Crashes.{RecoversTo}
 use Rattle.vr_record_file.specs.Now.{state_now}
 use Rattle.vr_event.specs.Volume.{IsHeld, IsWhole, VolumeNow}
 use Rattle.vr_store.proofs.CallerLemmas.{stored-left}
-use Rattle.vr_job.specs.Crash.{AreInCommit, IsLeftBy}
+use Rattle.vr_job.specs.Crash.{AreInCommit, IsLeftAt, IsLeftBy}
+use Rattle.vr_job.specs.Crash.IsLeftAt.{Counted, Ended}
 use Rattle.vr_job.specs.Events.{IsLeftWhile, LeavesAtRest}
 
 commit-more : (counted : List UnitOfRecovery) (entries more : List Entry)
     → AreInCommit counted entries → AreInCommit counted (entries ++ more)
 commit-more counted entries more is = ⊎_elim (λ none. inl none)
     (λ one. inr (one.0, one.1 ++ more, ap (λ (es : List Entry). es ++ more) one.2, one.3, one.4)) is
+
+more-after : (geometry : Geometry) (number : ℕ) (opening : State) (before after more : List Entry)
+    (image : Image) → IsLeftAt geometry number opening before after image
+    → IsLeftAt geometry number opening before (after ++ more) image
+more-after geometry number opening before after more image (Counted counted commits recovers) =
+    Counted counted (commit-more counted after more commits) recovers
+more-after geometry number opening before after more image
+    (Ended entry rest is deck commit recovers) =
+    Ended entry (rest ++ more) (ap (λ (es : List Entry). es ++ more) is) deck commit recovers
 
 pub left-more : (geometry : Geometry) (number : ℕ) (opening : State) (entries more : List Entry)
     (image : Image) → IsLeftBy geometry number opening entries image
@@ -30,9 +40,7 @@ left-more geometry number opening entries more image is = record {
   before = is.before;
   after = is.after ++ more;
   is = ap (λ (es : List Entry). es ++ more) is.is ∙ append_assoc is.before is.after more;
-  counted = is.counted;
-  commits = commit-more is.counted is.after more is.commits;
-  recovers = is.recovers;
+  left = more-after geometry number opening is.before is.after more image is.left;
 }
 
 -- an image that recovers to what is committed by the history so far
@@ -44,12 +52,10 @@ left-now geometry number opening entries made image is = record {
   before = entries;
   after = made;
   is = refl;
-  counted = [];
-  commits = inl refl;
-  recovers = is;
+  left = Counted [] (inl refl) is;
 }
 
--- while an event goes on that begins no definition: by the history before it
+-- while an event goes on that begins no definition and no change: by the history before it
 pub left-while : (geometry : Geometry) (number : ℕ) (opening : State) (entries made : List Entry)
     (counted : List UnitOfRecovery) (image : Image) → AreInCommit counted made
     → RecoversTo geometry number (state_of geometry opening entries) counted image
@@ -59,11 +65,9 @@ left-while geometry number opening entries made counted image commits recovers =
   rest = made;
   made_are = refl;
   begun = inl refl;
-  counted = counted;
-  commits = commits;
-  recovers = subst (λ (es : List Entry).
+  left = Counted counted commits (subst (λ (es : List Entry).
       RecoversTo geometry number (state_of geometry opening es) counted image)
-      (sym (append-nil entries)) recovers;
+      (sym (append-nil entries)) recovers);
 }
 
 -- calls, one after another

@@ -1,8 +1,8 @@
 -- What a definition of a cluster does to the catalog of its volume: it adds a record where none
 -- stood, of a part that no entry has.
-use Rattle.std.proofs.Common.{◌≡◌, ◌∙◌, ◌<◌, ◌==◌, ◌||◌, inr, ℕ, Bool, true, false, IsTrue}
-use Rattle.std.proofs.Common.{List, [], ◌++◌, Some, None, ap, if◌then◌else◌, nat_eq, refl}
-use Rattle.std.proofs.Common.{subst, sym, true≢false}
+use Rattle.std.proofs.Common.{◌≡◌, ◌∙◌, ◌<◌, ◌==◌, ◌||◌, inl, inr, ℕ, Bool, true, false, IsTrue}
+use Rattle.std.proofs.Common.{List, [], ◌++◌, Option, Some, None, ap, if◌then◌else◌, nat_eq}
+use Rattle.std.proofs.Common.{eq-eqb, refl, subst, sym, true≢false}
 use Rattle.std.proofs.lemmas.Option.{same_Some}
 use Rattle.std.specs.List.{AllByRecursion, list_any}
 use Rattle.vr_types.specs.Content.{Content, Standing, item_at}
@@ -28,9 +28,12 @@ use Rattle.vr_event.specs.Defining.{IsNewCluster, entry_place, entry_with_area}
 use Rattle.vr_event.specs.Volume.{IsHeld, IsWhole, VolumeNow}
 use Rattle.vr_event.proofs.CallerLemmas.{IsNamed, area-entry, area-small, items-named, none-at}
 use Rattle.vr_event.proofs.CallerLemmas.{record-spells, unlaid}
+use Rattle.vr_event.proofs.ClusterCatalogs.{entries-with}
+use Rattle.vr_job.specs.Catalogs.{with_spelled}
 use Rattle.vr_job.specs.Committed.{KeepTheCatalog}
-use Rattle.vr_job.proofs.DefineEvents.{begun-of}
+use Rattle.vr_job.proofs.DefineEvents.{begun-of, claim-of}
 use Rattle.vr_job.proofs.DefineImages.{LackNone}
+use Rattle.vr_job.proofs.UtilityRuns.{still-one}
 
 module _ {B : Type 0} (seen : B → Seen) (opening : State) (volume : VolumeNow B)
     (held : IsHeld seen opening volume) (whole : IsWhole seen volume)
@@ -95,21 +98,29 @@ module _ {B : Type 0} (seen : B → Seen) (opening : State) (volume : VolumeNow 
     pub begun-keep : unit.deck ≡ 0 → (rest : List Entry) → KeepTheCatalog geometry recorded rest
         → KeepTheCatalog geometry state (begun ++ rest)
     begun-keep deck rest keep = (
-      tt,
+      still-one geometry state (claim-of volume.number after line unit entry area volume.file)
+          (record { changes = λ geometry state. refl; tells = λ catalog. refl }),
       (
-        (
-          inr (
-            deck,
-            record {
-              part = refl;
-              bytes = spelling new;
-              added = refl;
-              absent = absent;
-              fresh = fresh;
-            },
-          ),
-          tt,
-        ),
+        record {
+          may = (
+            inr (
+              deck,
+              inl (record {
+                part = refl;
+                bytes = spelling new;
+                added = refl;
+                absent = absent;
+                fresh = fresh;
+              }),
+            ),
+            tt,
+          );
+          makes = entries-with new entry-is content named absent
+              ∙ sym (ap (λ (b : Bool). if b then with_spelled (entry_of (spelling new))
+              (entries_in content) else entries_in content) (eq-eqb unit.deck 0 deck)
+              ∙ ap (λ (o : Option CatEntry). with_spelled o (entries_in content))
+              (record-spells new entry-is));
+        },
         keep,
       ),
     )

@@ -1,15 +1,13 @@
 -- What an event of a definition of a cluster adds to the history of a volume, and what it leaves of
 -- the rest that the record file has in memory.
-use Rattle.std.proofs.Common.{◌≡◌, ◌∙◌, ◌+◌, ◌<◌, ⊎_elim, ℕ, Bool, true, false, List, [], ◌∷◌, ◌++◌}
-use Rattle.std.proofs.Common.{Option, Some, None, ap, append_assoc, arith, inl, inr, refl}
+use Rattle.std.proofs.Common.{◌≡◌, ◌+◌, ◌<◌, ⊎_elim, ℕ, Bool, true, false, [], ◌∷◌, ◌++◌}
+use Rattle.std.proofs.Common.{Option, Some, None, ap, arith, inl, inr, refl}
 use Rattle.std.proofs.Common.{subst, sym}
-use Rattle.std.specs.Prelude.{All, Result, Ok, Err}
-use Rattle.std.proofs.lemmas.List.Elements.{All-cons, All-nil}
+use Rattle.std.specs.Prelude.{Result, Ok, Err}
 use Rattle.vr_types.specs.Geometry.{area_count}
 use Rattle.vr_types.specs.declared.fault.DeviceFault.TheVariants.{Read, Write}
 use Rattle.vr_types.specs.declared.memory.OutOfMemory.{OutOfMemory}
-use Rattle.vr_types.specs.declared.reply.Refusal.TheVariants.{WriteFault}
-use Rattle.vr_types.specs.declared.reply.Reply.TheVariants.{Done as DoneReply, Refused}
+use Rattle.vr_types.specs.declared.reply.Reply.TheVariants.{Done as DoneReply}
 use Rattle.vr_types.specs.declared.request.Request.{Request}
 use Rattle.vr_types.specs.declared.request.Request.TheVariants.{Commit}
 use Rattle.vr_types.specs.declared.unit.AreaNo.{AreaNo}
@@ -18,24 +16,21 @@ use Rattle.vr_catalog.specs.Record.{entry_of, spelling}
 use Rattle.vr_catalog.specs.declared.entry.CatEntry.{CatEntry}
 use Rattle.vr_history.proofs.CallerLemmas.{last_stamp-append}
 use Rattle.vr_history.specs.declared.entry.Entry.{Entry}
-use Rattle.vr_history.specs.declared.entry.What.TheVariants.{Asked, Claimed, Faulted, Split}
-use Rattle.vr_ledger.specs.Entries.{IsOf}
+use Rattle.vr_history.specs.declared.entry.What.TheVariants.{Asked, Claimed}
 use Rattle.vr_record_file.specs.Defining.{added}
 use Rattle.vr_record_file.specs.Now.{FileNow, entry_next}
 use Rattle.vr_record_file.specs.Now.{with_event}
-use Rattle.vr_ams_define.specs.Grown.{IsOfCommand}
-use Rattle.vr_event.proofs.CallerLemmas.{raised-decks, raised-others}
-use Rattle.vr_event.specs.Defining.{IsDefineEntered, catalog_part, entry_add, entry_place}
+use Rattle.vr_event.specs.Defining.{IsDefineEntered, entry_add, entry_place}
 use Rattle.vr_event.specs.Defining.{entry_with_area, file_defined, file_in_doubt, utility_unit}
 use Rattle.vr_event.specs.Defining.{with_cluster}
-use Rattle.vr_event.specs.Staging.{stage_entered}
 use Rattle.vr_event.specs.declared.define.Define.{Define}
 use Rattle.vr_event.specs.declared.define.Define.TheVariants.{Again, Done, Fault, Full, Held}
 use Rattle.vr_event.specs.declared.define.Define.TheVariants.{NoArea, NoRoom}
 use Rattle.vr_job.specs.Catalogs.{with_spelled}
 use Rattle.vr_job.specs.Serving.{ShowUndoing}
 use Rattle.vr_job.proofs.Undoing.{asked-shows, step-shows}
-use Rattle.vr_job.proofs.UtilityMade.{HasMadeBy, false-true, made-same, still-by}
+use Rattle.vr_job.proofs.UtilityMade.{HasMadeBy, IsBegunBy, made-ended, made-in-doubt, made-staged}
+use Rattle.vr_job.proofs.UtilityMade.{one-of, still-by}
 
 -- a fault of a write stops the volume
 abbrev pub has_failed : Result Define OutOfMemory → Bool
@@ -52,68 +47,6 @@ has_failed (Err why) = false
 module _ (after line : ℕ) (old : FileNow) where
   abbrev unit : UnitOfRecovery
   unit = utility_unit old
-
-  -- an entry of its unit is the command's, and deck 0's
-  abbrev Own : Entry → Type 0
-  Own entry = IsOfCommand line entry
-
-  one-of : (entry : Entry) → entry.unit ≡ unit → All (IsOf 0) (entry ∷ [])
-  one-of entry is = All-cons (IsOf 0) entry [] (ap (λ (u : UnitOfRecovery). u.deck) is)
-      (All-nil (IsOf 0))
-
-  -- ---- a stage of the catalog
-
-  made-claimed : (area : AreaNo)
-      → HasMadeBy false after line old
-      (with_event after unit line (Claimed catalog_part area) old)
-  made-claimed area = record {
-    made = entry ∷ [];
-    entries = refl;
-    next = (refl, tt);
-    own = All-cons Own entry [] (refl, refl) (All-nil Own);
-    geometry = refl;
-    catalog = refl;
-    decks = λ deck. refl;
-    unread = refl;
-    has_stop = refl;
-    stays = λ is. refl;
-    stops = λ is. absurd (false-true is);
-    shows = λ shows. step-shows old
-        (with_event after unit line (Claimed catalog_part area) old) entry refl refl shows unit line
-        Commit (refl, refl, inr (inl (catalog_part, area, refl))) refl
-        (one-of entry refl);
-  }
-    where
-      entry : Entry
-      entry = entry_next old.entries after unit line (Claimed catalog_part area)
-
-  made-split : HasMadeBy false after line old
-      (with_event after unit line (Split catalog_part) old)
-  made-split = record {
-    made = entry ∷ [];
-    entries = refl;
-    next = (refl, tt);
-    own = All-cons Own entry [] (refl, refl) (All-nil Own);
-    geometry = refl;
-    catalog = refl;
-    decks = λ deck. refl;
-    unread = refl;
-    has_stop = refl;
-    stays = λ is. refl;
-    stops = λ is. absurd (false-true is);
-    shows = λ shows. step-shows old (with_event after unit line (Split catalog_part) old) entry
-        refl refl shows unit line Commit (refl, refl, inl (catalog_part, refl)) refl
-        (one-of entry refl);
-  }
-    where
-      entry : Entry
-      entry = entry_next old.entries after unit line (Split catalog_part)
-
-  made-staged : (split : Bool) (taken : Option AreaNo) → HasMadeBy false after line old
-      (stage_entered after unit line catalog_part split taken old)
-  made-staged split (Some area) = made-claimed area
-  made-staged true None = made-split
-  made-staged false None = made-same after line old
 
   -- ---- a definition
 
@@ -153,125 +86,40 @@ module _ (after line : ℕ) (old : FileNow) where
           line_is = refl;
           what_is = refl;
           follows = inl refl;
-        }) (one-of record-of refl) (λ other differs. refl) refl
+        }) (one-of after line old record-of refl) (λ other differs. refl) refl
         (step-shows old (with_event after unit line (Claimed entry.part area) old) claim refl refl
         shows unit line Commit (refl, refl, inr (inl (entry.part, area, refl))) refl
-        (one-of claim refl))
+        (one-of after line old claim refl))
 
     catalog-made : with_cluster new old.catalog
         ≡ with_spelled (entry_of (spelling new)) old.catalog
     catalog-made = ap (λ (o : Option CatEntry). with_spelled o old.catalog) (sym spells)
 
+    begun-by : IsBegunBy after line old recorded claim record-of
+    begun-by = record {
+      entries = refl;
+      first_next = refl;
+      second_next = record-next;
+      first_own = (refl, refl);
+      second_own = (refl, refl);
+      geometry = refl;
+      catalog = catalog-made;
+      numbers = refl;
+      stopped = refl;
+      first_read = refl;
+      second_read = refl;
+      first_goes = refl;
+      second_goes = refl;
+      shows = recorded-shows;
+    }
+
     made-defined : HasMadeBy false after line old
         (file_defined volume after unit line entry area old)
-    made-defined = record {
-      made = claim ∷ record-of ∷ commit ∷ [];
-      entries = ap (λ (es : List Entry). es ++ commit ∷ [])
-          (append_assoc old.entries (claim ∷ []) (record-of ∷ []))
-          ∙ append_assoc old.entries (claim ∷ record-of ∷ []) (commit ∷ []);
-      next = (
-        refl,
-        (
-          record-next,
-          (omega (arith, last_stamp-append 0 (old.entries ++ claim ∷ []) record-of), tt),
-        ),
-      );
-      own = All-cons Own claim (record-of ∷ commit ∷ []) (refl, refl)
-          (All-cons Own record-of (commit ∷ []) (refl, refl)
-          (All-cons Own commit [] (refl, refl) (All-nil Own)));
-      geometry = refl;
-      catalog = catalog-made;
-      decks = λ deck. raised-decks 0 deck old.numbers;
-      unread = refl;
-      has_stop = refl;
-      stays = λ is. refl;
-      stops = λ is. absurd (false-true is);
-      shows = λ shows. asked-shows unit line Commit recorded
-          (file_defined volume after unit line entry area old) (commit ∷ []) refl
-          (record {
-            reply = DoneReply 0 None None;
-            entry = commit;
-            rest = [];
-            is = refl;
-            unit_is = refl;
-            line_is = refl;
-            what_is = refl;
-            follows = inl refl;
-          }) (one-of commit refl) (λ other differs. raised-others 0 other old.numbers differs) refl
-          (recorded-shows shows);
-    }
-      where
-        commit : Entry
-        commit = entry_next ((old.entries ++ claim ∷ []) ++ record-of ∷ []) 0 unit line
-            (Asked Commit (DoneReply 0 None None))
+    made-defined = made-ended after line old recorded claim record-of begun-by
 
-    made-in-doubt : HasMadeBy true after line old
+    made-doubted : HasMadeBy true after line old
         (file_in_doubt volume after unit line entry area old)
-    made-in-doubt = record {
-      made = claim ∷ record-of ∷ commit ∷ fault ∷ [];
-      entries = ap (λ (es : List Entry). (es ++ commit ∷ []) ++ fault ∷ [])
-          (append_assoc old.entries (claim ∷ []) (record-of ∷ []))
-          ∙ ap (λ (es : List Entry). es ++ fault ∷ [])
-          (append_assoc old.entries (claim ∷ record-of ∷ []) (commit ∷ []))
-          ∙ append_assoc old.entries (claim ∷ record-of ∷ commit ∷ []) (fault ∷ []);
-      next = (
-        refl,
-        (
-          record-next,
-          (
-            omega (arith, last_stamp-append 0 (old.entries ++ claim ∷ []) record-of),
-            (
-              omega (
-                arith,
-                last_stamp-append 0 ((old.entries ++ claim ∷ []) ++ record-of ∷ []) commit,
-              ),
-              tt,
-            ),
-          ),
-        ),
-      );
-      own = All-cons Own claim (record-of ∷ commit ∷ fault ∷ []) (refl, refl)
-          (All-cons Own record-of (commit ∷ fault ∷ []) (refl, refl)
-          (All-cons Own commit (fault ∷ []) (refl, refl)
-          (All-cons Own fault [] (refl, refl) (All-nil Own))));
-      geometry = refl;
-      catalog = catalog-made;
-      decks = λ deck. refl;
-      unread = refl;
-      has_stop = refl;
-      stays = λ is. absurd (false-true (sym is));
-      stops = λ is. refl;
-      shows = λ shows. asked-shows unit line Commit recorded
-          (file_in_doubt volume after unit line entry area old) (commit ∷ fault ∷ [])
-          (append_assoc recorded.entries (commit ∷ []) (fault ∷ []))
-          (record {
-            reply = Refused WriteFault;
-            entry = commit;
-            rest = fault ∷ [];
-            is = refl;
-            unit_is = refl;
-            line_is = refl;
-            what_is = refl;
-            follows = inr (record {
-              refused = refl;
-              fault = fault;
-              is = refl;
-              unit_is = refl;
-              line_is = refl;
-              what_is = refl;
-            });
-          })
-          (All-cons (IsOf 0) commit (fault ∷ []) refl (one-of fault refl)) (λ other differs. refl)
-          refl (recorded-shows shows);
-    }
-      where
-        commit : Entry
-        commit = entry_next ((old.entries ++ claim ∷ []) ++ record-of ∷ []) 0 unit line
-            (Asked Commit (Refused WriteFault))
-
-        fault : Entry
-        fault = entry_next (((old.entries ++ claim ∷ []) ++ record-of ∷ []) ++ commit ∷ []) 0 unit
-            line (Faulted Write)
+    made-doubted = made-in-doubt after line old recorded claim record-of begun-by
 
   -- ---- by what it came to
 
@@ -286,7 +134,7 @@ module _ (after line : ℕ) (old : FileNow) where
     made-by (Ok (Done area)) within is = subst (HasMadeBy false after line old) (sym is)
         (made-defined volume entry area (spells area (within area refl)))
     made-by (Ok Again) within is = subst (HasMadeBy false after line old) (sym is.2)
-        (made-staged is.0 is.1)
+        (made-staged after line old is.0 is.1)
     made-by (Ok NoArea) within is = still-by after line old false new is
     made-by (Ok NoRoom) within is = still-by after line old false new is
     made-by (Ok Held) within is = still-by after line old false new is
@@ -295,5 +143,5 @@ module _ (after line : ℕ) (old : FileNow) where
     made-by (Ok (Fault Write)) within is = ⊎_elim
         (λ alone. still-by after line old true new alone)
         (λ doubt. subst (HasMadeBy true after line old) (sym doubt.1)
-        (made-in-doubt volume entry doubt.0 (spells doubt.0 doubt.2))) is
+        (made-doubted volume entry doubt.0 (spells doubt.0 doubt.2))) is
     made-by (Err why) within is = still-by after line old false new is

@@ -25,6 +25,8 @@ use Rattle.vr_event.specs.Volume.{IsHeld, VolumeNow}
 use Rattle.vr_event.specs.declared.define.Define.{Define}
 use Rattle.vr_volume.specs.Crashes.{RecoversTo}
 use Rattle.vr_job.specs.Committed.{KeepTheCatalog}
+use Rattle.vr_job.specs.Crash.IsLeftAt.{Counted}
+use Rattle.vr_job.specs.Definitions.{AreBegun}
 use Rattle.vr_job.specs.Events.{IsLeftWhile}
 use Rattle.vr_job.specs.Going.{HasRun}
 use Rattle.vr_job.proofs.Crashing.{left-while}
@@ -116,6 +118,15 @@ module _ {B : Type 0} (seen : B → Seen) (faults : B → Faults) (after line : 
       abbrev with-record : State
       with-record = state_of geometry before begun
 
+      recorded-by : AreBegun begun
+      recorded-by = inr (inl (
+        unit,
+        entry.part,
+        area,
+        _,
+        begun-recorded old.number after line unit entry area old.file refl,
+      ))
+
       -- its unit counts in the state in which its record stands
       counted-by : (image : Image) → RecoversTo geometry old.number with-record (unit ∷ []) image
           → RecoversTo geometry old.number
@@ -138,18 +149,11 @@ module _ {B : Type 0} (seen : B → Seen) (faults : B → Faults) (after line : 
             first = begun;
             rest = commit ∷ [];
             made_are = are;
-            begun = inr (
-              unit,
-              entry.part,
-              area,
-              _,
-              begun-recorded old.number after line unit entry area old.file refl,
-            );
-            counted = unit ∷ [];
-            commits = inr (commit, [], refl, inl refl, refl);
-            recovers = counted-by image (ended-recovers unit with-record lack geometry old.number
-                image (subst (λ (s : State).
-                RecoversTo geometry old.number s (unit ∷ []) image) ends recovers));
+            begun = recorded-by;
+            left = Counted (unit ∷ []) (inr (commit, [], refl, inl refl, refl))
+                (counted-by image (ended-recovers unit with-record lack geometry old.number image
+                (subst (λ (s : State).
+                RecoversTo geometry old.number s (unit ∷ []) image) ends recovers)));
           }
 
       while-doubted : (image : Image)
@@ -166,18 +170,11 @@ module _ {B : Type 0} (seen : B → Seen) (faults : B → Faults) (after line : 
             first = begun;
             rest = refused ∷ fault ∷ [];
             made_are = are;
-            begun = inr (
-              unit,
-              entry.part,
-              area,
-              _,
-              begun-recorded old.number after line unit entry area old.file refl,
-            );
-            counted = unit ∷ [];
-            commits = inr (refused, fault ∷ [], refl, inr refl, refl);
-            recovers = counted-by image (stopped-recovers geometry old.number fault.stamp
-                with-record (unit ∷ []) image (subst (λ (s : State).
-                RecoversTo geometry old.number s (unit ∷ []) image) stopped recovers));
+            begun = recorded-by;
+            left = Counted (unit ∷ []) (inr (refused, fault ∷ [], refl, inr refl, refl))
+                (counted-by image (stopped-recovers geometry old.number fault.stamp with-record
+                (unit ∷ []) image (subst (λ (s : State).
+                RecoversTo geometry old.number s (unit ∷ []) image) stopped recovers)));
           }
 
     in-while : (image : Image) → IsLeftDefining geometry old.number opening after unit line entry

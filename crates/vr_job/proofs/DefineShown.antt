@@ -63,18 +63,20 @@ new-cluster geometry catalog entry is = record {
     apart : false ≡ true → ⊥
     apart same = cc
 
+-- a stage of the catalog shows nothing
+pub staged-shown : (after line : ℕ) (unit : UnitOfRecovery) (old : FileNow) (split : Bool)
+    (taken : Option AreaNo)
+    → shown_in (stage_entered after unit line catalog_part split taken old) ≡ shown_in old
+staged-shown after line unit old split (Some area) = refl
+staged-shown after line unit old true None = refl
+staged-shown after line unit old false None = refl
+
 module _ (after line : ℕ) (unit : UnitOfRecovery) (volume : ℕ) (entry : CatEntry)
     (old new : FileNow)
   where
     -- where nothing is entered
     pub shown-same : new ≡ old → shown_in new ≡ shown_in old
     shown-same same = ap shown_in same
-
-    staged : (split : Bool) (taken : Option AreaNo)
-        → shown_in (stage_entered after unit line catalog_part split taken old) ≡ shown_in old
-    staged split (Some area) = refl
-    staged true None = refl
-    staged false None = refl
 
     -- by what the event came to
     pub shown-after : (define : Define) → EnteredBy define volume after unit line entry old new
@@ -84,7 +86,7 @@ module _ (after line : ℕ) (unit : UnitOfRecovery) (volume : ℕ) (entry : CatE
           catalog = catalog;
           stopped = is_some old.stopped;
         }) (same-cluster (events.entry_with_area entry area) old.catalog)
-    shown-after Again is = ap shown_in is.2 ∙ staged is.0 is.1
+    shown-after Again is = ap shown_in is.2 ∙ staged-shown after line unit old is.0 is.1
     shown-after NoArea is = shown-same is
     shown-after NoRoom is = shown-same is
     shown-after Held is = shown-same is

@@ -35,6 +35,7 @@ use Rattle.vr_volume.specs.Crashes.{RecoversTo}
 use Rattle.vr_worker.proofs.CallerLemmas.{stamped-above}
 use Rattle.vr_job.specs.Committed.{KeepTheCatalog}
 use Rattle.vr_job.specs.Crash.{HaveDoneCommit, IsCommit, IsDoneCommit, IsLeftBy}
+use Rattle.vr_job.specs.Crash.IsLeftAt.{Counted}
 use Rattle.vr_job.specs.Events.{FaultsFollow, HasStopped, IsLeftWhile, IsOfEvents, KeepsAtRest}
 use Rattle.vr_job.specs.Events.{LeavesAtRest, OwnsAtRest}
 use Rattle.vr_job.specs.Faultless.{AreFaultless, has_stopped}
@@ -123,9 +124,7 @@ module _ {B : Type 0} (seen : B → Seen) (faults : B → Faults) (old new : Vol
       before = old.file.entries;
       after = entry_next old.file.entries after unit line (Asked request reply) ∷ rest;
       is = entries;
-      counted = unit ∷ [];
-      commits = inr (_, rest, refl, commit, refl);
-      recovers = recovers;
+      left = Counted (unit ∷ []) (inr (_, rest, refl, commit, refl)) recovers;
     }
 
     fails-entries : new.file ≡ failed after unit line request old.file
@@ -149,9 +148,7 @@ module _ {B : Type 0} (seen : B → Seen) (faults : B → Faults) (old new : Vol
           before = old.file.entries;
           after = made-in.made;
           is = made-in.entries;
-          counted = [];
-          commits = inl refl;
-          recovers = rests;
+          left = Counted [] (inl refl) rests;
         })
         (λ commit. ⊎_elim
         (λ ended. commit-left old.file.geometry image (DoneReply 0 None None) []

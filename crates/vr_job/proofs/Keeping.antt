@@ -2,10 +2,11 @@
 -- clusters alone.
 use Rattle.std.proofs.Common.{◌≡◌, ◌∙◌, ◌==◌, ◌&&◌, ◌||◌, ⊎_elim, ℕ, Bool, true, false, cond, List}
 use Rattle.std.proofs.Common.{[], ◌∷◌, ◌++◌, Option, Some, None, ap, bytes_eq, filter, inl, refl}
-use Rattle.std.proofs.Common.{subst, sym}
+use Rattle.std.proofs.Common.{if◌then◌else◌, subst, sym}
 use Rattle.std.specs.Prelude.{option_map, option_to_list}
 use Rattle.std.specs.List.{AllByRecursion, list_any}
 use Rattle.std.proofs.lemmas.Bool.{false≢true}
+use Rattle.vr_types.specs.Content.{Content}
 use Rattle.vr_types.specs.Locks.{same_unit}
 use Rattle.vr_types.specs.declared.geometry.Geometry.{Geometry}
 use Rattle.vr_types.specs.declared.reply.Reply.{Reply}
@@ -14,9 +15,12 @@ use Rattle.vr_types.specs.declared.request.Request.{Request}
 use Rattle.vr_types.specs.declared.request.Request.TheVariants.{Get, Point, Add, Update, Erase}
 use Rattle.vr_types.specs.declared.request.Request.TheVariants.{EndReq, Commit, Backout}
 use Rattle.vr_types.specs.declared.unit.Unit.{Unit as UnitOfRecovery}
+use Rattle.vr_catalog.specs.Catalog.{entries_in}
 use Rattle.vr_history.specs.Change.{Change, change_of}
-use Rattle.vr_history.specs.Effects.{last_kept, last_of}
+use Rattle.vr_history.specs.Committed.{changed}
+use Rattle.vr_history.specs.Effects.{last_kept, last_of, with_change}
 use Rattle.vr_history.specs.Legal.{state_of}
+use Rattle.vr_history.specs.Opened.{catalog_of}
 use Rattle.vr_history.specs.State.{BeforeImage, State, is_kept}
 use Rattle.vr_history.specs.Step.{after_what, case_of, change_back, place_changes, state_after}
 use Rattle.vr_history.specs.declared.entry.Entry.{Entry}
@@ -27,7 +31,9 @@ use Rattle.vr_record_file.specs.Now.{IsOfCluster, IsOfClusterByDeck}
 use Rattle.vr_event.specs.Made.{MadeBy}
 use Rattle.vr_event.specs.declared.act.Act.{Act}
 use Rattle.vr_event.specs.declared.act.Act.TheVariants.{Again, Done}
-use Rattle.vr_job.specs.Committed.{IsOffCatalog, KeepTheCatalog, MayChange}
+use Rattle.vr_job.specs.Catalogs.{catalog_told}
+use Rattle.vr_job.specs.Committed.{IsOffCatalog, KeepTheCatalog, KeepsCatalog, MayChange}
+use Rattle.vr_job.proofs.CatalogChanges.{catalog-changed, change-keeps}
 use Rattle.vr_job.proofs.Effects.{IsMade, MadeOr, make-or}
 use Rattle.vr_job.proofs.Effects.MadeOr.{NoChange, OneChange}
 
@@ -165,6 +171,24 @@ off-may : (state : State) (unit : UnitOfRecovery) (changes : List Change)
 off-may state unit [] off = tt
 off-may state unit (change ∷ changes) off = (inl off.0, off-may state unit changes off.1)
 
+-- an entry of a deck leaves the catalog
+all-off : (changes : List Change) (contents : ℕ → Content) → AllByRecursion IsOffCatalog changes
+    → changed contents changes 0 ≡ contents 0
+all-off [] contents off = refl
+all-off (change ∷ changes) contents off =
+    all-off changes (with_change change contents) off.1 ∙ change-keeps change contents off.0
+
+off-keeps : (geometry : Geometry) (state : State) (entry : Entry) → (entry.unit.deck == 0) ≡ false
+    → AllByRecursion IsOffCatalog (place_changes geometry state entry.unit entry.what)
+    → KeepsCatalog geometry state entry
+off-keeps geometry state entry own off = record {
+  may = off-may state entry.unit (place_changes geometry state entry.unit entry.what) off;
+  makes = ap entries_in (catalog-changed geometry state entry.unit entry.stamp entry.what
+      ∙ all-off (place_changes geometry state entry.unit entry.what) state.contents off)
+      ∙ sym (ap (λ (b : Bool). if b then catalog_told entry.what (catalog_of state)
+      else catalog_of state) own);
+}
+
 -- one history after another
 pub keep-then : (geometry : Geometry) (state : State) (entries more : List Entry)
     → KeepTheCatalog geometry state entries
@@ -197,24 +221,28 @@ made-keep : (geometry : Geometry) (state : State) (act : Act) (unit : UnitOfReco
 made-keep geometry state Done unit line request made is own before after =
     subst (KeepTheCatalog geometry state) (sym is.is) (⊎_elim (λ none. alone none)
     (λ fault. (
-      subst (λ (what : What). AllByRecursion (MayChange state is.entry.unit)
+      off-keeps geometry state is.entry (of-deck is.entry is.unit_is)
+          (subst (λ (what : What). AllByRecursion IsOffCatalog
           (place_changes geometry state is.entry.unit what))
-          (sym (is.what_is ∙ ap (λ (reply : Reply). Asked request reply) fault.refused)) tt,
+          (sym (is.what_is ∙ ap (λ (reply : Reply). Asked request reply) fault.refused)) tt),
       subst (KeepTheCatalog geometry (state_after geometry state is.entry)) (sym fault.is) (
-        subst (λ (what : What).
-            AllByRecursion (MayChange (state_after geometry state is.entry) fault.fault.unit)
+        off-keeps geometry (state_after geometry state is.entry) fault.fault
+            (of-deck fault.fault fault.unit_is)
+            (subst (λ (what : What). AllByRecursion IsOffCatalog
             (place_changes geometry (state_after geometry state is.entry) fault.fault.unit what))
-            (sym fault.what_is) tt,
+            (sym fault.what_is) tt),
         tt,
       ),
     )) is.follows)
   where
+    of-deck : (entry : Entry) → entry.unit ≡ unit → (entry.unit.deck == 0) ≡ false
+    of-deck entry of = subst (λ (u : UnitOfRecovery). (u.deck == 0) ≡ false) (sym of) own
+
     alone : is.rest ≡ [] → KeepTheCatalog geometry state (is.entry ∷ is.rest)
     alone none = subst (λ (rest : List Entry). KeepTheCatalog geometry state (is.entry ∷ rest))
         (sym none) (
-          off-may state is.entry.unit (place_changes geometry state is.entry.unit is.entry.what)
-              (entry-off geometry state is.entry.unit
-              (subst (λ (u : UnitOfRecovery). (u.deck == 0) ≡ false) (sym is.unit_is) own) before
+          off-keeps geometry state is.entry (of-deck is.entry is.unit_is)
+              (entry-off geometry state is.entry.unit (of-deck is.entry is.unit_is) before
               is.entry.stamp is.entry.what
               (subst (λ (them : List Entry).
               AllByRecursion IsOfClusterByDeck (state_of geometry state them).befores)
@@ -224,14 +252,15 @@ made-keep geometry state Done unit line request made is own before after =
 made-keep geometry state (Again given) unit line request made is own before after = ⊎_elim
     (λ none. subst (KeepTheCatalog geometry state) (sym none) tt)
     (λ one. subst (KeepTheCatalog geometry state) (sym one.1) (
-      off-may state one.0.unit (place_changes geometry state one.0.unit one.0.what)
-          (entry-off geometry state one.0.unit
-          (subst (λ (u : UnitOfRecovery). (u.deck == 0) ≡ false) (sym one.2.0) own) before
-          one.0.stamp one.0.what
+      off-keeps geometry state one.0 (of-deck one.0 one.2.0)
+          (entry-off geometry state one.0.unit (of-deck one.0 one.2.0) before one.0.stamp one.0.what
           (subst (λ (them : List Entry).
           AllByRecursion IsOfClusterByDeck (state_of geometry state them).befores) one.1 after)),
       tt,
     )) is
+  where
+    of-deck : (entry : Entry) → entry.unit ≡ unit → (entry.unit.deck == 0) ≡ false
+    of-deck entry of = subst (λ (u : UnitOfRecovery). (u.deck == 0) ≡ false) (sym of) own
 
 -- so no event of a deck changes the catalog
 pub event-keeps : (geometry : Geometry) (opening : State) (entries : List Entry) (act : Act)

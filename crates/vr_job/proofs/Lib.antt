@@ -20,8 +20,15 @@ pub mod DefineRuns
 pub mod DefineShown
 pub mod Defining
 pub mod CountEvents
+pub mod ChangeMade
+pub mod ChangeEvents
+pub mod ChangeCatalog
+pub mod ChangeRuns
+pub mod ChangeShown
+pub mod ChangeGoing
 pub mod Effects
-pub mod Additions
+pub mod CatalogChanges
+pub mod CatalogEntries
 pub mod Ascending
 pub mod Committed
 pub mod Keeping
@@ -31,7 +38,9 @@ pub mod AreasOnce
 pub mod Owning
 pub mod Placing
 pub mod RunCommitted
+pub mod EachSeen
 pub mod Reports
+pub mod Gains
 pub mod AnsweredBy
 pub mod Reported
 pub mod ShownStops

@@ -57,6 +57,7 @@ use Rattle.vr_store.proofs.CallerLemmas.{idle-guards}
 use Rattle.vr_job.specs.Committed.{KeepTheCatalog}
 use Rattle.vr_job.specs.Going.{HasRun}
 use Rattle.vr_job.specs.Crash.{IsLeftBy}
+use Rattle.vr_job.specs.Crash.IsLeftAt.{Counted}
 use Rattle.vr_job.specs.Opened.{IsReady, IsReadyFrom, opened_now}
 
 -- ---- lists
@@ -500,10 +501,9 @@ opening-run seen faults opening volume none going whole held may = record {
         before = volume.file.entries;
         after = [];
         is = sym (append-nil volume.file.entries);
-        counted = [];
-        commits = inl refl;
-        recovers = subst (λ (g : Geometry). RecoversTo g volume.number state [] image)
-            (whole.geometry going) is;
+        left = Counted [] (inl refl)
+            (subst (λ (g : Geometry). RecoversTo g volume.number state [] image)
+            (whole.geometry going) is);
       });
   events = record { events = []; are = (refl, none) };
   stopped = λ stops. absurd (stops going);

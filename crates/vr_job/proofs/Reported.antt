@@ -29,8 +29,8 @@ use Rattle.vr_job.specs.Reported.{IsCutAt, IsReportOf, IsVolumeAt, VolumeAt, Vol
 use Rattle.vr_job.specs.Serving.{shown_of}
 use Rattle.vr_job.specs.Shelf.{catalog_of, entries_on, shape_of}
 use Rattle.vr_job.proofs.AnsweredBy.{IsHeldFrom, answers-by, at_of}
-use Rattle.vr_job.proofs.Reports.{EachHeld, each_seen, held-each, past, report-seen, seen-count}
-use Rattle.vr_job.proofs.Reports.{seen-there}
+use Rattle.vr_job.proofs.EachSeen.{EachHeld, each_seen, held-each, past, seen-count, seen-there}
+use Rattle.vr_job.proofs.Reports.{report-seen}
 
 -- an element that a list was mapped to is that of one of the list
 mapped-at : {X Y : Type 0} (f : X → Y) (xs : List X) (place : ℕ) (y : Y)
@@ -110,8 +110,8 @@ module _ {D : Type 0} where
         is = is.is;
       }
 
--- the volumes as they were opened, in these states, with no history yet, and as they came out of the
--- steps
+-- the volumes as they were opened, in these states, with no history yet, and as they came out of
+-- the steps
 module _ {D : Type 0} (tells : Bool) (seen : D → Seen) (faults : D → Faults)
     (volumes ran : List (VolumeNow D)) (openings : ℕ → State)
     (begins : (place : ℕ) (volume : VolumeNow D) → slice_get volumes place ≡ Some volume

@@ -1,16 +1,20 @@
 -- What a report says of volumes it says of what they are seen as, each from the state in which it
 -- was opened.
-use Rattle.std.proofs.Common.{◌≡◌, ◌∙◌, ⊎_elim, inl, inr, ℕ, zero, suc, Bool, true, false, List, []}
-use Rattle.std.proofs.Common.{◌∷◌, Option, Some, ap, length, map, refl, subst, sym}
-use Rattle.std.specs.Prelude.{◌&&◌, not, slice_get, slice_set}
+use Rattle.std.proofs.Common.{◌≡◌, ◌∙◌, ⊎_elim, inl, inr, ℕ, Bool, true, false, List, [], ◌∷◌}
+use Rattle.std.proofs.Common.{Option, Some, ap, length, map, refl, subst, sym}
+use Rattle.std.specs.Prelude.{◌&&◌, None, is_some, not}
 use Rattle.vr_types.specs.declared.geometry.Geometry.{Geometry}
 use Rattle.vr_amsparse.specs.declared.command.Command.{Command}
 use Rattle.vr_amsparse.specs.declared.command.Command.TheVariants as commands
 use Rattle.vr_amsparse.specs.declared.command.DefineCommand.{DefineCommand}
+use Rattle.vr_amsparse.specs.declared.command.DeleteCommand.{DeleteCommand}
 use Rattle.vr_amsparse.specs.declared.command.ListCommand.{ListCommand}
 use Rattle.vr_amsparse.specs.declared.command.Node.{Node}
+use Rattle.vr_catalog.specs.Alter.{altered}
 use Rattle.vr_catalog.specs.Define.{new_entry}
 use Rattle.vr_catalog.specs.declared.entry.CatEntry.{CatEntry}
+use Rattle.vr_catalog.specs.declared.entry.EntryKind.{EntryKind}
+use Rattle.vr_catalog.specs.declared.order.Alter.{Alter}
 use Rattle.vr_catalog.specs.declared.order.Define.{Define}
 use Rattle.vr_history.specs.State.{State}
 use Rattle.vr_history.specs.declared.entry.Entry.{Entry}
@@ -23,125 +27,30 @@ use Rattle.vr_trace.specs.declared.statistics.Statistics.{Statistics}
 use Rattle.vr_ams_list.specs.Faults.{failure_of}
 use Rattle.vr_ams_list.specs.Listing.{all_lines, listed_entries}
 use Rattle.vr_ams_list.specs.declared.listed.Listed.{Listed}
+use Rattle.vr_ams_define.specs.Altered.{IsAlteredBy, IsChangeAsked, alter_failure, entry_at}
+use Rattle.vr_ams_define.specs.Altered.{place_of}
+use Rattle.vr_ams_define.specs.declared.answer.Changed.{Changed}
+use Rattle.vr_ams_define.specs.declared.answer.Changed.TheVariants as changes
 use Rattle.vr_ams_define.specs.declared.answer.Counted.{Counted}
 use Rattle.vr_ams_define.specs.declared.answer.Counted.TheVariants as counts
 use Rattle.vr_ams_define.specs.declared.answer.Defined.{Defined}
 use Rattle.vr_ams_define.specs.declared.answer.Defined.TheVariants.{Again}
-use Rattle.vr_ams_define.specs.Answers.{Answering, Exchange, HasAnswered, HasStaged}
-use Rattle.vr_ams_define.specs.Answers.Exchange.{Counting, Defining}
+use Rattle.vr_ams_define.specs.Answers.{Answering, Exchange, HasAnswered, HasChanged, HasStaged}
+use Rattle.vr_ams_define.specs.Answers.Exchange.{Changing, Counting, Defining}
 use Rattle.vr_ams_define.specs.Answers.HasStaged.{Staged, Unstaged}
 use Rattle.vr_ams_define.specs.Chosen.{chosen}
+use Rattle.vr_ams_define.specs.Deleted.{AreDeleted, IsDeletedBy, IsOneDeleted, delete_failure}
 use Rattle.vr_ams_define.specs.Failures.{first_failure}
 use Rattle.vr_ams_define.specs.Outcomes.{IsDefined, IsDefinedBy}
 use Rattle.vr_ams_define.specs.Runs.{is_plain_cluster}
 use Rattle.vr_ams_run.specs.ListedAll.{CountRunWhere, CountsRun, IsAsked, IsListedAll}
 use Rattle.vr_ams_run.specs.ListedAll.{is_counted}
-use Rattle.vr_ams_run.specs.Running.{CommandRun, DefineRun, IsQuiet, IsReport, ListRun}
-use Rattle.vr_ams_run.specs.Running.{NodeRunWhere, NodesRun, QuietRun, Stage, command_run}
-use Rattle.vr_ams_run.specs.Running.{first_stage, list_run, passed, reaches}
+use Rattle.vr_ams_run.specs.Running.{AlterRun, CommandRun, DefineRun, IsDeletedAs, IsQuiet}
+use Rattle.vr_ams_run.specs.Running.{IsReport, ListRun, NodeRunWhere, NodesRun, QuietRun, Stage}
+use Rattle.vr_ams_run.specs.Running.{command_run, first_stage, list_run, passed, reaches}
 use Rattle.vr_job.specs.Reported.{VolumeAt, shape_at, shown_at}
-
--- ---- lists of volumes, each with the state of its place
-
--- the states of all places but the first
-abbrev pub past : (ℕ → State) → ℕ → State
-past openings place = openings (suc place)
-
--- what volumes are seen as, each by the state of its place
-abbrev pub each_seen : {V W : Type 0} → (State → V → W) → (ℕ → State) → List V → List W
-each_seen seen_as openings [] = []
-each_seen seen_as openings (volume ∷ volumes) =
-    seen_as (openings zero) volume ∷ each_seen seen_as (past openings) volumes
-
--- so it is of each volume and the state of its place
-abbrev pub EachHeld : {V : Type 0} → (State → V → Type 0) → (ℕ → State) → List V → Type 0
-EachHeld Held openings [] = Unit {0}
-EachHeld Held openings (volume ∷ volumes) =
-    Held (openings zero) volume × EachHeld Held (past openings) volumes
-
-module _ {V : Type 0} (Held : State → V → Type 0) where
-  pub held-each : (openings : ℕ → State) (volumes : List V)
-      → ((place : ℕ) (volume : V) → slice_get volumes place ≡ Some volume
-      → Held (openings place) volume)
-      → EachHeld Held openings volumes
-  held-each openings [] each = tt
-  held-each openings (volume ∷ volumes) each = (
-    each zero volume refl,
-    held-each (past openings) volumes (λ place one there. each (suc place) one there),
-  )
-
-  held-at : (openings : ℕ → State) (volumes : List V) (place : ℕ) (volume : V)
-      → EachHeld Held openings volumes → slice_get volumes place ≡ Some volume
-      → Held (openings place) volume
-  held-at openings [] place volume are there = absurd cc
-  held-at openings (one ∷ volumes) zero volume are there =
-      subst (Held (openings zero)) (same one volume there) are.0
-    where
-      same : (a b : V) → Some a ≡ Some b → a ≡ b
-      same a b is = cc
-  held-at openings (one ∷ volumes) (suc place) volume are there =
-      held-at (past openings) volumes place volume are.1 there
-
-  held-set : (openings : ℕ → State) (volumes : List V) (place : ℕ) (new : V)
-      → EachHeld Held openings volumes → Held (openings place) new
-      → EachHeld Held openings (slice_set volumes place new)
-  held-set openings [] place new are is = tt
-  held-set openings (one ∷ volumes) zero new are is = (is, are.1)
-  held-set openings (one ∷ volumes) (suc place) new are is =
-      (are.0, held-set (past openings) volumes place new are.1 is)
-
-module _ {V W : Type 0} (seen_as : State → V → W) where
-  pub seen-count : (openings : ℕ → State) (volumes : List V)
-      → length (each_seen seen_as openings volumes) ≡ length volumes
-  seen-count openings [] = refl
-  seen-count openings (volume ∷ volumes) = ap suc (seen-count (past openings) volumes)
-
-  -- what is seen at a place is a volume there
-  pub seen-there : (openings : ℕ → State) (volumes : List V) (place : ℕ) (at : W)
-      → slice_get (each_seen seen_as openings volumes) place ≡ Some at
-      → (volume : V) × (slice_get volumes place ≡ Some volume)
-      × (at ≡ seen_as (openings place) volume)
-  seen-there openings [] place at there = absurd cc
-  seen-there openings (volume ∷ volumes) zero at there =
-      (volume, refl, same at (seen_as (openings zero) volume) there)
-    where
-      same : (a b : W) → Some b ≡ Some a → a ≡ b
-      same a b is = cc
-  seen-there openings (volume ∷ volumes) (suc place) at there =
-      seen-there (past openings) volumes place at there
-
-  seen-at : (openings : ℕ → State) (volumes : List V) (place : ℕ) (volume : V)
-      → slice_get volumes place ≡ Some volume
-      → slice_get (each_seen seen_as openings volumes) place
-      ≡ Some (seen_as (openings place) volume)
-  seen-at openings [] place volume there = absurd cc
-  seen-at openings (one ∷ volumes) zero volume there = same one volume there
-    where
-      same : (a b : V) → Some a ≡ Some b
-          → Some (seen_as (openings zero) a) ≡ Some (seen_as (openings zero) b)
-      same a b is = cc
-  seen-at openings (one ∷ volumes) (suc place) volume there =
-      seen-at (past openings) volumes place volume there
-
-  seen-set : (openings : ℕ → State) (volumes : List V) (place : ℕ) (new : V)
-      → each_seen seen_as openings (slice_set volumes place new)
-      ≡ slice_set (each_seen seen_as openings volumes) place (seen_as (openings place) new)
-  seen-set openings [] place new = refl
-  seen-set openings (volume ∷ volumes) zero new = refl
-  seen-set openings (volume ∷ volumes) (suc place) new =
-      ap (λ (them : List W). seen_as (openings zero) volume ∷ them)
-      (seen-set (past openings) volumes place new)
-
-  -- what each shows is seen of what it is seen as
-  seen-map : {X : Type 0} (of : V → X) (of_seen : W → X)
-      → ((opening : State) (volume : V) → of volume ≡ of_seen (seen_as opening volume))
-      → (openings : ℕ → State) (volumes : List V)
-      → map of volumes ≡ map of_seen (each_seen seen_as openings volumes)
-  seen-map of of_seen same openings [] = refl
-  seen-map {X} of of_seen same openings (volume ∷ volumes) =
-      ap (λ (x : X). x ∷ map of volumes) (same (openings zero) volume)
-      ∙ ap (λ (them : List X). of_seen (seen_as (openings zero) volume) ∷ them)
-      (seen-map of of_seen same (past openings) volumes)
+use Rattle.vr_job.proofs.EachSeen.{EachHeld, each_seen, held-at, held-set, seen-at, seen-count}
+use Rattle.vr_job.proofs.EachSeen.{seen-map, seen-set}
 
 -- ---- reports
 
@@ -186,16 +95,21 @@ module _ {V : Type 0} (shape_in : V → Geometry) (shown_in : V → Shown)
       → map shape_in volumes ≡ map shape_at (all_seen openings volumes)
   shape-seen = seen-map seen_as shape_in shape_at (λ opening volume. refl)
 
-  -- ---- DEFINE
+  -- what is said of what volumes show is said of what they are seen as
+  over-seen : (openings : ℕ → State) (volumes : List V) (Said : List Shown → Type 0)
+      → Said (map shown_in volumes) → Said (map shown_at (all_seen openings volumes))
+  over-seen openings volumes Said is = subst Said (shown-seen openings volumes) is
 
-  staged : (opening : State) (line : ℕ) (entry : CatEntry) (old now : V) → Held opening old
-      → HasStaged answers line entry old now
+  -- ---- a volume that is asked, again after each stage
+
+  staged : (opening : State) (line : ℕ) (again : Exchange) (old now : V) → Held opening old
+      → HasStaged answers line again old now
       → Held opening now
-      × HasStaged answers_as line entry (seen_as opening old) (seen_as opening now)
-  staged opening line entry old now is Unstaged = (is, Unstaged)
-  staged opening line entry old now is (Staged before _ stages again) =
-      let first = staged opening line entry old before is stages in
-      let then = answer opening before line (Defining entry Again) now first.0 again in
+      × HasStaged answers_as line again (seen_as opening old) (seen_as opening now)
+  staged opening line again old now is Unstaged = (is, Unstaged)
+  staged opening line again old now is (Staged before _ stages asked) =
+      let first = staged opening line again old before is stages in
+      let then = answer opening before line again now first.0 asked in
       (then.0, Staged (seen_as opening before) (seen_as opening now) first.1 then.1)
 
   answered : (opening : State) (line : ℕ) (entry : CatEntry) (old new : V) (given : Defined)
@@ -203,7 +117,7 @@ module _ {V : Type 0} (shape_in : V → Geometry) (shown_in : V → Shown)
       → Held opening new × HasAnswered shown_at answers_as line entry (seen_as opening old)
       (seen_as opening new) given
   answered opening line entry old new given held is =
-      let first = staged opening line entry old is.before held is.stages in
+      let first = staged opening line (Defining entry Again) old is.before held is.stages in
       let then = answer opening is.before line (Defining entry given) new first.0 is.answered in (
         then.0,
         record {
@@ -214,6 +128,28 @@ module _ {V : Type 0} (shape_in : V → Geometry) (shown_in : V → Shown)
           left = is.left;
         },
       )
+
+  changed : (opening : State) (line : ℕ) (entry : CatEntry) (to : Option CatEntry) (old new : V)
+      (given : Changed)
+      → Held opening old → HasChanged shown_in answers line entry to old new given
+      → Held opening new × HasChanged shown_at answers_as line entry to (seen_as opening old)
+      (seen_as opening new) given
+  changed opening line entry to old new given held is =
+      let first = staged opening line (Changing entry to changes.Again) old is.before held is.stages
+      in
+      let then = answer opening is.before line (Changing entry to given) new first.0 is.answered
+      in (
+        then.0,
+        record {
+          before = seen_as opening is.before;
+          stages = first.1;
+          answered = then.1;
+          last = is.last;
+          left = is.left;
+        },
+      )
+
+  -- ---- DEFINE
 
   -- the volumes after it are held, too
   abbrev Keeps : (ℕ → State) → List V → Type 0 → Type 0
@@ -286,6 +222,135 @@ module _ {V : Type 0} (shape_in : V → Geometry) (shown_in : V → Shown)
             (all_seen openings volumes) first (chosen (length volumes) volume) line order
             (all_seen openings after) outcome) (failure-seen openings volumes order volume) seen.1),
       )
+
+  -- ---- a change of the entry of a name
+
+  change-seen : (openings : ℕ → State) (line : ℕ) (name : List ℕ)
+      (to : CatEntry → Option CatEntry) (old new : List V) (given : Changed) → AreHeld openings old
+      → IsChangeAsked shown_in answers line name to old new given
+      → Keeps openings new (IsChangeAsked shown_at answers_as line name to (all_seen openings old)
+      (all_seen openings new) given)
+  change-seen openings line name to old new given held is =
+      let here = held-at Held openings old is.place is.before held is.before_is in
+      let then = changed (openings is.place) line is.entry (to is.entry) is.before is.after given
+      here is.changed in (
+        subst (AreHeld openings) (sym is.others)
+            (held-set Held openings old is.place is.after held then.0),
+        record {
+          place = is.place;
+          place_is = over-seen openings old (λ (them : List Shown).
+              place_of them name ≡ Some is.place) is.place_is;
+          entry = is.entry;
+          entry_is = over-seen openings old (λ (them : List Shown).
+              entry_at them is.place name ≡ Some is.entry) is.entry_is;
+          before = seen_as (openings is.place) is.before;
+          before_is = seen-at seen_as openings old is.place is.before is.before_is;
+          after = seen_as (openings is.place) is.after;
+          changed = then.1;
+          others = ap (all_seen openings) is.others
+              ∙ seen-set seen_as openings old is.place is.after;
+        },
+      )
+
+  -- ---- ALTER
+
+  alter-by : (openings : ℕ → State) (line : ℕ) (order : Alter) (old new : List V)
+      (outcome : Outcome) → AreHeld openings old
+      → IsAlteredBy shown_in answers line order old new outcome
+      → Keeps openings new (IsAlteredBy shown_at answers_as line order (all_seen openings old)
+      (all_seen openings new) outcome)
+  alter-by openings line order old new outcome held is = ⊎_elim
+      (λ refused. (
+        subst (AreHeld openings) (sym refused.same) held,
+        inl (record {
+          failure = refused.failure;
+          first_is = over-seen openings old (λ (them : List Shown).
+              alter_failure them order ≡ Some refused.failure) refused.first_is;
+          outcome_is = refused.outcome_is;
+          same = ap (all_seen openings) refused.same;
+        }),
+      ))
+      (λ further. ⊎_elim
+      (λ nothing. (
+        subst (AreHeld openings) (sym nothing.same) held,
+        inr (inl (record {
+          allowed = over-seen openings old (λ (them : List Shown).
+              alter_failure them order ≡ None) nothing.allowed;
+          none = nothing.none;
+          outcome_is = nothing.outcome_is;
+          same = ap (all_seen openings) nothing.same;
+        })),
+      ))
+      (λ given.
+      let then = change-seen openings line order.name
+      (λ (entry : CatEntry). Some (altered entry order)) old new given.answer held given.asked
+      in (
+        then.0,
+        inr (inr (record {
+          allowed = over-seen openings old (λ (them : List Shown).
+              alter_failure them order ≡ None) given.allowed;
+          some = given.some;
+          answer = given.answer;
+          asked = then.1;
+          outcome_is = given.outcome_is;
+        })),
+      )) further) is
+
+  -- ---- DELETE
+
+  delete-one : (openings : ℕ → State) (line : ℕ) (kind : Option EntryKind) (name : List ℕ)
+      (old new : List V) (failure : Option Failure) → AreHeld openings old
+      → IsOneDeleted shown_in answers line kind name old new failure
+      → Keeps openings new (IsOneDeleted shown_at answers_as line kind name (all_seen openings old)
+      (all_seen openings new) failure)
+  delete-one openings line kind name old new failure held is = ⊎_elim
+      (λ kept. (
+        subst (AreHeld openings) (sym kept.same) held,
+        inl (record {
+          why = kept.why;
+          first_is = over-seen openings old (λ (them : List Shown).
+              delete_failure them kind name ≡ Some kept.why) kept.first_is;
+          failure_is = kept.failure_is;
+          same = ap (all_seen openings) kept.same;
+        }),
+      ))
+      (λ given.
+      let then = change-seen openings line name (λ (entry : CatEntry). None) old new
+      given.answer held given.asked in (
+        then.0,
+        inr (record {
+          allowed = over-seen openings old (λ (them : List Shown).
+              delete_failure them kind name ≡ None) given.allowed;
+          answer = given.answer;
+          asked = then.1;
+          failure_is = given.failure_is;
+        }),
+      )) is
+
+  deletes-seen : (openings : ℕ → State) (line : ℕ) (kind : Option EntryKind)
+      (names : List (List ℕ)) (old new : List V) (failures : List (Option Failure))
+      → AreHeld openings old
+      → AreDeleted shown_in answers line kind names old new failures
+      → Keeps openings new (AreDeleted shown_at answers_as line kind names (all_seen openings old)
+      (all_seen openings new) failures)
+  deletes-seen openings line kind [] old new failures held is = (
+    subst (AreHeld openings) (sym is.0) held,
+    (ap (all_seen openings) is.0, is.1),
+  )
+  deletes-seen openings line kind (name ∷ names) old new [] held is = absurd is
+  deletes-seen openings line kind (name ∷ names) old new (failure ∷ failures) held is =
+      let first = delete-one openings line kind name old is.0 failure held is.1 in
+      let then = deletes-seen openings line kind names is.0 new failures first.0 is.2 in
+      (then.0, (all_seen openings is.0, first.1, then.1))
+
+  delete-by : (openings : ℕ → State) (line : ℕ) (kind : Option EntryKind)
+      (names : List (List ℕ)) (old new : List V) (outcome : Outcome) → AreHeld openings old
+      → IsDeletedBy shown_in answers line kind names old new outcome
+      → Keeps openings new (IsDeletedBy shown_at answers_as line kind names
+      (all_seen openings old) (all_seen openings new) outcome)
+  delete-by openings line kind names old new outcome held is =
+      let then = deletes-seen openings line kind names old new is.failures held is.ran in
+      (then.0, record { failures = is.failures; ran = then.1; outcome_is = is.outcome_is })
 
   -- ---- LISTCAT ALL
 
@@ -436,6 +501,26 @@ module _ {V : Type 0} (shape_in : V → Geometry) (shown_in : V → Shown)
   define-seen openings false line command old new held is =
       same-seen openings (passed old.going) (passed old.going) old new refl held is
 
+  altering-seen : (openings : ℕ → State) (runs : Bool) (line : ℕ) (order : Alter)
+      (old new : Stage V) → AreHeld openings old.volumes
+      → AlterRun shown_in answers runs line order old new
+      → Keeps openings new.volumes (AlterRun shown_at answers_as runs line order
+      (stage_seen openings old) (stage_seen openings new))
+  altering-seen openings true line order old new held is =
+      let then = alter-by openings line order old.volumes new.volumes is.outcome held is.altered in
+      (then.0, record { outcome = is.outcome; altered = then.1; going = is.going })
+  altering-seen openings false line order old new held is =
+      same-seen openings (passed old.going) (passed old.going) old new refl held is
+
+  deleting-seen : (openings : ℕ → State) (line : ℕ) (command : DeleteCommand) (old new : Stage V)
+      → AreHeld openings old.volumes → IsDeletedAs shown_in answers line command old new
+      → Keeps openings new.volumes (IsDeletedAs shown_at answers_as line command
+      (stage_seen openings old) (stage_seen openings new))
+  deleting-seen openings line command old new held is =
+      let then = delete-by openings line command.kind command.names old.volumes new.volumes
+      is.outcome held is.deleted in
+      (then.0, record { outcome = is.outcome; deleted = then.1; going = is.going })
+
   listing-seen : (openings : ℕ → State) (all : Bool) (line : ℕ) (command : ListCommand)
       (old new : Stage V) → AreHeld openings old.volumes
       → ListRun shown_in answers all line command old new
@@ -458,10 +543,10 @@ module _ {V : Type 0} (shape_in : V → Geometry) (shown_in : V → Shown)
       (stage_seen openings old) (stage_seen openings new))
   command-seen openings line (commands.Define command) old new held is =
       define-seen openings (is_plain_cluster command.order.what) line command old new held is
-  command-seen openings line (commands.Alter command) old new held is =
-      quiet-seen openings line (commands.Alter command) old new held is
+  command-seen openings line (commands.Alter order) old new held is =
+      altering-seen openings (not (is_some order.new_name)) line order old new held is
   command-seen openings line (commands.Delete command) old new held is =
-      quiet-seen openings line (commands.Delete command) old new held is
+      deleting-seen openings line command old new held is
   command-seen openings line (commands.Repro command) old new held is =
       quiet-seen openings line (commands.Repro command) old new held is
   command-seen openings line (commands.BuildIndex command) old new held is =

@@ -1,7 +1,7 @@
 -- A COMMIT that was answered 0 leaves its volume going, and what a volume that stopped leaves is what
 -- the event leaves in which it did.
 use Rattle.std.proofs.Common.{◌≡◌, ◌⊎◌, inl, inr, ⊎_elim, ◌∙◌, ℕ, List, [], ◌∷◌, ◌++◌}
-use Rattle.std.proofs.Common.{Option, Some, None, refl, sym, ap, subst, append_assoc}
+use Rattle.std.proofs.Common.{Option, Some, None, refl, sym, ap, subst, append_assoc, true}
 use Rattle.std.specs.Prelude.{option_map}
 use Rattle.std.proofs.lemmas.List.Elements.{All-cons, All-head, All-nil, All-tail}
 use Rattle.vr_types.specs.Image.{Image}
@@ -10,12 +10,14 @@ use Rattle.vr_types.specs.declared.fault.DeviceFault.{DeviceFault}
 use Rattle.vr_types.specs.declared.fault.DeviceFault.TheVariants.{Write}
 use Rattle.vr_types.specs.declared.geometry.Geometry.{Geometry}
 use Rattle.vr_types.specs.declared.reply.Refusal.{Refusal}
-use Rattle.vr_types.specs.declared.reply.Refusal.TheVariants.{Stopped, WriteFault}
+use Rattle.vr_types.specs.declared.reply.Refusal.TheVariants.{Memory, NoSpace, Stopped, WriteFault}
 use Rattle.vr_types.specs.declared.reply.Reply.{Reply}
 use Rattle.vr_types.specs.declared.reply.Reply.TheVariants.{Done as DoneReply, Refused}
 use Rattle.vr_types.specs.declared.request.Request.{Request}
 use Rattle.vr_types.specs.declared.request.FileRef.{FileRef}
-use Rattle.vr_types.specs.declared.request.Request.TheVariants.{Add, Commit}
+use Rattle.vr_types.specs.declared.request.Find.TheVariants.{Equal}
+use Rattle.vr_types.specs.declared.request.Request.TheVariants.{Add, Commit, Get}
+use Rattle.vr_types.specs.declared.unit.Integrity.TheVariants.{Nri}
 use Rattle.vr_types.specs.declared.unit.AreaNo.{AreaNo}
 use Rattle.vr_types.specs.declared.unit.PartNo.{PartNo}
 use Rattle.vr_types.specs.declared.unit.Unit.{Unit as UnitOfRecovery}
@@ -26,12 +28,13 @@ use Rattle.vr_history.specs.Step.{MayEnter, Step, case_of, state_after}
 use Rattle.vr_history.specs.declared.entry.Entry.{Entry}
 use Rattle.vr_history.specs.declared.entry.What.{What}
 use Rattle.vr_history.specs.declared.entry.What.TheVariants.{Asked, Claimed, Faulted, Split, Undone}
+use Rattle.vr_record_file.specs.EntryChange.{change_asked}
 use Rattle.vr_record_file.specs.Now.{FileNow}
 use Rattle.vr_event.specs.Made.{HasStopped as HasStoppedWith, IsStepFor, MadeBy}
 use Rattle.vr_event.specs.declared.act.Act.{Act}
 use Rattle.vr_event.specs.declared.act.Act.TheVariants.{Again, Done}
-use Rattle.vr_job.specs.Crash.{HaveDoneCommit, IsDoneCommit}
-use Rattle.vr_job.specs.Definitions.{AreBegun, IsRecorded}
+use Rattle.vr_job.specs.Crash.{HaveDoneCommit, IsCommit, IsDoneCommit, as_done}
+use Rattle.vr_job.specs.Definitions.{AreBegun, IsRecorded, IsReplaced}
 use Rattle.vr_job.specs.Events.{FaultsFollow, HasStopped, IsStop, IsStopAfter}
 use Rattle.vr_job.specs.Faultless.{AreFaultless, IsFaulted}
 
@@ -54,6 +57,61 @@ commit-going geometry state unit is = ⊎_elim
   where
     not-refused : (refusal : Refusal) → DoneReply 0 None None ≡ Refused refusal → ⊥
     not-refused refusal same = cc
+
+-- ---- a COMMIT that a fault of a write refused might have been answered 0
+
+never-refused : (stopped : Option ℕ) (refusals : List (Option Refusal)) → first_of refusals ≡ None
+    → Refused WriteFault
+    ≡ refused_or (first_of (None ∷ option_map Stopped stopped ∷ refusals)) (DoneReply 0 None None)
+    → ⊥
+never-refused None refusals none is = differ
+    (is ∙ ap (λ (o : Option Refusal). refused_or o (DoneReply 0 None None)) none)
+  where
+    differ : Refused WriteFault ≡ DoneReply 0 None None → ⊥
+    differ same = cc
+never-refused (Some stamp) refusals none is = absurd cc
+
+going-none : (stopped : Option ℕ) → first_of (None ∷ option_map Stopped stopped ∷ []) ≡ None
+    → stopped ≡ None
+going-none None none = refl
+going-none (Some stamp) none = absurd cc
+
+done-by : (stopped : Option ℕ) (refusals : List (Option Refusal)) → first_of refusals ≡ None
+    → stopped ≡ None → DoneReply 0 None None
+    ≡ refused_or (first_of (None ∷ option_map Stopped stopped ∷ refusals)) (DoneReply 0 None None)
+done-by None refusals none going =
+    sym (ap (λ (o : Option Refusal). refused_or o (DoneReply 0 None None)) none)
+done-by (Some stamp) refusals none going = absurd cc
+
+failed-may : (geometry : Geometry) (state : State) (unit : UnitOfRecovery)
+    → MayReply (case_of geometry state unit Commit) (Refused WriteFault)
+    → MayReply (case_of geometry state unit Commit) (DoneReply 0 None None)
+failed-may geometry state unit may = inl (
+  done-by state.stopped _ refl (⊎_elim
+      (λ answered. absurd (never-refused state.stopped _ refl answered.0))
+      (λ lacks. ⊎_elim (λ room. absurd (other-refused _ room.2))
+      (λ further. ⊎_elim (λ memory. absurd (memory-refused memory.2))
+      (λ faults. going-none state.stopped faults.0) further) lacks) may),
+  λ none. tt,
+)
+  where
+    other-refused : (need : ℕ) → Refused WriteFault ≡ Refused (NoSpace need 0) → ⊥
+    other-refused need same = cc
+
+    memory-refused : Refused WriteFault ≡ Refused Memory → ⊥
+    memory-refused same = cc
+
+-- so the step may be that it is done
+pub commit-may : (geometry : Geometry) (state : State) (entry : Entry) → Step geometry state entry
+    → IsCommit entry.what → Step geometry state (as_done entry)
+commit-may geometry state entry step is = ⊎_elim
+    (λ done. subst (λ (what : What). MayEnter geometry state entry.unit what) done step)
+    (λ failed. answered (subst (λ (what : What). MayEnter geometry state entry.unit what) failed
+    step)) is
+  where
+    answered : MayEnter geometry state entry.unit (Asked Commit (Refused WriteFault))
+        → MayEnter geometry state entry.unit (Asked Commit (DoneReply 0 None None))
+    answered may = (may.0, failed-may geometry state entry.unit may.1)
 
 -- a step in the midst of others
 pub step-at : (geometry : Geometry) (state : State) (before : List Entry) (entry : Entry)
@@ -151,13 +209,34 @@ add-not-done : (file : FileRef) (named : Option (List ℕ)) (bytes : List ℕ) (
     → IsDoneCommit (Asked (Add file named bytes) reply) → ⊥
 add-not-done file named bytes reply done = cc
 
--- nor among what a definition begins with
+get-not-done : (file : FileRef) (place : List ℕ) (reply : Reply)
+    → IsDoneCommit (Asked (Get file (Equal place) true Nri) reply) → ⊥
+get-not-done file place reply done = cc
+
+change-not-done : (file : FileRef) (bytes : Option (List ℕ)) (reply : Reply)
+    → IsDoneCommit (Asked (change_asked file bytes) reply) → ⊥
+change-not-done file None reply done = cc
+change-not-done file (Some bytes) reply done = cc
+
+-- nor among what a definition, or a change of an entry, begins with
 begun-not-done : (first more : List Entry) → AreBegun first → HaveDoneCommit (first ++ more)
     → HaveDoneCommit more
 begun-not-done first more begun done = ⊎_elim
     (λ none. subst (λ (them : List Entry). HaveDoneCommit (them ++ more)) none done)
-    (λ recorded. in-both recorded.0 recorded.1 recorded.2 recorded.3 recorded.4) begun
+    (λ begins. ⊎_elim
+    (λ recorded. in-both recorded.0 recorded.1 recorded.2 recorded.3 recorded.4)
+    (λ replaced. in-change replaced.0 replaced.1 replaced.2 replaced.3 replaced.4) begins) begun
   where
+    in-change : (unit : UnitOfRecovery) (place before : List ℕ) (bytes : Option (List ℕ))
+        → IsReplaced unit place before bytes first → HaveDoneCommit more
+    in-change unit place before bytes is = ⊎_elim
+        (λ gets. absurd (get-not-done is.file place _ (subst IsDoneCommit is.got_is gets)))
+        (λ rest. ⊎_elim
+        (λ changes. absurd
+        (change-not-done is.file bytes _ (subst IsDoneCommit is.change_is changes)))
+        (λ later. later) rest)
+        (subst (λ (them : List Entry). HaveDoneCommit (them ++ more)) is.made_are done)
+
     in-both : (unit : UnitOfRecovery) (part : PartNo) (area : AreaNo) (bytes : List ℕ)
         → IsRecorded unit part area bytes first → HaveDoneCommit more
     in-both unit part area bytes is = ⊎_elim

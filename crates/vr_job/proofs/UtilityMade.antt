@@ -1,25 +1,37 @@
 -- What an event of the utilities adds to the history of a volume, and what it leaves of the rest
--- that the record file has in memory; and one that enters nothing, or the fault of a write alone.
-use Rattle.std.proofs.Common.{◌≡◌, ◌<◌, ◌≤◌, ℕ, Bool, true, false, List, [], ◌∷◌, ◌++◌, All, ap}
-use Rattle.std.proofs.Common.{arith, max, refl, subst, sym}
+-- that the record file has in memory; one that enters nothing, or the fault of a write alone, or a
+-- stage of the catalog; and one that enters two entries, and ends their unit.
+use Rattle.std.proofs.Common.{◌≡◌, ◌∙◌, ◌+◌, ◌<◌, ◌≤◌, ◌||◌, ℕ, Bool, true, false, List, [], ◌∷◌}
+use Rattle.std.proofs.Common.{◌++◌, All, Option, Some, None, ap, append_assoc, arith, inl, inr, max}
+use Rattle.std.proofs.Common.{refl, subst, sym}
 use Rattle.std.specs.Prelude.{is_some}
 use Rattle.std.proofs.lemmas.List.{append-nil}
 use Rattle.std.proofs.lemmas.List.Elements.{All-cons, All-nil}
 use Rattle.vr_types.specs.Faults.{Faults}
 use Rattle.vr_types.specs.declared.fault.DeviceFault.TheVariants.{Write}
+use Rattle.vr_types.specs.declared.reply.Refusal.TheVariants.{WriteFault}
+use Rattle.vr_types.specs.declared.reply.Reply.TheVariants.{Done as DoneReply, Refused}
+use Rattle.vr_types.specs.declared.request.Request.TheVariants.{Commit}
+use Rattle.vr_types.specs.declared.unit.AreaNo.{AreaNo}
 use Rattle.vr_types.specs.declared.unit.Unit.{Unit as UnitOfRecovery}
+use Rattle.vr_history.proofs.CallerLemmas.{last_stamp-append}
 use Rattle.vr_history.specs.Merged.{last_stamp}
 use Rattle.vr_history.specs.declared.entry.Entry.{Entry}
-use Rattle.vr_history.specs.declared.entry.What.TheVariants.{Faulted}
-use Rattle.vr_record_file.specs.Now.{FileNow, entry_next, faulted, has_deck}
+use Rattle.vr_history.specs.declared.entry.What.TheVariants.{Asked, Claimed, Faulted, Split}
+use Rattle.vr_ledger.specs.Entries.{IsOf}
+use Rattle.vr_record_file.specs.Now.{FileNow, ended, entry_next, failed, faulted, has_deck, number_of}
+use Rattle.vr_record_file.specs.Now.{with_event}
+use Rattle.vr_record_file.specs.declared.numbers.DeckNumber.{DeckNumber}
 use Rattle.vr_ams_define.specs.Grown.{IsOfCommand}
-use Rattle.vr_event.specs.Defining.{utility_unit}
+use Rattle.vr_event.proofs.CallerLemmas.{raised-decks, raised-others}
+use Rattle.vr_event.specs.Defining.{catalog_part, utility_unit}
 use Rattle.vr_event.specs.Made.{AreNext}
+use Rattle.vr_event.specs.Staging.{stage_entered}
 use Rattle.vr_job.specs.Catalogs.{catalog_by}
-use Rattle.vr_job.specs.Faultless.{has_stopped}
-use Rattle.vr_job.specs.ReadFaults.{read_faults}
+use Rattle.vr_job.specs.Faultless.{has_stopped, is_stop}
+use Rattle.vr_job.specs.ReadFaults.{read_fault, read_faults}
 use Rattle.vr_job.specs.Serving.{ShowUndoing}
-use Rattle.vr_job.proofs.Undoing.{fault-shows}
+use Rattle.vr_job.proofs.Undoing.{asked-shows, fault-shows, step-shows}
 
 -- ---- the history
 
@@ -132,3 +144,197 @@ module _ (after line : ℕ) (old : FileNow) where
       → HasMadeBy fails after line old new
   still-by false new is = subst (HasMadeBy false after line old) (sym is) made-same
   still-by true new is = subst (HasMadeBy true after line old) (sym is) made-faulted
+
+  -- ---- a stage of the catalog
+
+  -- an entry of its unit is of deck 0
+  pub one-of : (entry : Entry) → entry.unit ≡ utility_unit old → All (IsOf 0) (entry ∷ [])
+  one-of entry is = All-cons (IsOf 0) entry [] (ap (λ (u : UnitOfRecovery). u.deck) is)
+      (All-nil (IsOf 0))
+
+  made-claimed : (area : AreaNo)
+      → HasMadeBy false after line old
+      (with_event after (utility_unit old) line (Claimed catalog_part area) old)
+  made-claimed area = record {
+    made = entry ∷ [];
+    entries = refl;
+    next = (refl, tt);
+    own = All-cons Own entry [] (refl, refl) (All-nil Own);
+    geometry = refl;
+    catalog = refl;
+    decks = λ deck. refl;
+    unread = refl;
+    has_stop = refl;
+    stays = λ is. refl;
+    stops = λ is. absurd (false-true is);
+    shows = λ shows. step-shows old
+        (with_event after (utility_unit old) line (Claimed catalog_part area) old) entry refl refl
+        shows (utility_unit old) line Commit (refl, refl, inr (inl (catalog_part, area, refl))) refl
+        (one-of entry refl);
+  }
+    where
+      entry : Entry
+      entry = entry_next old.entries after (utility_unit old) line (Claimed catalog_part area)
+
+  made-split : HasMadeBy false after line old
+      (with_event after (utility_unit old) line (Split catalog_part) old)
+  made-split = record {
+    made = entry ∷ [];
+    entries = refl;
+    next = (refl, tt);
+    own = All-cons Own entry [] (refl, refl) (All-nil Own);
+    geometry = refl;
+    catalog = refl;
+    decks = λ deck. refl;
+    unread = refl;
+    has_stop = refl;
+    stays = λ is. refl;
+    stops = λ is. absurd (false-true is);
+    shows = λ shows. step-shows old
+        (with_event after (utility_unit old) line (Split catalog_part) old) entry refl refl shows
+        (utility_unit old) line Commit (refl, refl, inl (catalog_part, refl)) refl
+        (one-of entry refl);
+  }
+    where
+      entry : Entry
+      entry = entry_next old.entries after (utility_unit old) line (Split catalog_part)
+
+  pub made-staged : (split : Bool) (taken : Option AreaNo) → HasMadeBy false after line old
+      (stage_entered after (utility_unit old) line catalog_part split taken old)
+  made-staged split (Some area) = made-claimed area
+  made-staged true None = made-split
+  made-staged false None = made-same
+
+-- ---- an event that ends a unit
+
+-- Two entries were made, the next ones, of a unit that goes on.
+pub record IsBegunBy (after line : ℕ) (old begun : FileNow) (first second : Entry) : Type 0 where
+  pub entries : begun.entries ≡ (old.entries ++ first ∷ []) ++ second ∷ []
+  pub first_next : first.stamp ≡ max (last_stamp 0 old.entries) after + 1
+  pub second_next : second.stamp ≡ first.stamp + 1
+  pub first_own : IsOfCommand line first
+  pub second_own : IsOfCommand line second
+  pub geometry : begun.geometry ≡ old.geometry
+  pub catalog : begun.catalog ≡ catalog_by old.catalog (first ∷ second ∷ [])
+  pub numbers : begun.numbers ≡ old.numbers
+  pub stopped : begun.stopped ≡ old.stopped
+  pub first_read : read_fault first.what ≡ 0
+  pub second_read : read_fault second.what ≡ 0
+  pub first_goes : is_stop first.what ≡ false
+  pub second_goes : is_stop second.what ≡ false
+  pub shows : ShowUndoing old → ShowUndoing begun
+
+module _ (after line : ℕ) (old begun : FileNow) (first second : Entry)
+    (is : IsBegunBy after line old begun first second) where
+  abbrev unit : UnitOfRecovery
+  unit = utility_unit old
+
+  -- its COMMIT is done
+  abbrev commit : Entry
+  commit = entry_next begun.entries 0 unit line (Asked Commit (DoneReply 0 None None))
+
+  -- or refused, since a write failed, and that fault stops the volume
+  abbrev refused : Entry
+  refused = entry_next begun.entries 0 unit line (Asked Commit (Refused WriteFault))
+
+  abbrev fault : Entry
+  fault = entry_next (begun.entries ++ refused ∷ []) 0 unit line (Faulted Write)
+
+  last-is : last_stamp 0 begun.entries ≡ second.stamp
+  last-is = ap (last_stamp 0) is.entries ∙ last_stamp-append 0 (old.entries ++ first ∷ []) second
+
+  both-more : (more : List Entry)
+      → begun.entries ++ more ≡ old.entries ++ (first ∷ second ∷ more)
+  both-more more = ap (λ (es : List Entry). es ++ more) is.entries
+      ∙ append_assoc (old.entries ++ first ∷ []) (second ∷ []) more
+      ∙ append_assoc old.entries (first ∷ []) (second ∷ more)
+
+  current : unit ≡ utility_unit begun
+  current = ap (λ (them : List DeckNumber). record { deck = 0; number = number_of them 0 })
+      (sym is.numbers)
+
+  both-own : (more : List Entry) → All (IsOfCommand line) more
+      → All (IsOfCommand line) (first ∷ second ∷ more)
+  both-own more own = All-cons (IsOfCommand line) first (second ∷ more) is.first_own
+      (All-cons (IsOfCommand line) second more is.second_own own)
+
+  pub made-ended : HasMadeBy false after line old
+      (with_event 0 unit line (Asked Commit (DoneReply 0 None None)) (ended unit begun))
+  made-ended = record {
+    made = first ∷ second ∷ commit ∷ [];
+    entries = both-more (commit ∷ []);
+    next = (is.first_next, (is.second_next, (omega (arith, last-is), tt)));
+    own = both-own (commit ∷ [])
+        (All-cons (IsOfCommand line) commit [] (refl, refl) (All-nil (IsOfCommand line)));
+    geometry = is.geometry;
+    catalog = is.catalog;
+    decks = λ deck. raised-decks 0 deck begun.numbers ∙ ap (has_deck deck) is.numbers;
+    unread = omega (arith, is.first_read, is.second_read);
+    has_stop = ap (λ (b : Bool). b || (is_stop second.what || false)) is.first_goes
+        ∙ ap (λ (b : Bool). b || false) is.second_goes;
+    stays = λ calm. is.stopped;
+    stops = λ fails. absurd (false-true fails);
+    shows = λ shows. asked-shows unit line Commit begun
+        (with_event 0 unit line (Asked Commit (DoneReply 0 None None)) (ended unit begun))
+        (commit ∷ []) refl
+        (record {
+          reply = DoneReply 0 None None;
+          entry = commit;
+          rest = [];
+          is = refl;
+          unit_is = refl;
+          line_is = refl;
+          what_is = refl;
+          follows = inl refl;
+        }) (one-of after line old commit refl)
+        (λ other differs. raised-others 0 other begun.numbers differs) current (is.shows shows);
+  }
+
+  pub made-in-doubt : HasMadeBy true after line old (failed 0 unit line Commit begun)
+  made-in-doubt = record {
+    made = first ∷ second ∷ refused ∷ fault ∷ [];
+    entries = append_assoc begun.entries (refused ∷ []) (fault ∷ [])
+        ∙ both-more (refused ∷ fault ∷ []);
+    next = (
+      is.first_next,
+      (
+        is.second_next,
+        (
+          omega (arith, last-is),
+          (omega (arith, last_stamp-append 0 begun.entries refused), tt),
+        ),
+      ),
+    );
+    own = both-own (refused ∷ fault ∷ [])
+        (All-cons (IsOfCommand line) refused (fault ∷ []) (refl, refl)
+        (All-cons (IsOfCommand line) fault [] (refl, refl) (All-nil (IsOfCommand line))));
+    geometry = is.geometry;
+    catalog = is.catalog;
+    decks = λ deck. ap (has_deck deck) is.numbers;
+    unread = omega (arith, is.first_read, is.second_read);
+    has_stop = ap (λ (b : Bool). b || (is_stop second.what || true)) is.first_goes
+        ∙ ap (λ (b : Bool). b || true) is.second_goes;
+    stays = λ calm. absurd (false-true (sym calm));
+    stops = λ fails. refl;
+    shows = λ shows. asked-shows unit line Commit begun (failed 0 unit line Commit begun)
+        (refused ∷ fault ∷ []) (append_assoc begun.entries (refused ∷ []) (fault ∷ []))
+        (record {
+          reply = Refused WriteFault;
+          entry = refused;
+          rest = fault ∷ [];
+          is = refl;
+          unit_is = refl;
+          line_is = refl;
+          what_is = refl;
+          follows = inr (record {
+            refused = refl;
+            fault = fault;
+            is = refl;
+            unit_is = refl;
+            line_is = refl;
+            what_is = refl;
+          });
+        })
+        (All-cons (IsOf 0) refused (fault ∷ []) refl (one-of after line old fault refl))
+        (λ other differs. refl) current (is.shows shows);
+  }

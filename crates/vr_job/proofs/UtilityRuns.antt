@@ -1,7 +1,8 @@
 -- What an event of the utilities leaves of a run, from each opening; and one that enters nothing,
 -- or the fault of a write alone.
-use Rattle.std.proofs.Common.{◌≡◌, ◌≢◌, ◌∙◌, inl, inr, ℕ, List, [], ◌∷◌, ◌++◌, None, All, ap}
-use Rattle.std.proofs.Common.{append_assoc, refl, subst, sym, ⊎_elim}
+use Rattle.std.proofs.Common.{◌≡◌, ◌≢◌, ◌∙◌, ◌==◌, inl, inr, ℕ, Bool, true, false, List, [], ◌∷◌}
+use Rattle.std.proofs.Common.{◌++◌, None, All, ap, append_assoc, if◌then◌else◌, refl, subst, sym}
+use Rattle.std.proofs.Common.{⊎_elim}
 use Rattle.std.specs.List.{AllByRecursion}
 use Rattle.std.proofs.lemmas.List.{append-nil}
 use Rattle.std.proofs.lemmas.List.Elements.{All-contains, All-head, All-tail}
@@ -11,31 +12,56 @@ use Rattle.vr_types.specs.Moments.{Guards}
 use Rattle.vr_types.specs.Seen.{Left, Seen}
 use Rattle.vr_types.specs.declared.geometry.Geometry.{Geometry}
 use Rattle.vr_types.proofs.CallerLemmas.{guards-then, guards-weaken}
+use Rattle.vr_catalog.specs.Catalog.{entries_in}
+use Rattle.vr_catalog.specs.declared.entry.CatEntry.{CatEntry}
+use Rattle.vr_history.specs.Change.{Change}
+use Rattle.vr_history.specs.Committed.{changed}
 use Rattle.vr_history.specs.Legal.{state_of}
+use Rattle.vr_history.specs.Opened.{catalog_of}
 use Rattle.vr_history.specs.State.{State}
 use Rattle.vr_history.specs.Step.{state_after}
 use Rattle.vr_history.specs.declared.entry.Entry.{Entry}
 use Rattle.vr_record_file.specs.Now.{state_now}
 use Rattle.vr_event.specs.Volume.{IsHeld, IsWhole, VolumeNow}
 use Rattle.vr_volume.specs.Crashes.{RecoversTo}
-use Rattle.vr_job.specs.Committed.{KeepTheCatalog, MayChange}
+use Rattle.vr_job.specs.Catalogs.{catalog_after, catalog_told}
+use Rattle.vr_job.specs.Committed.{KeepTheCatalog, KeepsCatalog, MayChange}
 use Rattle.vr_job.specs.Crash.{IsLeftBy}
 use Rattle.vr_job.specs.Events.{HasStopped, IsEvent, IsLeftWhile, IsOfEvents, KeepsAtRest}
 use Rattle.vr_job.specs.Events.{LeavesAtRest, OwnsAtRest}
 use Rattle.vr_job.specs.Going.{HasRun}
+use Rattle.vr_job.proofs.CatalogChanges.{catalog-changed}
 use Rattle.vr_job.proofs.Crashing.{held-left, left-more, left-while}
 use Rattle.vr_job.proofs.Keeping.{keep-then}
 use Rattle.vr_job.proofs.Kept.{AreSized, held-kept}
 use Rattle.vr_job.proofs.Owning.{held-owners}
 use Rattle.vr_job.proofs.UtilityEvents.{HasSpace, IsStill, IsStillMade, IsUtilityMade}
 
+-- what an entry doesn't make of a catalog, it doesn't make by a unit of the utilities either
+pub after-same : (entry : Entry) (catalog : List CatEntry)
+    → catalog_told entry.what catalog ≡ catalog → catalog_after entry catalog ≡ catalog
+after-same entry catalog same = by_test (entry.unit.deck == 0)
+  where
+    by_test : (b : Bool) → (if b then catalog_told entry.what catalog else catalog) ≡ catalog
+    by_test true = same
+    by_test false = refl
+
 -- entries that change no record keep the catalog
+pub still-one : (geometry : Geometry) (state : State) (entry : Entry) → IsStill entry
+    → KeepsCatalog geometry state entry
+still-one geometry state entry still = record {
+  may = subst (AllByRecursion (MayChange state entry.unit)) (sym (still.changes geometry state)) tt;
+  makes = ap entries_in (catalog-changed geometry state entry.unit entry.stamp entry.what
+      ∙ ap (λ (changes : List Change). changed state.contents changes 0)
+      (still.changes geometry state))
+      ∙ sym (after-same entry (catalog_of state) (still.tells (catalog_of state)));
+}
+
 pub still-keep : (geometry : Geometry) (state : State) (entries : List Entry) → All IsStill entries
     → KeepTheCatalog geometry state entries
 still-keep geometry state [] still = tt
 still-keep geometry state (entry ∷ entries) still = (
-  subst (AllByRecursion (MayChange state entry.unit))
-      (sym (All-head IsStill entry entries still geometry state)) tt,
+  still-one geometry state entry (All-head IsStill entry entries still),
   still-keep geometry (state_after geometry state entry) entries
       (All-tail IsStill entry entries still),
 )
@@ -49,9 +75,7 @@ while-left geometry number opening entries made image is = record {
   after = is.rest;
   is = ap (λ (es : List Entry). entries ++ es) is.made_are
       ∙ sym (append_assoc entries is.first is.rest);
-  counted = is.counted;
-  commits = is.commits;
-  recovers = is.recovers;
+  left = is.left;
 }
 
 module _ {B : Type 0} (seen : B → Seen) (faults : B → Faults) (old new : VolumeNow B)

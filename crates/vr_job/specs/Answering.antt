@@ -1,11 +1,13 @@
 -- How a volume answers to a command of IDCAMS, and when: what an event of vr_event promises of it.
 -- The rules are this project's own.
-use Rattle.std.specs.Prelude.{◌≡◌, ℕ, Bool, IsTrue, None, Ok}
+use Rattle.std.specs.Prelude.{◌≡◌, ℕ, Bool, IsTrue, None, Ok, Option}
 use Rattle.vr_types.specs.Faults.{Faults}
 use Rattle.vr_types.specs.Seen.{Seen}
 use Rattle.vr_catalog.specs.declared.entry.CatEntry.{CatEntry}
 use Rattle.vr_ams_define.specs.Answers.{Exchange}
-use Rattle.vr_ams_define.specs.Answers.Exchange.{Counting, Defining}
+use Rattle.vr_ams_define.specs.Answers.Exchange.{Changing, Counting, Defining}
+use Rattle.vr_ams_define.specs.declared.answer.Changed.{Changed}
+use Rattle.vr_ams_define.specs.declared.answer.Changed.TheVariants as changes
 use Rattle.vr_ams_define.specs.declared.answer.Counted.{Counted}
 use Rattle.vr_ams_define.specs.declared.answer.Counted.TheVariants as numbers
 use Rattle.vr_ams_define.specs.declared.answer.Defined.{Defined}
@@ -13,11 +15,15 @@ use Rattle.vr_ams_define.specs.declared.answer.Defined.TheVariants as answers
 use Rattle.vr_event.specs.Defining.{HasDefineFaults, utility_unit}
 use Rattle.vr_event.specs.DefineSteps.{HasCome, LacksRoomWhere}
 use Rattle.vr_event.specs.Counts.{AreCounts, CountedBy as CountedFor, HasCountFaults}
+use Rattle.vr_event.specs.EntryChange.{HasChangeFaults}
+use Rattle.vr_event.specs.EntryChangeSteps.{HasChangeCome}
 use Rattle.vr_event.specs.Volume.{IsHeld, VolumeNow}
 use Rattle.vr_event.specs.declared.counts.Count.{Count}
 use Rattle.vr_event.specs.declared.counts.Count.TheVariants as counts
 use Rattle.vr_event.specs.declared.define.Define.{Define}
 use Rattle.vr_event.specs.declared.define.Define.TheVariants as events
+use Rattle.vr_event.specs.declared.entry_change.EntryChange.{EntryChange}
+use Rattle.vr_event.specs.declared.entry_change.EntryChange.TheVariants as changing
 use Rattle.vr_history.specs.State.{State}
 use Rattle.vr_record_file.specs.Now.{FileNow, state_now}
 use Rattle.vr_job.specs.Going.{WentOn}
@@ -76,9 +82,34 @@ pub record IsCountedIn {B : Type 0} (tells : Bool) (seen : B → Seen) (faults :
       → IsCountOf event entry opening ready.file
   pub cause : HasCountFaults (faults ready.blocks) (faults new.blocks) (Ok event)
 
+-- what an event of a change came to, as its command has it
+abbrev pub changed_of : EntryChange → Changed
+changed_of changing.Done = changes.Done
+changed_of changing.Again = changes.Again
+changed_of changing.Held = changes.Held
+changed_of changing.Live = changes.Live
+changed_of changing.Full = changes.Full
+changed_of (changing.Fault fault) = changes.Fault fault
+
+-- A change of an entry: so it was made ready, and in one event came to this answer.
+pub record IsChangedIn {B : Type 0} (tells : Bool) (seen : B → Seen) (faults : B → Faults)
+    (old : VolumeNow B) (line : ℕ) (entry : CatEntry) (to : Option CatEntry) (answer : Changed)
+    (new : VolumeNow B) : Type 0 where
+  pub ready : VolumeNow B
+  pub stays : StaysServing tells seen faults old ready
+  pub going : ready.file.stopped ≡ None
+  pub went : WentOn tells seen faults ready new
+  pub after : ℕ
+  pub event : EntryChange
+  pub answer_is : answer ≡ changed_of event
+  pub come : HasChangeCome seen after (utility_unit ready.file) line entry to (Ok event) ready new
+  pub cause : HasChangeFaults (faults ready.blocks) (faults new.blocks) (Ok event)
+
 abbrev pub IsAnswered : {B : Type 0} → Bool → (B → Seen) → (B → Faults) → VolumeNow B → ℕ
     → Exchange → VolumeNow B → Type 0
 IsAnswered tells seen faults old line (Defining entry answer) new =
     IsDefinedIn tells seen faults old line entry answer new
 IsAnswered tells seen faults old line (Counting entry counted) new =
     IsCountedIn tells seen faults old line entry counted new
+IsAnswered tells seen faults old line (Changing entry to answer) new =
+    IsChangedIn tells seen faults old line entry to answer new

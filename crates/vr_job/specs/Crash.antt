@@ -34,13 +34,29 @@ AreInCommit counted entries = (counted ≡ [])
     ⊎ ((entry : Entry) × (rest : List Entry) × (entries ≡ entry ∷ rest) × IsCommit entry.what
     × (counted ≡ entry.unit ∷ []))
 
--- The image recovers to what is committed by the first entries of a history, perhaps with the unit
--- that is in its commit then.
+-- the COMMIT as it is once it is done
+abbrev pub as_done : Entry → Entry
+as_done entry = record entry { what = Asked Commit (Done 0 None None) }
+
+-- The image recovers to what is committed by some first entries of a history, before these ones:
+-- perhaps with the unit that is in its commit then. Or, where that is a unit of the utilities, to what
+-- is committed once its COMMIT is done, whatever it is answered: what a part had that goes with its
+-- entry goes with that COMMIT.
+pub data IsLeftAt (geometry : Geometry) (number : ℕ) (opening : State) (before after : List Entry)
+    (image : Image) : Type 0 where
+  Counted : (counted : List UnitOfRecovery) → AreInCommit counted after
+      → RecoversTo geometry number (state_of geometry opening before) counted image
+      → IsLeftAt geometry number opening before after image
+  Ended : (entry : Entry) (rest : List Entry) → after ≡ entry ∷ rest → entry.unit.deck ≡ 0
+      → IsCommit entry.what
+      → RecoversTo geometry number (state_of geometry opening (before ++ as_done entry ∷ [])) []
+      image
+      → IsLeftAt geometry number opening before after image
+
+-- So it is for some first entries of the history.
 pub record IsLeftBy (geometry : Geometry) (number : ℕ) (opening : State) (entries : List Entry)
     (image : Image) : Type 0 where
   pub before : List Entry
   pub after : List Entry
   pub is : entries ≡ before ++ after
-  pub counted : List UnitOfRecovery
-  pub commits : AreInCommit counted after
-  pub recovers : RecoversTo geometry number (state_of geometry opening before) counted image
+  pub left : IsLeftAt geometry number opening before after image

@@ -1,6 +1,6 @@
 -- The events of a run on a volume, one after another: what a crash leaves while each goes on, and once
 -- it is over. The rules are this project's own.
-use Rattle.std.specs.Prelude.{◌≡◌, ◌⊎◌, ◌<◌, ◌≤◌, ◌+◌, ℕ, List, [], ◌∷◌, ◌++◌, None, flat_map}
+use Rattle.std.specs.Prelude.{◌≡◌, ◌⊎◌, ◌<◌, ◌≤◌, ◌+◌, ℕ, List, [], ◌∷◌, ◌++◌, None, Option, flat_map}
 use Rattle.std.specs.Prelude.{All, Contains, length}
 use Rattle.vr_types.specs.Faults.{Faults}
 use Rattle.vr_types.specs.Image.{Image}
@@ -14,15 +14,14 @@ use Rattle.vr_types.specs.declared.reply.Reply.TheVariants.{Refused}
 use Rattle.vr_types.specs.declared.request.Request.{Request}
 use Rattle.vr_types.specs.declared.unit.AreaNo.{AreaNo}
 use Rattle.vr_types.specs.declared.unit.PartNo.{PartNo}
-use Rattle.vr_types.specs.declared.unit.Unit.{Unit as UnitOfRecovery}
 use Rattle.vr_history.specs.Legal.{state_of}
 use Rattle.vr_history.specs.Merged.{request_in}
 use Rattle.vr_history.specs.State.{State}
 use Rattle.vr_history.specs.declared.entry.Entry.{Entry}
 use Rattle.vr_history.specs.declared.entry.What.TheVariants.{Asked, Faulted}
 use Rattle.vr_volume.specs.Crashes.{RecoversTo}
-use Rattle.vr_job.specs.Crash.{AreInCommit, HaveDoneCommit}
-use Rattle.vr_job.specs.Definitions.{AreBegun, IsCatalogStage, IsDefinition}
+use Rattle.vr_job.specs.Crash.{HaveDoneCommit, IsLeftAt}
+use Rattle.vr_job.specs.Definitions.{AreBegun, IsCatalogStage, IsDefinition, IsEntryChange}
 use Rattle.vr_job.specs.Faultless.{AreFaultless}
 use Rattle.vr_job.specs.Kept.{KeepsItems}
 use Rattle.vr_job.specs.Lacking.{LacksArea}
@@ -42,18 +41,15 @@ abbrev pub requests_in : List Entry → List Bound
 requests_in entries = flat_map (λ (entry : Entry). request_in 0 entry.line entry.what) entries
 
 -- While an event goes on, an image recovers to what is committed by the history before it, perhaps
--- with the unit whose COMMIT it enters; of a definition, with the area and the record that it
--- enters before.
+-- with the unit whose COMMIT it enters; of a definition, or a change of an entry, after what it enters
+-- before.
 pub record IsLeftWhile (geometry : Geometry) (number : ℕ) (opening : State)
     (entries made : List Entry) (image : Image) : Type 0 where
   pub first : List Entry
   pub rest : List Entry
   pub made_are : made ≡ first ++ rest
   pub begun : AreBegun first
-  pub counted : List UnitOfRecovery
-  pub commits : AreInCommit counted rest
-  pub recovers : RecoversTo geometry number (state_of geometry opening (entries ++ first)) counted
-      image
+  pub left : IsLeftAt geometry number opening (entries ++ first) rest image
 
 -- As long as the volume hasn't stopped, each image that a crash may leave recovers to what is committed
 -- by its history.
@@ -83,7 +79,7 @@ LackAreas geometry state now made = (entry : Entry) → Contains made entry
     → LacksArea geometry state entry.unit now request need free
 
 -- A request is refused since a write failed, and the fault, of its unit and line, stops the volume;
--- of a definition the request is the COMMIT of its unit.
+-- of a definition, and of a change of an entry, the request is the COMMIT of its unit.
 pub record IsStopAfter (made : List Entry) : Type 0 where
   pub before : List Entry
   pub begun : AreBegun before
@@ -124,14 +120,15 @@ pub record HasStopped (geometry : Geometry) (number : ℕ) (opening : State) (en
 abbrev pub FaultsFollow : List Entry → Type 0
 FaultsFollow made = IsStop made ⊎ AreFaultless made
 
--- What the utilities enter in an event: a definition, or one in which a write failed, or stages of
--- the catalog, or nothing.
-abbrev pub DefinesAtMost : List Entry → Type 0
-DefinesAtMost made = ((part : PartNo) × (area : AreaNo) × (bytes : List ℕ)
+-- What the utilities enter in an event: a definition, or a change of an entry, or either of them in
+-- which a write failed, or stages of the catalog, or nothing.
+abbrev pub ChangesCatalogAtMost : List Entry → Type 0
+ChangesCatalogAtMost made = ((part : PartNo) × (area : AreaNo) × (bytes : List ℕ)
     × IsDefinition part area bytes made)
-    ⊎ (IsStop made ⊎ All IsCatalogStage made)
+    ⊎ (((before : List ℕ) × (bytes : Option (List ℕ)) × IsEntryChange before bytes made)
+    ⊎ (IsStop made ⊎ All IsCatalogStage made))
 
--- It answered one request at most, beside those with which a definition begins.
+-- It answered one request at most, beside those with which a definition or a change of an entry begins.
 pub record AnswersOnce (made : List Entry) : Type 0 where
   pub first : List Entry
   pub rest : List Entry
@@ -140,8 +137,9 @@ pub record AnswersOnce (made : List Entry) : Type 0 where
   pub once : length (requests_in rest) ≤ 1
 
 -- An event, with the blocks and the history as it left them: all that it entered is of the deck
--- that asked for it, and the utilities do nothing but define; it answered one request at most, or
--- defined a cluster; it touched no block, or each image at each moment of it is as above; and it
+-- that asked for it, and the utilities do nothing but change the catalog; it answered one request at
+-- most, or defined a cluster, or changed an entry; it touched no block, or each image at each moment
+-- of it is as above; and it
 -- leaves the volume at rest, with the items of the state wherever no live unit changed them, and
 -- each part as the owner of the areas that the history gives it. A fault is entered after a request
 -- alone that was answered 905. Where a COMMIT was answered 0, its unit is in every image that a
@@ -154,7 +152,7 @@ pub record IsEvent {B : Type 0} (seen : B → Seen) (counts : B → Faults) (geo
     (number : ℕ) (opening : State) (event : Event B) (now : B) (entries : List Entry) : Type 0 where
   pub entries_are : entries ≡ event.entries ++ event.made
   pub own : All (λ (entry : Entry). entry.unit.deck ≡ event.deck) event.made
-  pub utilities : event.deck ≡ 0 → DefinesAtMost event.made
+  pub utilities : event.deck ≡ 0 → ChangesCatalogAtMost event.made
   pub once : AnswersOnce event.made
   pub during : (now ≡ event.blocks) ⊎ Guards (seen event.blocks) (seen now)
       (IsLeftWhile geometry number opening event.entries event.made)

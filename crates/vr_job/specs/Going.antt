@@ -52,7 +52,7 @@ pub record GoesOn {B : Type 0} (seen : B → Seen) (faults : B → Faults) (old 
   pub shows : ShowsStop old.file → ShowsStop new.file
 
 -- What goes on where it does, from an opening and the blocks as they were then: the history is
--- legal, gives what the volume has, and adds to the catalog alone; each image at each moment since
+-- legal, gives what the volume has, and makes its catalog; each image at each moment since
 -- is left by the history, and so it is event by event; and where the volume has stopped, by the
 -- event in which it did.
 pub record HasRun {B : Type 0} (seen : B → Seen) (faults : B → Faults) (opening : State)

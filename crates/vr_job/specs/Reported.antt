@@ -1,7 +1,8 @@
 -- What the steps of IDCAMS of a job report, by what the volumes had as each of them ran. The rules
 -- are this project's own.
 use Rattle.std.specs.Prelude.{◌≡◌, ◌≢◌, ◌≤◌, ◌+◌, ◌∷◌, ◌++◌, ℕ, All, Bool, IsTrue, List, [], None}
-use Rattle.std.specs.Prelude.{Some, drop, length, slice_get, take}
+use Rattle.std.specs.Prelude.{Option, Some, drop, length, slice_get, take}
+use Rattle.std.specs.Option.{option_map}
 use Rattle.vr_types.specs.LogSpace.{IsLogFull, log_size}
 use Rattle.vr_types.specs.Locks.{first_conflict}
 use Rattle.vr_types.specs.declared.request.Request.TheVariants.{Commit}
@@ -14,10 +15,14 @@ use Rattle.vr_history.specs.Step.{case_of}
 use Rattle.vr_record_file.specs.Defining.{entry_name, need_to_define}
 use Rattle.vr_event.specs.Counts.{AreCounts}
 use Rattle.vr_event.specs.Defining.{entry_place}
+use Rattle.vr_event.specs.EntryChange.{log_for_change}
 use Rattle.vr_event.specs.declared.counts.Counts.{Counts}
 use Rattle.vr_trace.specs.declared.statistics.Statistics.{Statistics}
 use Rattle.vr_ams_define.specs.Answers.{Exchange, IsShownAfter, IsShownCounted}
-use Rattle.vr_ams_define.specs.Answers.Exchange.{Counting, Defining}
+use Rattle.vr_ams_define.specs.Answers.Exchange.{Changing, Counting, Defining}
+use Rattle.vr_ams_define.specs.EntryChanges.{IsShownChanged}
+use Rattle.vr_ams_define.specs.declared.answer.Changed.{Changed}
+use Rattle.vr_ams_define.specs.declared.answer.Changed.TheVariants as changes
 use Rattle.vr_ams_define.specs.declared.answer.Counted.{Counted}
 use Rattle.vr_ams_define.specs.declared.answer.Counted.TheVariants as counts
 use Rattle.vr_ams_define.specs.declared.answer.Defined.{Defined}
@@ -38,7 +43,7 @@ use Rattle.vr_job_text.specs.declared.job.UtilityStep.{UtilityStep}
 use Rattle.vr_trace.specs.declared.report.StepReport.{StepReport}
 use Rattle.vr_worker.specs.Steps.{AreOfSteps}
 use Rattle.vr_job.specs.Catalogs.{catalog_by}
-use Rattle.vr_job.specs.Definitions.{IsDefinition}
+use Rattle.vr_job.specs.Definitions.{IsDefinition, IsEntryChange}
 pub use Rattle.vr_job.specs.Definitions.{IsCatalogStage}
 use Rattle.vr_job.specs.Events.{IsStop}
 use Rattle.vr_job.specs.Faultless.{has_stopped}
@@ -109,9 +114,24 @@ CountedBy (counts.Done numbers) made = made ≡ []
 CountedBy (counts.Fault Read) made = made ≡ []
 CountedBy (counts.Fault Write) made = IsStop made
 
+-- The change of the entry is entered where it is done, stages of the catalog where it is to be asked
+-- again, a stop where a write failed, and nothing where it is refused.
+abbrev pub record_of : Option CatEntry → Option (List ℕ)
+record_of to = option_map spelling to
+
+abbrev pub ChangedBy : Changed → CatEntry → Option CatEntry → List Entry → Type 0
+ChangedBy changes.Done entry to made = IsEntryChange (spelling entry) (record_of to) made
+ChangedBy changes.Again entry to made = All IsCatalogStage made
+ChangedBy changes.Held entry to made = made ≡ []
+ChangedBy changes.Live entry to made = made ≡ []
+ChangedBy changes.Full entry to made = made ≡ []
+ChangedBy (changes.Fault Read) entry to made = made ≡ []
+ChangedBy (changes.Fault Write) entry to made = IsStop made
+
 abbrev pub MadeBy : Exchange → List Entry → Type 0
 MadeBy (Defining entry answer) made = DefinedBy answer entry made
 MadeBy (Counting entry counted) made = CountedBy counted made
+MadeBy (Changing entry to answer) made = ChangedBy answer entry to made
 
 -- ---- and by the state that its history gives
 
@@ -152,14 +172,26 @@ CountCause (counts.Done numbers) entry at = (counts : Counts)
     × AreCounts (state_at at) at.entries entry counts × (numbers ≡ numbers_of counts)
 CountCause (counts.Fault fault) entry at = Unit {0}
 
+-- Why a change is refused: a unit of recovery is live; a lock is on the place of the record; the log has
+-- no room for the change.
+abbrev pub ChangeCause : Changed → CatEntry → VolumeAt → Type 0
+ChangeCause changes.Live entry at = (state_at at).logged ≢ []
+ChangeCause changes.Held entry at = first_conflict (state_at at).locks
+    (utility_unit_in (state_at at)) Exclusive (entry_name (entry_place entry)) ≢ None
+ChangeCause changes.Full entry at =
+    IsLogFull at.geometry (state_at at).used (log_for_change entry)
+ChangeCause answer entry at = Unit {0}
+
 abbrev pub CauseBy : Exchange → VolumeAt → Type 0
 CauseBy (Defining entry answer) at = DefineCause answer entry at
 CauseBy (Counting entry counted) at = CountCause counted entry at
+CauseBy (Changing entry to answer) at = ChangeCause answer entry at
 
 -- what a volume shows then
 abbrev pub IsShownBy : Exchange → Shown → Shown → Type 0
 IsShownBy (Defining entry answer) old new = IsShownAfter answer entry old new
 IsShownBy (Counting entry counted) old new = IsShownCounted counted old new
+IsShownBy (Changing entry to answer) old new = IsShownChanged answer entry to old new
 
 -- What it enters is the utilities' own, on the line of the command; it shows what its answer leaves,
 -- and has the shape and the opening that it had; and where the device reports its contents, the

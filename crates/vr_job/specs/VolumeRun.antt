@@ -53,7 +53,7 @@ opening_of contents owners = opening_state contents (owned_in owners)
 -- was withdrawn is where the blocks had it, and where an added record of an entry-sequenced part
 -- was put back, and nowhere else; and a part that isn't laid has nothing. An area is owned by the
 -- part of the catalog that reaches it once it is opened, and by no other, and else it is free; the
--- history is legal from its opening, and its entries add to the catalog at most; and each image of
+-- history is legal from its opening, and its entries make the catalog as it says; and each image of
 -- each moment is one that a crash left before, or recovers to the records of the contents and
 -- keeps what is withdrawn in them where the log had nothing to put back, or is left by the
 -- history. No fault came as it was opened. From the end of its opening on the run is events, in

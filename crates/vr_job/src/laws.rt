@@ -21,7 +21,7 @@ ghost use Rattle.vr_recover.specs.Recovered.{KeepsAll};
 ghost use Rattle.vr_volume.specs.Crashes.{IsUnlogged, RecoversTo};
 ghost use Rattle.vr_trace.specs.Growing.{IsEntered};
 ghost use Rattle.vr_worker.specs.Steps.{AreGapless};
-ghost use Rattle.vr_job.specs.Committed.{HasCommitted, IsCommittedBy, IsCommittedWhile};
+ghost use Rattle.vr_job.specs.Committed.{HasCommitted, IsCommittedBy, IsCommittedWhile, StaysIn};
 ghost use Rattle.vr_job.specs.Moved.{AreElsewhere, Ends, IsOn};
 ghost use Rattle.vr_job.specs.VolumeRun.{IsRun, opening_of};
 
@@ -33,7 +33,8 @@ use vr_device::BlockDevice;
 /// At the end it recovers to what all of it committed (`end`); on a volume that stopped, to what
 /// was committed before the event in which it did, or of a definition after what that enters before
 /// its COMMIT, with the unit in doubt only where its COMMIT was answered 905 (`stopped`). It is so
-/// in each part that the catalog had as the volume was opened, whatever is added to it.
+/// in each part that the catalog had as the volume was opened and after each of those entries,
+/// whatever is added to it or changed of others.
 pub fn leaves_what_is_committed<D: BlockDevice>()
     ensures moments { (number : ℕ) (shape : Geometry) (catalog : List CatEntry) (end : End)
         (entries : List Entry) (old ended new : D)
@@ -67,13 +68,14 @@ pub fn leaves_what_is_committed<D: BlockDevice>()
 /// withdrawn in them, but where its log had a before-image (`opening`). And no history gives an
 /// address at which its opening has an item, standing or withdrawn (`given`). `crash` and `opening`
 /// hold of each part, `settles` and `given` of one that the catalog of the opening has as
-/// entry-sequenced.
+/// entry-sequenced, and has after each of the entries.
 pub fn no_address_is_given_again<D: BlockDevice>()
     ensures settles { (number : ℕ) (shape : Geometry) (catalog : List CatEntry) (end : End)
         (entries : List Entry) (old ended new : D)
         → (run : IsRun D.tells D.seen D.faults number shape catalog end entries old ended new)
         → (before after : List Entry) → entries ≡ before ++ after → (part : ℕ)
-        → IsEntrySequenced part (opening_of run.contents run.owners) → (place : List ℕ)
+        → IsEntrySequenced part (opening_of run.contents run.owners)
+        → StaysIn part catalog before → (place : List ℕ)
         → HasItem (run.contents part) place ⊎ Contains (addresses_given part before) place
         → IsUnlogged (state_of run.geometry (opening_of run.contents run.owners) before) part place
         → (counted : List UnitOfRecovery)
@@ -96,6 +98,7 @@ pub fn no_address_is_given_again<D: BlockDevice>()
         (entries : List Entry) (old ended new : D)
         → (run : IsRun D.tells D.seen D.faults number shape catalog end entries old ended new)
         → (part : ℕ) → IsEntrySequenced part (opening_of run.contents run.owners)
+        → StaysIn part catalog entries
         → (place : List ℕ) → HasItem (run.contents part) place
         → Contains (addresses_given part entries) place → ⊥ }
 {}

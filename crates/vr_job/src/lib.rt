@@ -12,6 +12,7 @@
 //! that no request moves another file than its own.
 #![tactic(auto)]
 
+mod changing;
 mod counting;
 mod done;
 mod formatting;

@@ -1,10 +1,12 @@
 //! A volume that the threads of decks share, and the utilities between them: one event of a
 //! request, under the volume's latch, or of a definition or a count.
 ghost use Rattle.std.specs.Prelude.{◌≡◌, ◌<◌, ◌≤◌, ◌==◌, ◌+◌, ◌-◌, ◌^◌, [], IsTrue, OnErr, OnOk};
-ghost use Rattle.std.specs.Prelude.{false, true, Contains, IfOk, IsErr, None, is_some};
+ghost use Rattle.std.specs.Prelude.{false, true, Contains, IfOk, IfSome, IsErr, None, is_some};
+ghost use Rattle.std.specs.Option.{option_copied};
 ghost use Rattle.vr_catalog.specs.declared.entry.EntryKind.TheVariants.{Cluster};
 ghost use Rattle.vr_ams_define.specs.Answers.{IsShownAfter, IsShownCounted};
-ghost use Rattle.vr_ams_define.specs.Answers.Exchange.{Counting, Defining};
+ghost use Rattle.vr_ams_define.specs.Answers.Exchange.{Changing, Counting, Defining};
+ghost use Rattle.vr_ams_define.specs.EntryChanges.{IsAltered, IsClusterThere, IsShownChanged};
 ghost use Rattle.vr_ams_define.specs.Grown.{HasEntered as HasEnteredOn};
 ghost use Rattle.vr_ams_define.specs.NewCluster.{IsNewCluster};
 ghost use Rattle.vr_event.specs.DefineSteps.{HasCome, LacksRoomWhere, MayDefineNow};
@@ -20,10 +22,11 @@ ghost use Rattle.vr_job.specs.Answering.{IsAnswered};
 ghost use Rattle.vr_job.specs.Going.{Follows, WentOn};
 ghost use Rattle.vr_job.specs.Serving.{IsServing, StaysServing, is_done, shown_of, unit_of};
 
+use crate::changing::change;
 use crate::counting::count;
 use std::alloc::Global;
 use std::marker::Model;
-use vr_ams_define::{Counted, Defined, OwnedVolume};
+use vr_ams_define::{Changed, Counted, Defined, OwnedVolume};
 use vr_catalog::{CatEntry, Catalog};
 use vr_device::BlockDevice;
 use vr_event::{Act, Define, Volume};
@@ -378,6 +381,28 @@ impl<D: BlockDevice> OwnedVolume for Serving<D> {
         ensures geometry { self.new.file.geometry ≡ self.old.file.geometry }
     {
         count(self.alloc, &mut self.volume, line, entry, after)
+    }
+
+    fn change(
+        &mut self,
+        line: u32,
+        entry: &CatEntry,
+        to: Option<&CatEntry>,
+        after: u64,
+    ) -> Result<Changed, RunNo>
+        requires going { is_some self.old.file.stopped ≡ false }
+        requires entry { IsClusterThere self.old.file.catalog entry.now }
+        requires to { IfSome (option_copied to) (IsAltered entry.now) }
+        ensures changed { IfOk result (λ answer. IsAnswered D.tells D.seen D.faults self.old line
+            (Changing entry.now (option_copied to.entry) answer) self.new) }
+        ensures shown { IfOk result (λ answer. IsShownChanged answer entry.now
+            (option_copied to.entry) (shown_of self.old) (shown_of self.new)) }
+        ensures refused { IsErr result → shown_of self.new ≡ shown_of self.old }
+        ensures entered { HasEnteredOn line after self.old.file.entries self.new.file.entries }
+        ensures goes { Follows D.tells D.seen D.faults self.old self.new }
+        ensures geometry { self.new.file.geometry ≡ self.old.file.geometry }
+    {
+        change(self.alloc, &mut self.volume, line, entry, to, after)
     }
 }
 

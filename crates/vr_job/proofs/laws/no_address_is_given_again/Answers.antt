@@ -4,10 +4,10 @@ use Rattle.vr_job.proofs.laws.no_address_is_given_again.Goals as goal
 
 pub returns-clause-settles : goal.returns-clause-settles
 returns-clause-settles g c number shape catalog end entries old ended new run before after both part
-    is place held unlogged counted =
+    is stays place held unlogged counted =
     let D = g.D.BlockDevice in
     settled-then D.tells D.seen D.faults number shape catalog end entries old ended new run before
-    after both part is place held unlogged counted
+    after both part is stays place held unlogged counted
 
 pub returns-clause-crash : goal.returns-clause-crash
 returns-clause-crash g c number shape catalog end entries old ended new run state counted is part

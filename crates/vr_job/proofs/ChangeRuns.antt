@@ -1,0 +1,179 @@
+-- What an event of a change of an entry leaves of a run, from each opening.
+use Rattle.std.proofs.Common.{◌≡◌, ◌∙◌, inl, inr, ℕ, List, [], ◌∷◌, ◌++◌, Option, Result, ap}
+use Rattle.std.proofs.Common.{append_assoc, refl, subst, sym, ⊎_elim}
+use Rattle.std.specs.Prelude.{IfSome}
+use Rattle.std.proofs.lemmas.List.{append_cancel_left}
+use Rattle.vr_types.specs.Faults.{Faults}
+use Rattle.vr_types.specs.Image.{Image}
+use Rattle.vr_types.specs.Moments.{Guards}
+use Rattle.vr_types.specs.Seen.{Left, Seen}
+use Rattle.vr_types.specs.declared.geometry.Geometry.{Geometry}
+use Rattle.vr_types.specs.declared.memory.OutOfMemory.{OutOfMemory}
+use Rattle.vr_types.specs.declared.unit.Unit.{Unit as UnitOfRecovery}
+use Rattle.vr_types.proofs.CallerLemmas.{guards-weaken}
+use Rattle.vr_catalog.specs.declared.entry.CatEntry.{CatEntry}
+use Rattle.vr_history.specs.Legal.{state_of}
+use Rattle.vr_history.specs.State.{State}
+use Rattle.vr_history.specs.declared.entry.Entry.{Entry}
+use Rattle.vr_record_file.specs.Now.{FileNow, state_now}
+use Rattle.vr_event.specs.DefineSteps.{MayDefineNow}
+use Rattle.vr_event.specs.Defining.{utility_unit}
+use Rattle.vr_event.specs.EntryChange.{HasChangeFaults, IsAltered, IsLeftChanging}
+use Rattle.vr_event.specs.EntryChange.{file_change_in_doubt, file_changed}
+use Rattle.vr_event.specs.EntryChangeSteps.{HasChangeCome, HasChangeComeHeld}
+use Rattle.vr_event.specs.Volume.{IsHeld, VolumeNow}
+use Rattle.vr_event.specs.declared.entry_change.EntryChange.{EntryChange}
+use Rattle.vr_volume.specs.Crashes.{RecoversTo}
+use Rattle.vr_ams_define.specs.EntryChanges.{IsClusterThere}
+use Rattle.vr_job.specs.Committed.{KeepTheCatalog}
+use Rattle.vr_job.specs.Crash.{IsLeftAt}
+use Rattle.vr_job.specs.Crash.IsLeftAt.{Ended}
+use Rattle.vr_job.specs.Events.{IsLeftWhile}
+use Rattle.vr_job.specs.Going.{HasRun}
+use Rattle.vr_job.proofs.Crashing.{left-while}
+use Rattle.vr_job.proofs.ChangeCatalog.{replaced-keep}
+use Rattle.vr_job.proofs.ChangeEvents.{IsChangeMade, change-made, changed-entries}
+use Rattle.vr_job.proofs.ChangeEvents.{commit-of, doubted-entries, fault-of, refused-of}
+use Rattle.vr_job.proofs.ChangeEvents.{replaced-begun, replaced-of}
+use Rattle.vr_job.proofs.Kept.{AreSized}
+use Rattle.vr_job.proofs.UtilityRuns.{still-keep, utility-run}
+
+module _ {B : Type 0} (seen : B → Seen) (faults : B → Faults) (after line : ℕ) (entry : CatEntry)
+    (to : Option CatEntry) (result : Result EntryChange OutOfMemory) (old new : VolumeNow B)
+    (there : IsClusterThere old.file.catalog entry) (to-is : IfSome to (IsAltered entry))
+    (may : MayDefineNow seen after old)
+    (come : HasChangeCome seen after (utility_unit old.file) line entry to result old new)
+    (cause : HasChangeFaults (faults old.blocks) (faults new.blocks) result) where
+  abbrev unit : UnitOfRecovery
+  unit = utility_unit old.file
+
+  abbrev geometry : Geometry
+  geometry = old.file.geometry
+
+  abbrev replaced : List Entry
+  replaced = replaced-of old.number after line unit entry to old.file
+
+  abbrev commit : Entry
+  commit = commit-of old.number after line unit entry to old.file
+
+  abbrev refused : Entry
+  refused = refused-of old.number after line unit entry to old.file
+
+  abbrev fault : Entry
+  fault = fault-of old.number after line unit entry to old.file
+
+  -- what it adds to the history
+  made-in : IsChangeMade old.number after line unit entry to old.file new.file (faults old.blocks)
+      (faults new.blocks)
+  made-in = change-made old.number after line unit refl entry to old.file new.file may.going
+      (faults old.blocks) (faults new.blocks) result come.entered cause
+
+  made-are : (made : List Entry) → new.file.entries ≡ old.file.entries ++ made
+      → made-in.event.made ≡ made
+  made-are made entries = append_cancel_left old.file.entries made-in.event.made made
+      (sym made-in.event.entries ∙ entries)
+
+  module _ (opening : State) (first : B) (run : HasRun seen faults opening first old)
+      (held-by : HasChangeComeHeld seen opening after (utility_unit old.file) line entry to old new)
+      (was : Left (seen old.blocks) (seen old.blocks).cur) (sized : AreSized (seen new.blocks))
+      (cur : Left (seen new.blocks) (seen new.blocks).cur) where
+    abbrev before : State
+    before = state_now opening old.file
+
+    -- ---- what an image recovers to at each moment
+
+    abbrev While : Image → Type 0
+    While = IsLeftWhile geometry old.number opening old.file.entries made-in.event.made
+
+    at-rest : (image : Image) → RecoversTo geometry old.number before [] image → While image
+    at-rest image rests = left-while geometry old.number opening old.file.entries
+        made-in.event.made [] image (inl refl) rests
+
+    -- the history once the change is done
+    abbrev done : FileNow
+    done = file_changed old.number after unit line entry to old.file
+
+    -- is that before its COMMIT, and the COMMIT
+    done-is : state_now opening done
+        ≡ state_of geometry opening ((old.file.entries ++ replaced) ++ commit ∷ [])
+    done-is = ap (state_of geometry opening)
+        (changed-entries old.number after line unit entry to old.file done refl
+        ∙ sym (append_assoc old.file.entries replaced (commit ∷ [])))
+
+    -- what is there as the change is done, is so before a COMMIT, whatever that is answered
+    while-ended : (image : Image) (rest : List Entry) → made-in.event.made ≡ replaced ++ rest
+        → IsLeftAt geometry old.number opening (old.file.entries ++ replaced) rest image
+        → While image
+    while-ended image rest are left = record {
+      first = replaced;
+      rest = rest;
+      made_are = are;
+      begun = replaced-begun old.number after line unit entry to old.file refl;
+      left = left;
+    }
+
+    recovers-done : (image : Image) → RecoversTo geometry old.number (state_now opening done) [] image
+        → RecoversTo geometry old.number
+        (state_of geometry opening ((old.file.entries ++ replaced) ++ commit ∷ [])) [] image
+    recovers-done image = subst (λ (s : State). RecoversTo geometry old.number s [] image) done-is
+
+    while-done : (image : Image) → new.file ≡ done
+        → RecoversTo geometry old.number (state_now opening done) [] image → While image
+    while-done image is recovers = while-ended image (commit ∷ [])
+        (made-are (replaced ++ commit ∷ [])
+        (changed-entries old.number after line unit entry to old.file new.file is))
+        (Ended commit [] refl refl (inl refl) (recovers-done image recovers))
+
+    while-doubted : (image : Image)
+        → new.file ≡ file_change_in_doubt old.number after unit line entry to old.file
+        → RecoversTo geometry old.number (state_now opening done) [] image → While image
+    while-doubted image is recovers = while-ended image (refused ∷ fault ∷ [])
+        (made-are (replaced ++ refused ∷ fault ∷ [])
+        (doubted-entries old.number after line unit entry to old.file new.file is))
+        (Ended refused (fault ∷ []) refl refl (inr refl) (recovers-done image recovers))
+
+    in-while : (image : Image) → IsLeftChanging geometry old.number opening after unit line entry to
+        old.file new.file image → While image
+    in-while image is = ⊎_elim (at-rest image)
+        (λ changed. ⊎_elim
+        (λ ends. while-done image ends changed.1)
+        (λ doubt. while-doubted image doubt changed.1) changed.0) is
+
+    while-guards : Guards (seen old.blocks) (seen new.blocks) While
+    while-guards = guards-weaken (seen old.blocks) (seen new.blocks)
+        (IsLeftChanging geometry old.number opening after unit line entry to old.file new.file) While
+        (subst (λ (g : Geometry). Guards (seen old.blocks) (seen new.blocks)
+        (IsLeftChanging g old.number opening after unit line entry to old.file new.file))
+        (may.whole.geometry may.going) held-by.moments) in-while
+
+    -- ---- the catalog
+
+    made-keep : KeepTheCatalog geometry before made-in.event.made
+    made-keep = ⊎_elim (still-keep geometry before made-in.event.made)
+        (λ changed. subst (KeepTheCatalog geometry before) (sym changed.1)
+        (replaced-keep seen opening old run.held may.whole may.going was entry to there to-is after
+        line changed.0
+        (still-keep geometry _ changed.0 changed.2))) made-in.by
+
+    -- ---- the run
+
+    on-run : HasRun seen faults opening first new
+    on-run = utility-run seen faults old new come.whole come.number made-in.event opening first run
+        held-by.held sized cur while-guards made-keep
+
+-- An event of a change of an entry goes on with what a crash leaves at each moment, event by event.
+pub changed-run : {B : Type 0} (seen : B → Seen) (faults : B → Faults) (after line : ℕ)
+    (entry : CatEntry) (to : Option CatEntry) (result : Result EntryChange OutOfMemory)
+    (old new : VolumeNow B) → IsClusterThere old.file.catalog entry
+    → IfSome to (IsAltered entry) → MayDefineNow seen after old
+    → HasChangeCome seen after (utility_unit old.file) line entry to result old new
+    → HasChangeFaults (faults old.blocks) (faults new.blocks) result
+    → ((opening : State) → IsHeld seen opening old
+    → HasChangeComeHeld seen opening after (utility_unit old.file) line entry to old new)
+    → Left (seen old.blocks) (seen old.blocks).cur → AreSized (seen new.blocks)
+    → Left (seen new.blocks) (seen new.blocks).cur
+    → (opening : State) (first : B) → HasRun seen faults opening first old
+    → HasRun seen faults opening first new
+changed-run seen faults after line entry to result old new there to-is may come cause held was sized
+    cur opening first run = on-run seen faults after line entry to result old new there to-is may
+    come cause opening first run (held opening run.held) was sized cur
