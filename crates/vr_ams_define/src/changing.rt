@@ -34,6 +34,7 @@ pub(crate) fn ask_change<V: OwnedVolume>(
             answer => return Ok(answer),
         }
     }
-    // A loop has to have an end. No volume has the blocks for as many splits.
+    // A loop has to have an end, and only where the device reports its contents is it proved that
+    // each turn leaves fewer stages. No volume has the blocks for as many.
     Err(RunNo::Memory)
 }

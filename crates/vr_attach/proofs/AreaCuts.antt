@@ -216,11 +216,12 @@ abbrev no_entry : AreaEnd
 no_entry = record { area = 0; end = record { place = []; room = 0 } }
 
 -- the chain of the entries of a part that are used
-abbrev pub chain_seen : KeyedChain → List AreaEnd → ℕ → AreasNow
-chain_seen part entries used = record {
+abbrev pub chain_seen : KeyedChain → List AreaEnd → ℕ → ℕ → AreasNow
+chain_seen part entries used intervals = record {
   part = part;
   areas = areas_seen (take used entries);
   ends = ends_seen (take used entries);
+  intervals = intervals;
 }
 
 -- The entries once the one at the position is cut in two, and the first that was spare comes before
@@ -228,7 +229,8 @@ chain_seen part entries used = record {
 pub record IsInserted (part : KeyedChain) (entries now : List AreaEnd) (used i into : ℕ)
     (cut : List ℕ) : Type 0 where
   pub ready : AreEnds part now (used + 1)
-  pub seen : chain_seen part now (used + 1) ≡ inserted_at (chain_seen part entries used) i into cut
+  pub seen : (intervals : ℕ) → chain_seen part now (used + 1) intervals
+      ≡ inserted_at (chain_seen part entries used intervals) i into cut
 
 -- the position of one of the areas is that of an entry that is used
 pub used-inside : (entries : List AreaEnd) (used i area : ℕ)
@@ -375,11 +377,14 @@ module _ (entries : List AreaEnd) (used i : ℕ) (inside : i < used) (spared : u
               (sorted-insert (ends_seen (take used entries)) cut i ends.ascend at.before
               (all-past (ends_seen (take used entries)) cut i ends.ascend less));
         };
-        seen = ap (λ (areas : List ℕ). record (chain_seen part now (used + 1)) { areas = areas })
+        seen = λ intervals.
+            ap (λ (areas : List ℕ).
+            record (chain_seen part now (used + 1) intervals) { areas = areas })
             areas-now
             ∙ ap (λ (all : List (List ℕ)). record {
               part = part;
               areas = insert (areas_seen (take used entries)) (suc i) into;
               ends = all;
+              intervals = intervals;
             }) ends-now;
       }

@@ -1,23 +1,24 @@
 -- Parts on the blocks of a volume, and owners of them once a part got the least free area.
 use Rattle.std.proofs.Common.{◌≡◌, ◌≢◌, ◌⊎◌, ⊎_elim, inl, inr, ℕ, ◌+◌, ◌-◌, ◌/◌, ◌<◌, ◌≤◌, Bool}
 use Rattle.std.proofs.Common.{true, false, cond, List, get_or, set, Option, Some, None, refl, sym}
-use Rattle.std.proofs.Common.{ap, subst, ◌∙◌, arith}
+use Rattle.std.proofs.Common.{ap, subst, ◌∙◌, arith, length}
 use Rattle.std.specs.Prelude.{is_none, nat_le}
 use Rattle.std.specs.Option.{option_map}
 use Rattle.std.proofs.lemmas.Bool.{true≢false}
 use Rattle.std.proofs.lemmas.Bool.Decides.{eqb_tells}
-use Rattle.std.proofs.lemmas.List.{get_or-set_other, get_or-set_same}
+use Rattle.std.proofs.lemmas.List.{get_or-set_other, get_or-set_same, length_push}
 use Rattle.std.proofs.lemmas.List.Quantifiers.{position-Some}
 use Rattle.vr_types.specs.Geometry.{head_block}
 use Rattle.vr_types.specs.Seen.{Seen}
-use Rattle.vr_types.specs.Space.{least_free}
+use Rattle.vr_types.specs.Space.{free_count, least_free}
 use Rattle.vr_types.specs.declared.geometry.Geometry.{Geometry}
 use Rattle.vr_types.specs.declared.unit.PartNo.{PartNo}
-use Rattle.vr_space.specs.Part.{InClaimed, IsClaimed, IsOn, KeyedShape, MayGrow, NumberedShape}
-use Rattle.vr_space.specs.Part.{Shape, part_no}
+use Rattle.vr_space.specs.Part.{InClaimed, IsClaimed, IsOn, KeepsChain, KeyedShape, MayGrow}
+use Rattle.vr_space.specs.Part.{NumberedShape, Shape, part_no}
 use Rattle.vr_attach.specs.Laid.{IsInside}
 use Rattle.vr_attach.specs.Owning.{claimed_at, claimed_by, owner_of}
 use Rattle.vr_attach.proofs.Owning.{area-owned, area-owner}
+use Rattle.vr_attach.proofs.Taking.{free-fewer}
 
 -- ---- parts on the blocks of a volume
 
@@ -121,3 +122,38 @@ pub claimed-owners : (part : PartNo) (old new : List (Option PartNo))
     → (new ≡ old) ⊎ IsClaimed part old new → (new ≡ old) ⊎ (new ≡ claimed_by part old)
 claimed-owners part old new after = ⊎_elim (λ same. inl same)
     (λ claimed. inr (claimed.2 ∙ sym (ap (claimed_at part old) claimed.1))) after
+
+-- ---- how many areas are free
+
+-- An area that is claimed is no longer free.
+pub claimed-fewer : (part : PartNo) (old new : List (Option PartNo)) → IsClaimed part old new
+    → free_count new + 1 ≡ free_count old
+claimed-fewer part old new claimed =
+    let there = least-there old claimed.0 claimed.1 in
+    subst (λ (owners : List (Option PartNo)). free_count owners + 1 ≡ free_count old)
+    (sym claimed.2) (free-fewer old claimed.0 part there.0 there.1)
+
+-- The areas that a part holds and the free ones are as many together as before, and none becomes
+-- free.
+pub record HoldsAll (areas after : List ℕ) (free now : ℕ) : Type 0 where
+  pub all : length after + now ≡ length areas + free
+  pub least : now ≤ free
+
+pub holds-all : (shape : Shape) (areas after : List ℕ) (old new : List (Option PartNo))
+    → KeepsChain shape areas after old new
+    → HoldsAll areas after (free_count old) (free_count new)
+holds-all shape areas after old new (inl same) =
+    let free : free_count new ≡ free_count old = ap free_count same.1 in
+    record { all = omega (arith, same.0.many, free); least = omega (arith, free) }
+holds-all shape areas after old new (inr more) =
+    let free : free_count new + 1 ≡ free_count old =
+    claimed-fewer (part_no shape) old new (more.area, more.least, more.owned) in
+    record {
+      all = omega (
+        arith,
+        ap (λ (one : List ℕ). length one) more.more,
+        length_push areas more.area,
+        free,
+      );
+      least = omega (arith, free);
+    }

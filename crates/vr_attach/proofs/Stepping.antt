@@ -1,6 +1,7 @@
 -- One step of a walk over the areas of a keyed part: by what was read of the area that it came to,
 -- and who owns the next one.
-use Rattle.std.proofs.Common.{◌≡◌, ◌<◌, ◌+◌, ◌-◌, ◌++◌, ℕ, zero, suc, List, [], ◌∷◌, length}
+use Rattle.std.proofs.Common.{◌^◌}
+use Rattle.std.proofs.Common.{◌≡◌, ◌<◌, ◌≤◌, ◌+◌, ◌-◌, ◌++◌, ℕ, zero, suc, List, [], ◌∷◌, length}
 use Rattle.std.proofs.Common.{Option, Some, None, get_or, refl, sym, ap, subst, ◌∙◌, arith, true}
 use Rattle.std.specs.Prelude.{All, Err, IfErr, IfOk, IfSome, MatchOption, MatchResult, Ok, OnOk}
 use Rattle.std.specs.Prelude.{Result, replicate, slice_set, unwrap_or}
@@ -19,11 +20,11 @@ use Rattle.vr_seqset.specs.Entry.{Entry}
 use Rattle.vr_seqset.specs.Reading.{entry_of, record_in}
 use Rattle.vr_seqset.specs.SequenceSet.{SequenceSet}
 use Rattle.vr_space.specs.Areas.{IsKeyedChain, KeyedChain, KnowsAreas, LinksIn, area_of}
-use Rattle.vr_space.specs.Areas.{content_after, end_of, head_in, head_of}
+use Rattle.vr_space.specs.Areas.{content_after, end_of, head_in, head_of, intervals_in}
 use Rattle.vr_space.specs.Keyed.{IsHead, Keyed, entries_of, last_high, low_of}
 use Rattle.vr_space.specs.Part.{KeyedShape, Stands, owned_count, part_no}
 use Rattle.vr_space.specs.Room.{is_above}
-use Rattle.vr_space.proofs.CallerLemmas.{end-above, head-ascends, lt_from_test}
+use Rattle.vr_space.proofs.CallerLemmas.{end-above, head-ascends, head-entries, lt_from_test}
 use Rattle.vr_attach.specs.Areas.{AreWhole, AreasNow}
 use Rattle.vr_attach.specs.Linked.{IsAreaWhole, IsGoodTop, IsKeyedAreaBad, IsKeyedAreaSound}
 use Rattle.vr_attach.specs.Linked.{IsLinkedDamagedAt, low_lent}
@@ -63,6 +64,12 @@ end-high part top view count high head is many high-is =
     ∙ last-at view.entries (count - 1) (record { intervals = []; high = [] })
     (omega (arith, some, many))
     ∙ ap (λ (place : List ℕ). Some place) (sym high-is)
+
+-- and as many entries as it counts
+pub count-viewed : (top : Block) (view : SequenceSet) (count : ℕ) → view ≡ record_in top
+    → count ≡ length view.entries → count ≡ length (entries_of top)
+count-viewed top view count is many =
+    many ∙ ap (λ (s : SequenceSet). length s.entries) is
 
 -- places that ascend are below what is above the last
 all-below : (ends : List (List ℕ)) (end : List ℕ) → IsStrictlySortedBy place_cmp ends
@@ -165,6 +172,20 @@ module _ (now : AreasNow) (area : ℕ) (lay : Keyed) (count : ℕ) (low : Option
 
 -- ---- in memory
 
+-- As many intervals as a head leads to don't wrap the count of those of the areas so far.
+pub few-added : (now : AreasNow) (area : ℕ) (top : Block) (next : Option ℕ)
+    → IsRead now area top next → (taken : List (Option PartNo)) → IsOpen now area taken
+    → now.part.geometry.area ≤ 255 → area_count now.part.geometry < 2 ^ 32
+    → now.intervals + length (entries_of top) < 2 ^ 64
+few-added now area top next read taken ready most count = omega (
+  arith,
+  ready.few,
+  ready.ready.room,
+  head-entries (area_of now.part area) top read.good.head,
+  most,
+  count,
+)
+
 module _ (now new : AreasNow) (area : ℕ) (top : Block) (added : IsAdded top area now new) where
   -- the last area goes up to the greatest place
   pub ends-greatest : IsRead now area top None → EndsGreatest new
@@ -184,8 +205,9 @@ module _ (now new : AreasNow) (area : ℕ) (top : Block) (added : IsAdded top ar
     module _ (taken after : List (Option PartNo)) (ready : IsOpen now area taken)
         (fewer : free_count after + 1 ≡ free_count taken) where
       -- with room for the next one
-      pub still-open : length after ≡ length taken → IsOpen new next after
-      still-open count = subst (λ (one : AreasNow). IsOpen one next after) (sym added.new_is)
+      pub still-open : length after ≡ length taken → now.part.geometry.area ≤ 255
+          → IsOpen new next after
+      still-open count most = subst (λ (one : AreasNow). IsOpen one next after) (sym added.new_is)
           (record {
             ready = record {
               there = next-there;
@@ -194,6 +216,13 @@ module _ (now new : AreasNow) (area : ℕ) (top : Block) (added : IsAdded top ar
                   (ends-below (area_of now.part area) top now.ends added.end read.good.head
                   read.good.goes.begins added.end_is ready.ready.ascend);
             };
+            few = omega (
+              arith,
+              length_push now.areas area,
+              ready.few,
+              most,
+              head-entries (area_of now.part area) top read.good.head,
+            );
             count = count ∙ ready.count;
             room = omega (arith, length_push now.areas area, ready.room, fewer);
           })
@@ -209,6 +238,7 @@ module _ (now new : AreasNow) (area : ℕ) (top : Block) (added : IsAdded top ar
           part = now.part;
           areas = now.areas ++ area ∷ [];
           ends = now.ends ++ added.end ∷ [];
+          intervals = now.intervals + length (entries_of top);
         }) (Some next))
         (sym (after-is ∙ ap (λ (one : AreasNow).
         slice_set taken next (Some (part_no (KeyedShape one.part)))) added.new_is))
@@ -287,7 +317,7 @@ walked-by before taken one image now new area found same marks walked walk =
 
 -- no area yet
 abbrev pub none_of : KeyedChain → AreasNow
-none_of part = record { part = part; areas = []; ends = [] }
+none_of part = record { part = part; areas = []; ends = []; intervals = 0 }
 
 module _ (part : KeyedChain) (now : AreasNow) (area : ℕ) (taken : List (Option PartNo))
     (is : now ≡ none_of part) (area-is : area ≡ part.first)
@@ -301,6 +331,7 @@ module _ (part : KeyedChain) (now : AreasNow) (area : ℕ) (taken : List (Option
   unfolding IsStrictlySortedBy
   start-open there count = at-first (λ one at. IsOpen one at taken) (record {
     ready = record { there = there; room = omega (arith, there); ascend = tt };
+    few = omega arith;
     count = count;
     room = omega (
       arith,
@@ -331,6 +362,11 @@ module _ (part : KeyedChain) (new : AreasNow) (same : new.part ≡ part) where
       → KnowsAreas part new.areas new.ends image
   over-knows image over =
       subst (λ (one : KeyedChain). KnowsAreas one new.areas new.ends image) same over.knows
+
+  pub over-counted : (image : Image) → IsWalkedOver image new
+      → new.intervals ≡ intervals_in part image
+  over-counted image over =
+      subst (λ (one : KeyedChain). new.intervals ≡ intervals_in one image) same over.counted
 
   -- the blocks stand for a content
   pub over-stands : (image : Image) → IsKeyedChain part → IsWalkedOver image new

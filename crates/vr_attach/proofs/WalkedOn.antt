@@ -16,7 +16,7 @@ use Rattle.vr_seqset.specs.Reading.{record_in}
 use Rattle.vr_space.specs.Keyed.{entries_of, low_of}
 use Rattle.vr_space.specs.Rosters.{after_next}
 use Rattle.vr_space.specs.Areas.{IsFollowed, IsLinkedIn, KeyedChain, LinksIn, area_of, areas_after}
-use Rattle.vr_space.specs.Areas.{areas_in, end_of, head_in, head_of}
+use Rattle.vr_space.specs.Areas.{areas_in, end_of, head_in, head_of, intervals_over}
 use Rattle.vr_attach.specs.Areas.{AreasNow}
 use Rattle.vr_attach.specs.Linked.{IsAreaWhole, IsGoodTop, IsKeyedAreaBad}
 use Rattle.vr_attach.specs.Linked.{IsLinkedBefore, IsLinkedDamagedAt, IsLinkedTo, links_after}
@@ -51,6 +51,13 @@ last-by o (first ∷ ends) end = last-by (Some first) ends end
 -- where the last area ends
 pub low-push : (ends : List (List ℕ)) (end : List ℕ) → low_after (ends ++ end ∷ []) ≡ Some end
 low-push ends end = last-by None ends end
+
+-- how many intervals there are with those of one area more
+over-push : (part : KeyedChain) (image : Image) (area : ℕ) (areas : List ℕ)
+    → intervals_over part image (areas ++ area ∷ [])
+    ≡ intervals_over part image areas + length (entries_of (head_in part image area))
+over-push part image area [] = omega arith
+over-push part image area (first ∷ areas) = omega (arith, over-push part image area areas)
 
 -- ---- the area that it came to
 
@@ -149,7 +156,12 @@ module _ (Taken : ℕ → Type 0) (image : Image) (now : AreasNow) (area : ℕ)
         part = now.part;
         areas = now.areas ++ area ∷ [];
         ends = now.ends ++ added.end ∷ [];
+        intervals = now.intervals + length (entries_of top);
       }
+
+      counted-with : with_it.intervals ≡ intervals_over part image with_it.areas
+      counted-with = ap (λ (n : ℕ). n + length (entries_of top)) walk.counted
+          ∙ sym (over-push part image area now.areas)
 
       ends-are : map Some with_it.ends
           ≡ map (λ (one : ℕ). end_of (head_in part image one)) with_it.areas
@@ -161,6 +173,10 @@ module _ (Taken : ℕ → Type 0) (image : Image) (now : AreasNow) (area : ℕ)
           (sym added.end_is)
           ∙ sym (map_push (λ (one : ℕ). end_of (head_in part image one)) now.areas area)
 
+      areas-over : (record_in top).next ≡ None → areas_in part image ≡ now.areas ++ area ∷ []
+      areas-over none = walk.areas ∙ ap (λ (next : Option ℕ).
+          now.areas ++ area ∷ after_next [] (areas_after part image walk.left) next) none
+
       -- it is the last one
       pub walked-over : (record_in top).next ≡ None → IsWalkedOver image new
       walked-over none = subst (IsWalkedOver image) (sym added.new_is) (record {
@@ -168,10 +184,10 @@ module _ (Taken : ℕ → Type 0) (image : Image) (now : AreasNow) (area : ℕ)
             (subst (IsFollowed part (LinksIn part image walk.left) top) (sym none)
             (good.goes.ends none)));
         knows = record {
-          areas_are = sym (walk.areas ∙ ap (λ (next : Option ℕ).
-              now.areas ++ area ∷ after_next [] (areas_after part image walk.left) next) none);
+          areas_are = sym (areas-over none);
           ends_are = ends-are;
         };
+        counted = counted-with ∙ sym (ap (intervals_over part image) (areas-over none));
       })
 
       module _ (next : ℕ) (leads : (record_in top).next ≡ Some next)
@@ -232,6 +248,7 @@ module _ (Taken : ℕ → Type 0) (image : Image) (now : AreasNow) (area : ℕ)
                   ∙ sym (append_assoc now.areas (area ∷ [])
                   (areas_after part image (suc left) next));
               ends = ends-are;
+              counted = counted-with;
               before = walk.before ++ link ∷ [];
               links = walk.links
                   ∙ ap (λ (after : Option ℕ). walk.before ++ link ∷ after_next []
@@ -253,19 +270,23 @@ module _ (Taken : ℕ → Type 0) (image : Image) (now : AreasNow) (area : ℕ)
 
 -- ---- where it begins
 
+abbrev none_yet : KeyedChain → AreasNow
+none_yet part = record { part = part; areas = []; ends = []; intervals = 0 }
+
 pub walk-first : (part : KeyedChain) (Taken : ℕ → Type 0) (image : Image)
     → part.first < area_count part.geometry
-    → IsWalkedAt Taken image (record { part = part; areas = []; ends = [] }) part.first
+    → IsWalkedAt Taken image (none_yet part) part.first
 walk-first part Taken image first = by_count (area_count part.geometry) refl
   where
     by_count : (count : ℕ) → area_count part.geometry ≡ count
-        → IsWalkedAt Taken image (record { part = part; areas = []; ends = [] }) part.first
+        → IsWalkedAt Taken image (none_yet part) part.first
     by_count zero none = absurd (omega (arith, none, first))
     by_count (suc left) is = record {
       left = left;
       many = omega (arith, is);
       areas = ap (λ (k : ℕ). areas_after part image k part.first) is;
       ends = refl;
+      counted = refl;
       before = [];
       links = ap (λ (k : ℕ). links_after part image k part.first None) is;
       as_many = refl;

@@ -1,5 +1,5 @@
--- The areas of a keyed part in memory: their numbers, and where the ranges of each end. The rules
--- are this project's own.
+-- The areas of a keyed part in memory: their numbers, where the ranges of each end, and how many
+-- intervals their heads lead to. The rules are this project's own.
 use Rattle.std.specs.Prelude.{◌≡◌, ◌<◌, ◌≤◌, ◌^◌, ◌++◌, ◌∷◌, [], ℕ, IsTrue, List, All, Contains}
 use Rattle.std.specs.Prelude.{IfSome, Some, length, slice_get}
 use Rattle.std.specs.Prelude.{drop, map, replicate, take}
@@ -12,11 +12,12 @@ use Rattle.vr_space.specs.Areas.{KeyedChain}
 use Rattle.vr_space.specs.Moves.{with_area, with_end}
 use Rattle.vr_attach.specs.declared.areas.AreaEnd.{AreaEnd}
 
--- the areas in the order of their chain, and where each ends
+-- the areas in the order of their chain, where each ends, and the count of the intervals of all
 pub record AreasNow : Type 0 where
   pub part : KeyedChain
   pub areas : List ℕ
   pub ends : List (List ℕ)
+  pub intervals : ℕ
 
 -- the areas of entries, and their ends
 abbrev pub areas_seen : List AreaEnd → List ℕ

@@ -1,6 +1,7 @@
 //! The areas of a part in memory, in room that was taken once.
 ghost use Rattle.std.specs.Prelude.{◌≡◌, ◌<◌, ◌^◌, ◌++◌, ◌∷◌, [], ℕ, List, Some, IfOk, All, length};
-ghost use Rattle.std.specs.Prelude.{◌↔◌, ◌≤◌, Contains, IfSome, IsTrue, MatchOption, false, nat_eq};
+ghost use Rattle.std.specs.Prelude.{◌↔◌, ◌≤◌, ◌+◌, ◌-◌, Contains, IfSome, IsTrue, MatchOption};
+ghost use Rattle.std.specs.Prelude.{false, min, nat_eq};
 ghost use Rattle.std.specs.List.{list_any, slice_get};
 ghost use Rattle.std.specs.Ordering.{is_lt};
 ghost use Rattle.std.specs.declared.cmp.Ordering.TheVariants.{Less};
@@ -55,13 +56,14 @@ fn is_among(entries: &[AreaEnd], area: u32) -> bool
     entries.iter().any(|entry| area == entry.area)
 }
 
-/// The areas of a part in the order of their chain, with where the ranges of each end. There is
-/// room for as many as the volume has.
+/// The areas of a part in the order of their chain, with where the ranges of each end, and how many
+/// intervals their heads lead to. There is room for as many as the volume has.
 #[derive(Drop)]
 pub struct Areas {
     layout: KeyedLayout,
     entries: Vec<AreaEnd>,
     used: usize,
+    intervals: u64,
 }
 
 impl Model for Areas {
@@ -74,6 +76,7 @@ impl Model for Areas {
       part = areas.layout;
       areas = areas_seen (take areas.used areas.entries.items);
       ends = ends_seen (take areas.used areas.entries.items);
+      intervals = areas.intervals;
     } };
 
     ghost invariant = { λ areas. AreEnds areas.layout areas.entries.items areas.used };
@@ -81,7 +84,12 @@ impl Model for Areas {
 
 /// No areas yet, with room for each of the volume. It fails only if memory runs out.
 pub fn no_areas(alloc: Global, layout: KeyedLayout) -> Result<Areas, OutOfMemory>
-    ensures { IfOk result (λ areas. areas ≡ record { part = layout; areas = []; ends = [] }) }
+    ensures { IfOk result (λ areas. areas ≡ record {
+      part = layout;
+      areas = [];
+      ends = [];
+      intervals = 0;
+    }) }
 {
     let count = layout.geometry.areas();
     let mut entries = Vec::with_capacity(alloc, count as usize)?;
@@ -93,6 +101,7 @@ pub fn no_areas(alloc: Global, layout: KeyedLayout) -> Result<Areas, OutOfMemory
         layout,
         entries,
         used: 0,
+        intervals: 0,
     })
 }
 
@@ -112,22 +121,35 @@ impl Areas {
         self.used
     }
 
-    /// Adds an area after the last, whose ranges end here. It takes no memory.
-    pub fn add(&mut self, area: u32, end: &[u8])
+    /// Adds an area after the last, whose ranges end here, and whose head leads to this many
+    /// intervals. It takes no memory.
+    pub fn add(&mut self, area: u32, end: &[u8], intervals: u64)
         requires there { area < area_count self.old.part.geometry }
         requires end { length end.now ≡ self.old.part.key }
         requires room { length self.old.areas < area_count self.old.part.geometry }
         requires later { All (λ (before : List ℕ). place_cmp before end.now ≡ Less) self.old.ends }
+        requires few { self.old.intervals + intervals < 2 ^ 64 }
         ensures { self.new ≡ record {
           part = self.old.part;
           areas = self.old.areas ++ area ∷ [];
           ends = self.old.ends ++ end.now ∷ [];
+          intervals = self.old.intervals + intervals;
         } }
     {
         let entry = &mut self.entries[self.used];
         entry.area = area;
         entry.end.set(end);
         self.used += 1;
+        self.intervals += intervals;
+    }
+
+    /// Counts one interval more, to which a head leads since it has an entry more. The count stands
+    /// still at its type's end, which no volume has so many blocks as to reach.
+    pub fn add_interval(&mut self)
+        ensures { self.new
+            ≡ record self.old { intervals = min (self.old.intervals + 1) (2 ^ 64 - 1) } }
+    {
+        self.intervals = self.intervals.saturating_add(1);
     }
 
     /// Whether an area may be added: it is one of the volume, the chain doesn't have it yet, and
@@ -152,8 +174,9 @@ impl Areas {
     }
 
     /// Adds an area after this one, which ends at `cut` from then on; the other ends where this one
-    /// ended. False, and nothing is added, where this isn't the area of the chain that has the
-    /// place, or ends at it, or there is no room. It takes no memory.
+    /// ended. The intervals that one of them had are those of both. False, and nothing is added,
+    /// where this isn't the area of the chain that has the place, or ends at it, or there is no
+    /// room. It takes no memory.
     pub fn insert(&mut self, area: u32, into: u32, cut: &[u8]) -> bool
         requires there { into < area_count self.old.part.geometry }
         ensures is { IsCut self.old area cut.now → IsTrue result }
@@ -161,6 +184,7 @@ impl Areas {
             → self.new ≡ with_cut self.old area into cut.now }
         // Whether it is a cut of them or not.
         ensures part { self.new.part ≡ self.old.part }
+        ensures intervals { self.new.intervals ≡ self.old.intervals }
         ensures more { IsTrue result → HoldsSame (self.old.areas ++ into ∷ []) self.new.areas }
         ensures none { result ≡ false → self.new ≡ self.old }
         ensures whole { AreWhole self.old → AreWhole self.new }

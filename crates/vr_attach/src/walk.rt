@@ -1,5 +1,6 @@
 //! The walk over the areas of a keyed part: each head, then the interval of each entry.
-ghost use Rattle.std.specs.Prelude.{◌≡◌, ◌<◌, ◌+◌, [], ℕ, List, Option, Some, None, IsTrue, IfErr};
+ghost use Rattle.std.specs.Prelude.{◌≡◌, ◌<◌, ◌+◌, ◌^◌, [], ℕ, List, Option, Some, None, IsTrue};
+ghost use Rattle.std.specs.Prelude.{IfErr};
 ghost use Rattle.std.specs.Prelude.{IfOk, IfSome, MatchOption, MatchResult, OnOk, length};
 ghost use Rattle.std.specs.Prelude.{slice_index_or, slice_set};
 ghost use Rattle.vr_types.specs.Blocks.{Keeps};
@@ -7,8 +8,8 @@ ghost use Rattle.vr_types.specs.Faults.{HasCause};
 ghost use Rattle.vr_types.specs.Geometry.{area_count};
 ghost use Rattle.vr_types.specs.Space.{free_count};
 ghost use Rattle.vr_types.specs.declared.unit.PartNo.{PartNo as PartNumber};
-ghost use Rattle.vr_space.specs.Areas.{KnowsAreas, area_of, head_of};
-ghost use Rattle.vr_space.specs.Keyed.{IsHead, low_of};
+ghost use Rattle.vr_space.specs.Areas.{KnowsAreas, area_of, head_of, intervals_in};
+ghost use Rattle.vr_space.specs.Keyed.{IsHead, entries_of, low_of};
 ghost use Rattle.vr_space.specs.Part.{IsOn, KeyedShape, Stands, owned_count, part_no};
 ghost use Rattle.vr_attach.specs.Areas.{AreWhole};
 ghost use Rattle.vr_attach.specs.Linked.{IsLinkedDamagedAt};
@@ -26,18 +27,20 @@ use vr_seqset::SeqView;
 use vr_space::Layout;
 use vr_types::{Blocks, DeviceFault, Space};
 
-/// Adds an area to those of its part, by its head, which was read.
+/// Adds an area to those of its part, by its head, which was read, with its intervals.
 fn add_area(areas: &mut Areas, layout: &Layout, area: u32, top: &[u8])
     requires layout { layout.now ≡ area_of areas.old.part area }
     requires head { IsHead layout.now top.now }
     requires low { low_of top.now ≡ low_after areas.old.ends }
     requires ready { HasRoomFor areas.old area }
+    requires few { areas.old.intervals + length (entries_of top.now) < 2 ^ 64 }
     ensures { IsAdded top.now area areas.old areas.new }
 {
     let Ok(view) = SeqView::read(top, layout.area) else {
         unreachable!("it spells a record")
     };
-    areas.add(area, view.high(view.count() - 1));
+    let intervals = view.count();
+    areas.add(area, view.high(intervals - 1), intervals as u64);
 }
 
 /// Takes the area that comes next for the part; or its damage, where that one has an owner.
@@ -113,8 +116,9 @@ fn step<B: Blocks>(
 }
 
 /// Walks over the chain of a part, of which no area is known yet: then its areas are those of the
-/// chain, and are marked as the part's in `taken`. Else the first damage. Each head is read into
-/// `top`, and each block once. It ends, since each area that it goes on to was free.
+/// chain, with the intervals of their heads, and are marked as the part's in `taken`. Else the
+/// first damage. Each head is read into `top`, and each block once. It ends, since each area that
+/// it goes on to was free.
 pub fn walk_chain<B: Blocks>(
     blocks: &mut B,
     areas: &mut Areas,
@@ -123,7 +127,12 @@ pub fn walk_chain<B: Blocks>(
 ) -> Result<Option<Damage>, DeviceFault>
     requires on { IsOn (KeyedShape areas.old.part) (B.seen blocks.old) }
     requires top { length top.old ≡ areas.old.part.geometry.size }
-    requires none { areas.old ≡ record { part = areas.old.part; areas = []; ends = [] } }
+    requires none { areas.old ≡ record {
+      part = areas.old.part;
+      areas = [];
+      ends = [];
+      intervals = 0;
+    } }
     requires count { length taken.old ≡ area_count areas.old.part.geometry }
     requires first { slice_index_or taken.old areas.old.part.first None
         ≡ Some (part_no (KeyedShape areas.old.part)) }
@@ -134,6 +143,8 @@ pub fn walk_chain<B: Blocks>(
     ensures whole { IfOk result (λ found. found ≡ None → AreWhole areas.new) }
     ensures knows { IsTrue B.tells → IfOk result (λ found. found ≡ None
         → KnowsAreas areas.old.part areas.new.areas areas.new.ends (B.seen blocks.old).cur) }
+    ensures counted { IsTrue B.tells → IfOk result (λ found. found ≡ None
+        → areas.new.intervals ≡ intervals_in areas.old.part (B.seen blocks.old).cur) }
     ensures found { IsTrue B.tells → IfOk result (λ found. MatchOption found
         (Stands (KeyedShape areas.old.part) (B.seen blocks.old).cur)
         (λ damage. IsLinkedDamagedAt areas.old.part (IsTakenIn taken.old) (B.seen blocks.old).cur

@@ -17,7 +17,7 @@ use Rattle.vr_types.proofs.CallerLemmas.{puts-touches}
 use Rattle.vr_seqset.specs.Reading.{record_in}
 use Rattle.vr_space.specs.Areas.{EachAfter, EachArea, IsChainAtRest, IsOwnedArea, IsQuietArea}
 use Rattle.vr_space.specs.Areas.{KeyedChain, KnowsAreas, area_of, areas_after, areas_in, head_in}
-use Rattle.vr_space.specs.Areas.{head_of}
+use Rattle.vr_space.specs.Areas.{head_of, intervals_in}
 use Rattle.vr_space.specs.Keyed.{HasEnds, InArea, IsKeyedSound}
 use Rattle.vr_space.specs.Owners.{Owners}
 use Rattle.vr_space.specs.Part.{AddsTo, HasOnly, InPart, IsSound, KeyedShape, MayAlsoHold, MayHold}
@@ -26,7 +26,7 @@ use Rattle.vr_space.specs.Room.{Lengths}
 use Rattle.vr_space.specs.Rosters.{IsOf, after_next}
 use Rattle.vr_space.proofs.CallerLemmas.{HasSameEnds, IsResting, KeepsHead, StaysPart}
 use Rattle.vr_space.proofs.CallerLemmas.{areas-apart, areas-kept, due-stays, each-after-both}
-use Rattle.vr_space.proofs.CallerLemmas.{each-after-less}
+use Rattle.vr_space.proofs.CallerLemmas.{each-after-less, intervals-kept}
 use Rattle.vr_space.proofs.CallerLemmas.{holds-less, knows-kept, links-kept, rest-grows, rest-sound}
 use Rattle.vr_space.proofs.CallerLemmas.{rest-stays, resting-each, resting-links, room-image}
 use Rattle.vr_space.proofs.CallerLemmas.{room-stays, same-ends, same-stays, sound-image}
@@ -276,6 +276,14 @@ module _ (part : KeyedChain) (into : ℕ) (owners : Owners) (kept : Lengths) (ol
         → KnowsAreas part areas ends old.cur → KnowsAreas part areas ends new.cur
     elsewhere-knows areas ends = knows-kept part old.cur new.cur areas ends same-heads
 
+    -- Its heads lead to as many intervals.
+    pub elsewhere-counts : intervals_in part new.cur ≡ intervals_in part old.cur
+    elsewhere-counts = intervals-kept part old.cur new.cur elsewhere-areas
+        (λ at inside. call.content (head_of part at)
+        (areas-apart part at into (head_of part at)
+        (λ same. grows.apart (subst (Contains (areas_in part old.cur)) same inside))
+        (omega arith, omega arith)))
+
 -- ---- one put
 
 -- a put into a block of this number
@@ -310,4 +318,13 @@ pub put-areas : (tells : Bool) → IsTrue tells → (part : KeyedChain) (into n 
     → areas_in part new.cur ≡ areas_in part old.cur
 put-areas tells told part into n bytes owners kept old new inside call left grows =
     elsewhere-areas part into owners kept old grows left new
+    (puts-elsewhere tells told part into n bytes old new inside call)
+
+-- Its heads lead to as many intervals.
+pub put-counts : (tells : Bool) → IsTrue tells → (part : KeyedChain) (into n : ℕ) (bytes : Block)
+    (owners : Owners) (kept : Lengths) (old new : Seen) → InArea (area_of part into) n
+    → Puts tells n bytes old new → Left old old.cur → IsGrowing part into owners kept old
+    → intervals_in part new.cur ≡ intervals_in part old.cur
+put-counts tells told part into n bytes owners kept old new inside call left grows =
+    elsewhere-counts part into owners kept old grows left new
     (puts-elsewhere tells told part into n bytes old new inside call)

@@ -67,7 +67,7 @@ module _ (part : KeyedChain) (area into stay : ℕ) (top lower upper : Block)
   pub upper-low : low_of upper ≡ Some cut
   upper-low = ap low_in upper-is
 
-  lower-entries : entries_of lower ≡ take stay entries
+  pub lower-entries : entries_of lower ≡ take stay entries
   lower-entries = ap (λ (s : SequenceSet). s.entries) lower-is
 
   pub upper-entries : entries_of upper ≡ numbered_from 0 (drop stay entries)

@@ -13,7 +13,7 @@ use Rattle.vr_types.proofs.CallerLemmas.{cur-elsewhere, cur-put, puts-touches}
 use Rattle.vr_space.specs.Areas.{ChainKeepsRoom, IsChainAtRest, IsChainSound, IsOwnedArea}
 use Rattle.vr_space.specs.Areas.{IsQuietArea, KeyedChain, KnowsAreas, area_for, area_of, areas_in}
 use Rattle.vr_space.specs.Areas.{chain_way}
-use Rattle.vr_space.specs.Areas.{head_in, head_of}
+use Rattle.vr_space.specs.Areas.{head_in, head_of, intervals_in}
 use Rattle.vr_space.specs.Keyed.{IsKeyedSound, KeepsRoom, area_way}
 use Rattle.vr_space.specs.Owners.{Owners}
 use Rattle.vr_space.specs.Part.{AddsTo, DueMore, HasOnly, HasRoom, InPart, KeyedShape, MayAlsoHold}
@@ -29,6 +29,7 @@ use Rattle.vr_space.proofs.CallerLemmas.{room-here, room-image, sound-image}
 use Rattle.vr_space.specs.Moves.{cut_of, with_area, with_end}
 use Rattle.vr_casplit.specs.Growing.{LeavesRecords, LeavesRest}
 use Rattle.vr_casplit.proofs.SwitchedAreas.{IsShortened, into-is, knows-switched, other-same}
+use Rattle.vr_casplit.proofs.SwitchedAreas.{switched-count}
 use Rattle.vr_casplit.proofs.SwitchedLinks.{links-switched, other-only, rests-inside}
 use Rattle.vr_casplit.proofs.SwitchedWay.{way-switched}
 use Rattle.vr_casplit.proofs.Switching.{CanSwitch, Narrows, area-room, here, into-room, other-room}
@@ -283,4 +284,9 @@ module _ (tells : Bool) (told : IsTrue tells) (part : KeyedChain) (owners : Owne
         → KnowsAreas part (with_area area into areas)
         (with_end area (cut_of stay (record_in (head_in part a.cur area))) areas ends) b.cur
     switch-knows = knows-switched part owners area into stay a lower can b.cur shortened counted.0
+        counted.1
+
+    -- Its heads lead to as many intervals as before.
+    pub switch-counts : intervals_in part b.cur ≡ intervals_in part a.cur
+    switch-counts = switched-count part owners area into stay a lower can b.cur shortened counted.0
         counted.1

@@ -1,26 +1,32 @@
 -- The areas of the chain once the old head is shortened, and where each ends: what is kept in
 -- memory is right with the new area after the one that is split.
 use Rattle.std.proofs.Common.{◌≡◌, ⊎_elim, ℕ, zero, suc, Bool, true, false, List, [], ◌∷◌}
-use Rattle.std.proofs.Common.{Option, Some, None, map, refl, sym, ap, subst, ◌∙◌, arith}
+use Rattle.std.proofs.Common.{Option, Some, None, map, refl, sym, ap, subst, ◌∙◌, arith, ◌+◌}
+use Rattle.std.proofs.Common.{drop, length}
 use Rattle.std.specs.Prelude.{Contains, cond, nat_eq}
 use Rattle.std.proofs.lemmas.Bool.{cases_eq}
 use Rattle.std.proofs.lemmas.Cmp.{nat_eq_equiv}
+use Rattle.std.proofs.lemmas.List.{length-drop, length-take}
 use Rattle.std.proofs.lemmas.Map.Views.{exact_unsigned_eq}
 use Rattle.vr_types.specs.Geometry.{area_count}
 use Rattle.vr_types.specs.Image.{Block, Image, block_at}
 use Rattle.vr_types.specs.Seen.{Seen}
+use Rattle.vr_seqset.specs.Entry.{Entry}
 use Rattle.vr_seqset.specs.Reading.{record_in}
-use Rattle.vr_space.specs.Areas.{KeyedChain, KnowsAreas, areas_after}
-use Rattle.vr_space.specs.Areas.{end_of, head_in, head_of}
-use Rattle.vr_space.specs.Keyed.{HasEnds}
+use Rattle.vr_space.specs.Areas.{KeyedChain, KnowsAreas, areas_after, areas_in}
+use Rattle.vr_space.specs.Areas.{end_of, head_in, head_of, intervals_in}
+use Rattle.vr_space.specs.Keyed.{HasEnds, entries_of}
 use Rattle.vr_space.specs.Owners.{Owners}
 use Rattle.vr_space.specs.Rosters.{after_next}
-use Rattle.vr_space.proofs.CallerLemmas.{HasSameEnds, areas-kept, resting-links, same-ends}
+use Rattle.vr_space.proofs.CallerLemmas.{HasSameEnds, areas-kept, interval_count}
+use Rattle.vr_space.proofs.CallerLemmas.{intervals-parted, resting-links, resting-stands, same-ends}
 use Rattle.vr_space.specs.Moves.{cut_of, with_area, with_end}
 use Rattle.vr_casplit.proofs.Fuel.{areas-alike, contains-first, contains-later, each-listed}
-use Rattle.vr_casplit.proofs.Heads.{AreHeads, lower-end, lower-next, upper-end, upper-next}
+use Rattle.vr_casplit.proofs.Heads.{AreHeads, lower-end, lower-entries, lower-next, upper-end}
+use Rattle.vr_casplit.proofs.Heads.{upper-entries, upper-next}
 use Rattle.vr_casplit.proofs.SwitchedLinks.{IsBefore, IsPast, before-all, leads-before, leads-past}
 use Rattle.vr_casplit.proofs.Switching.{CanSwitch, are-heads, differs, into-there, other-head}
+use Rattle.vr_casplit.proofs.WrittenHeads.{length-numbered}
 
 -- ---- lists of areas
 
@@ -194,6 +200,44 @@ module _ (part : KeyedChain) (owners : Owners) (area into stay : ℕ) (old : See
       with_area area into (at ∷ after_next [] (areas_after part old.cur k) next)) (sym on.1))
       (cases_eq at area)
 
+  -- so the chain has it after the one that is split
+  areas-switched : (k : ℕ) → area_count part.geometry ≡ suc k
+      → areas_in part new ≡ with_area area into (areas_in part old.cur)
+  areas-switched k is =
+      let is_before : Before k part.first None =
+      before-all part owners area into stay old lower can k is in
+      ap (λ (n : ℕ). areas_after part new n part.first) is
+      ∙ before-areas k part.first None is_before
+      ∙ ap (with_area area into)
+      (sym (areas-alike part old.cur (area_count part.geometry) k part.first None None
+      (resting-links part owners old can.rests can.left) is_before.chain))
+
+  -- ---- how many intervals they lead to
+
+  -- those that stay, and the others
+  parted : interval_count part new area + interval_count part new into
+      ≡ interval_count part old.cur area
+  parted = omega (
+    arith,
+    ap (λ (head : Block). length (entries_of head)) short.here,
+    ap (λ (entries : List Entry). length entries)
+        (lower-entries part area into stay before lower can.moved.upper both),
+    length-take stay (entries_of before),
+    ap (λ (head : Block). length (entries_of head)) into-is,
+    ap (λ (entries : List Entry). length entries)
+        (upper-entries part area into stay before lower can.moved.upper both),
+    length-numbered 0 (drop stay (entries_of before)),
+    length-drop stay (entries_of before),
+    can.fewer,
+  )
+
+  -- as many as before
+  pub switched-count : (k : ℕ) → area_count part.geometry ≡ suc k
+      → intervals_in part new ≡ intervals_in part old.cur
+  switched-count k is = intervals-parted part old.cur new area into
+      (resting-stands part owners old can.rests can.left) (areas-switched k is) can.inside parted
+      (λ at there differ. ap (λ (head : Block). length (entries_of head)) (other-same at differ))
+
   -- ---- where they end
 
   abbrev end_before : ℕ → Option (List ℕ)
@@ -263,9 +307,7 @@ module _ (part : KeyedChain) (owners : Owners) (area into stay : ℕ) (old : See
       ∙ areas-alike part old.cur (area_count part.geometry) k part.first None None
       (resting-links part owners old can.rests can.left) is_before.chain in
       record {
-        areas_are = ap (with_area area into) same
-            ∙ sym (ap (λ (n : ℕ). areas_after part new n part.first) is
-            ∙ before-areas k part.first None is_before);
+        areas_are = ap (with_area area into) knows.areas_are ∙ sym (areas-switched k is);
         ends_are = subst
             (λ (all : List ℕ).
             map Some (with_end area (cut_of stay (record_in before)) all ends)

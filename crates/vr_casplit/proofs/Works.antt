@@ -1,10 +1,11 @@
 -- What a stage leaves, of what the put leaves after the head was read.
-use Rattle.std.proofs.Common.{◌≡◌, ℕ, Bool, IsTrue, List, Ok, Option, Result, Err, IfSome}
+use Rattle.std.proofs.Common.{◌≡◌, ℕ, Bool, IsTrue, List, Ok, Option, Result, Err, IfSome, ap}
+use Rattle.std.proofs.Common.{◌∙◌}
 use Rattle.std.specs.Prelude.{OnOk}
 use Rattle.vr_types.specs.Blocks.{Keeps}
 use Rattle.vr_types.specs.Seen.{Seen}
 use Rattle.vr_types.specs.declared.unit.StageKind.TheVariants.{CaClaim}
-use Rattle.vr_space.specs.Areas.{KeyedChain, KnowsAreas}
+use Rattle.vr_space.specs.Areas.{KeyedChain, KnowsAreas, intervals_in}
 use Rattle.vr_space.specs.Owners.{Owners}
 use Rattle.vr_space.specs.Room.{Lengths}
 use Rattle.vr_casplit.specs.Growing.{IsGrowing, LeavesRecords, LeavesRest}
@@ -63,12 +64,17 @@ module _ (tells : Bool) (told : IsTrue tells) (part : KeyedChain) (move : MoveNo
       → IsGrowing part move.into owners kept m → KnowsAreas part areas ends m.cur
       → KnowsAreas part (areas_by move.stage move areas) (ends_by move.stage move cut areas ends)
       b.cur)
+      → ((owners : Owners) (kept : Lengths) → IsGrowing part move.into owners kept m
+      → intervals_in part b.cur ≡ intervals_in part m.cur)
       → IsWorkDone part move after cut a b
-  work-done after cut rests way knows = record {
+  work-done after cut rests way knows counts = record {
     rests = λ owners kept work. then-rests tells told part owners a m read work.rests b
         (rests owners kept (then-grows owners kept work));
     way = λ owners kept work. way owners kept (grows owners kept work);
     knows = λ owners kept areas ends work before. knows owners kept areas ends
         (then-grows owners kept work)
         (knows-read tells told part owners a m read work.rests areas ends before);
+    counts = λ owners kept work.
+        counts owners kept (then-grows owners kept work)
+        ∙ ap (intervals_in part) (read.content told);
   }

@@ -10,7 +10,7 @@ use Rattle.vr_types.specs.declared.unit.PartNo.{PartNo}
 use Rattle.vr_types.specs.declared.unit.StageKind.{StageKind}
 use Rattle.vr_types.specs.declared.unit.StageKind.TheVariants.{CaClaim, CaCopy, CaLink, CaSwitch}
 use Rattle.vr_space.specs.Areas.{ChainKeepsRoom, IsChainAtRest, IsOwnedArea, KeyedChain, KnowsAreas}
-use Rattle.vr_space.specs.Areas.{area_of}
+use Rattle.vr_space.specs.Areas.{area_of, intervals_in}
 use Rattle.vr_space.specs.Keyed.{IsHead, entries_of}
 use Rattle.vr_space.specs.Owners.{Owners}
 use Rattle.vr_space.specs.Part.{KeyedShape, part_no}
@@ -139,7 +139,8 @@ pub record LeavesWork (part : KeyedChain) (move : MoveNow) (old new : Seen) : Ty
   pub records : (owners : Owners) (kept : Lengths) → IsAtWork part move owners kept old
       → LeavesRecords part owners kept old new
 
--- It is done: the part is at rest, ready for what comes after, and known as it is then.
+-- It is done: the part is at rest, ready for what comes after, and known as it is then; its heads
+-- lead to as many intervals as before.
 pub record IsWorkDone (part : KeyedChain) (move : MoveNow) (after : Option MoveNow) (cut : List ℕ)
     (old new : Seen) : Type 0 where
   pub rests : (owners : Owners) (kept : Lengths) → IsAtWork part move owners kept old
@@ -150,6 +151,8 @@ pub record IsWorkDone (part : KeyedChain) (move : MoveNow) (after : Option MoveN
       → IsAtWork part move owners kept old → KnowsAreas part areas ends old.cur
       → KnowsAreas part (areas_by move.stage move areas) (ends_by move.stage move cut areas ends)
       new.cur
+  pub counts : (owners : Owners) (kept : Lengths) → IsAtWork part move owners kept old
+      → intervals_in part new.cur ≡ intervals_in part old.cur
 
 -- The least free area was claimed for the part.
 pub record HasClaimed (part : KeyedChain) (move : MoveNow) (after : Option MoveNow)

@@ -7,7 +7,7 @@ ghost use Rattle.vr_types.specs.Geometry.{area_count};
 ghost use Rattle.vr_types.specs.Image.{block_at};
 ghost use Rattle.vr_types.specs.declared.fault.DeviceFault.TheVariants.{Read};
 ghost use Rattle.vr_seqset.specs.Entry.{Entry};
-ghost use Rattle.vr_space.specs.Areas.{IsChainOn, KnowsAreas, area_of};
+ghost use Rattle.vr_space.specs.Areas.{IsChainOn, KnowsAreas, area_of, intervals_in};
 ghost use Rattle.vr_space.specs.Keyed.{IsHead, entries_of, entry_block};
 ghost use Rattle.vr_space.specs.Owners.{Owners};
 ghost use Rattle.vr_space.specs.Room.{Lengths};
@@ -55,6 +55,10 @@ pub fn copy_entry<B: Blocks>(
         (ends : List (List ℕ)) → IsGrowing layout.now into owners kept (B.seen blocks.old)
         → KnowsAreas layout.now areas ends (B.seen blocks.old).cur
         → KnowsAreas layout.now areas ends (B.seen blocks.new).cur }
+    ensures counts { IsTrue B.tells → (owners : Owners) (kept : Lengths)
+        → IsGrowing layout.now into owners kept (B.seen blocks.old)
+        → intervals_in layout.now (B.seen blocks.new).cur
+        ≡ intervals_in layout.now (B.seen blocks.old).cur }
     ensures unread { IfErr result (λ fault. fault ≡ Read
         → Keeps B.tells (B.seen blocks.old) (B.seen blocks.new)) }
     ensures out { length out.new ≡ length out.old }

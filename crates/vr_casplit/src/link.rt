@@ -6,7 +6,7 @@ ghost use Rattle.vr_types.specs.Faults.{HasWriteCause};
 ghost use Rattle.vr_types.specs.Geometry.{area_count};
 ghost use Rattle.vr_types.specs.Image.{block_at};
 ghost use Rattle.vr_types.specs.Seen.{Only};
-ghost use Rattle.vr_space.specs.Areas.{IsChainOn, KnowsAreas, area_of, head_of};
+ghost use Rattle.vr_space.specs.Areas.{IsChainOn, KnowsAreas, area_of, head_of, intervals_in};
 ghost use Rattle.vr_space.specs.Keyed.{IsHead, entries_of};
 ghost use Rattle.vr_space.specs.Moves.{IsUpper};
 ghost use Rattle.vr_space.specs.Owners.{Owners};
@@ -93,6 +93,10 @@ pub fn link_area<B: Blocks>(
         (ends : List (List ℕ)) → IsGrowing layout.now into owners kept (B.seen blocks.old)
         → KnowsAreas layout.now areas ends (B.seen blocks.old).cur
         → KnowsAreas layout.now areas ends (B.seen blocks.new).cur }
+    ensures counts { IsTrue B.tells → (owners : Owners) (kept : Lengths)
+        → IsGrowing layout.now into owners kept (B.seen blocks.old)
+        → intervals_in layout.now (B.seen blocks.new).cur
+        ≡ intervals_in layout.now (B.seen blocks.old).cur }
     ensures listed { layout.now.geometry.area < vec_capacity listed.new }
     ensures out { length out.new ≡ length out.old }
     ensures count { (B.seen blocks.new).count ≡ (B.seen blocks.old).count }

@@ -8,7 +8,7 @@ ghost use Rattle.vr_types.specs.Geometry.{area_count};
 ghost use Rattle.vr_types.specs.Space.{least_free};
 ghost use Rattle.vr_types.specs.declared.fault.DeviceFault.TheVariants.{Read};
 ghost use Rattle.vr_types.specs.declared.unit.StageKind.TheVariants as stages;
-ghost use Rattle.vr_space.specs.Areas.{IsChainOn, KnowsAreas, areas_in};
+ghost use Rattle.vr_space.specs.Areas.{IsChainOn, KnowsAreas, areas_in, intervals_in};
 ghost use Rattle.vr_space.specs.Moves.{IsMoving};
 ghost use Rattle.vr_space.specs.Owners.{Owners};
 ghost use Rattle.vr_space.specs.Part.{IsQuiet, KeyedShape, part_no};
@@ -205,6 +205,11 @@ impl CaSplit {
             → KnowsAreas self.old.part areas ends (B.seen blocks.old).cur
             → OnOk result (KnowsAreas self.old.part (areas_by move.stage move areas)
             (ends_by move.stage move self.new.cut areas ends) (B.seen blocks.new).cur)) }
+        // The heads of the chain lead to as many intervals as before.
+        ensures counts { IsTrue B.tells → IfSome self.old.move (λ move. (owners : Owners)
+            (kept : Lengths) → IsAtWork self.old.part move owners kept (B.seen blocks.old)
+            → OnOk result (intervals_in self.old.part (B.seen blocks.new).cur
+            ≡ intervals_in self.old.part (B.seen blocks.old).cur)) }
         // It reads before it puts.
         ensures unread { IfErr result (λ fault. fault ≡ Read
             → Keeps B.tells (B.seen blocks.old) (B.seen blocks.new)) }

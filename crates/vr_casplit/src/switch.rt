@@ -4,6 +4,7 @@ ghost use Rattle.vr_types.specs.Faults.{HasWriteCause};
 ghost use Rattle.vr_types.specs.Geometry.{area_count};
 ghost use Rattle.vr_seqset.specs.Reading.{record_in};
 ghost use Rattle.vr_space.specs.Areas.{IsChainOn, KnowsAreas, area_of, areas_in, head_in};
+ghost use Rattle.vr_space.specs.Areas.{intervals_in};
 ghost use Rattle.vr_space.specs.Keyed.{IsHead, entries_of};
 ghost use Rattle.vr_space.specs.Owners.{Owners};
 ghost use Rattle.vr_space.specs.Room.{Lengths};
@@ -51,6 +52,10 @@ pub fn switch_head<B: Blocks>(
         → KnowsAreas layout.now areas ends (B.seen blocks.old).cur
         → OnOk result (KnowsAreas layout.now (with_area area into areas)
         (with_end area cut.new.place areas ends) (B.seen blocks.new).cur) }
+    ensures counts { IsTrue B.tells → (owners : Owners) (kept : Lengths)
+        → IsGrowing layout.now into owners kept (B.seen blocks.old)
+        → OnOk result (intervals_in layout.now (B.seen blocks.new).cur
+        ≡ intervals_in layout.now (B.seen blocks.old).cur) }
     ensures cut { cut.new.place ≡ cut_of stay (record_in top.now) }
     ensures room { cut.new.room ≡ cut.old.room }
     ensures out { length out.new ≡ length out.old }

@@ -40,6 +40,7 @@ pub mod EntryRules
 pub mod FilledRules
 pub mod Ending
 pub mod Staging
+pub mod Fewer
 pub mod Attaching
 pub mod Stepping
 pub mod KeptSlots

@@ -64,7 +64,7 @@ module _ {B : Type 0} (seen : B → Seen) (after : ℕ) (entry : CatEntry) (to :
     after_is = may.after_is;
     deck = ap (λ (f : FileNow). has_deck 0 f.numbers) file ∙ may.deck;
     number = subst (λ (f : FileNow). number_of f.numbers 0 < 2 ^ 32 - 1) (sym file) may.number;
-    generation = subst (λ (l : LogNow). l.generation + 1 < 2 ^ 64) (sym log) may.generation;
+    generation = subst (λ (l : LogNow). l.generation + 1 < 2 ^ 63) (sym log) may.generation;
   }
 
   pub may-after : (unit : UnitOfRecovery) (changed : ChangedEntry) (old mid : VolumeNow B)

@@ -39,6 +39,8 @@ pub mod Unrefused
 pub mod Wanting
 pub mod Recovering
 pub mod Staged
+pub mod SplitCounts
+pub mod UtilitySteps
 pub mod Puts
 pub mod Wholes
 pub mod Withdrawing
@@ -47,6 +49,8 @@ pub mod Makes
 pub mod ActedLater
 pub mod Opened
 pub mod Acted
+pub mod CountedSplits
+pub mod AllowedLengths
 pub mod CallerLemmas
 pub mod OpenedAreas
 pub mod ClusterRecords

@@ -18,13 +18,19 @@ use Rattle.vr_store.specs.Parts.{OnlyMet}
 use Rattle.vr_event.specs.Putting.{FitsItem, FitsLength, HasMetAt, HasPlace, HasRoomAt}
 use Rattle.vr_event.specs.Putting.{IsFitting, IsReadyIn}
 use Rattle.vr_store.specs.Room.{IsRoomAt}
-use Rattle.vr_store.specs.Store.{PartNow, StoreNow, part_among, shape_among}
+use Rattle.vr_store.specs.Store.{HasLength, PartNow, StoreNow, part_among, shape_among}
 use Rattle.vr_store.proofs.CallerLemmas.{shapes-same, split-met}
 
 pub none-shape : (o : Option PartNow) → option_map (λ (part : PartNow). part.shape) o ≡ None
     → o ≡ None
 none-shape None is = refl
 none-shape (Some part) is = absurd cc
+
+-- a part with a length that fits it has one
+some-length : (found : Option Shape) (n : ℕ) → IfSome found (λ shape. IsLengthOf shape n)
+    → IfSome found HasLength
+some-length None n fits = tt
+some-length (Some shape) n fits = (n, fits)
 
 module _ (old new : List PartNow)
     (same : (n : ℕ) → shape_among new n ≡ shape_among old n) (part : ℕ) where
@@ -55,13 +61,14 @@ module _ (old new : List PartNow)
 
   pub ready-same : (request : Request) (place : List ℕ) (was : Option (List ℕ))
       → HasPlace old part place → FitsItem old part place (new_record request)
-      → FitsItem old part place was → HasMetAt new part place
+      → FitsItem old part place was → HasMetAt new part place → (n : ℕ) → FitsLength old part n
       → IsReadyIn new part request place was
-  ready-same request place was at new-fits old-fits met = record {
+  ready-same request place was at new-fits old-fits met n size = record {
     at = place-same place at;
     new_fits = item-same place (new_record request) new-fits;
     old_fits = item-same place was old-fits;
     met = met;
+    long = some-length (shape_among new part) n (length-same n size);
   }
 
 pub met-shapes : (number : ℕ) (old new : List PartNow) → OnlyMet number old new → (n : ℕ)

@@ -11,6 +11,7 @@ use Rattle.vr_space.specs.Part.{owned_count}
 use Rattle.vr_store.specs.Store.{StoreNow}
 use Rattle.vr_event.specs.DefineSteps.{HasComeHeld, LacksRoomWhere}
 use Rattle.vr_event.specs.Defining.{IsNewCluster, utility_unit}
+use Rattle.vr_event.specs.Nearer.{LeavesLess}
 use Rattle.vr_event.specs.Volume.{Holds, IsHeld, IsWhole, VolumeNow}
 use Rattle.vr_event.specs.declared.define.Define.{Define}
 use Rattle.vr_event.proofs.DefineWhole.{not-laid}
@@ -49,4 +50,9 @@ module _ {B : Type 0} (seen : B → Seen) (entry : CatEntry) (old : VolumeNow B)
   pub lacks-back : (result : Result Define OutOfMemory) → Holds seen old
       → LacksRoomWhere seen entry result mid → LacksRoomWhere seen entry result old
   lacks-back result holds = subst (LacksRoomWhere seen entry result)
+      (back-same holds.opening holds.held)
+
+  pub less-back : (again : Type 0) (final : VolumeNow B) → Holds seen old
+      → LeavesLess again mid final → LeavesLess again old final
+  less-back again final holds = subst (λ (v : VolumeNow B). LeavesLess again v final)
       (back-same holds.opening holds.held)

@@ -42,7 +42,7 @@ pub record MayDefineNow {B : Type 0} (seen : B → Seen) (after : ℕ) (volume :
     pub after_is : after < 2 ^ 64 - 4
     pub deck : has_deck 0 volume.file.numbers ≡ true
     pub number : number_of volume.file.numbers 0 < 2 ^ 32 - 1
-    pub generation : volume.store.log.generation + 1 < 2 ^ 64
+    pub generation : volume.store.log.generation + 1 < 2 ^ 63
 
 -- A prepared cluster may be added, once the catalog has room: the event may begin, the volume
 -- doesn't have the cluster, its area is the least that is free, no lock is in its way, and the log

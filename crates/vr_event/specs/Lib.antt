@@ -7,6 +7,7 @@ pub mod Looking
 pub mod Searching
 pub mod EndedFile
 pub mod Acting
+pub mod Nearer
 pub mod Putting
 pub mod Lacking
 pub mod Opening

@@ -48,7 +48,7 @@ use Rattle.vr_event.specs.Cause.{is_faulted}
 use Rattle.vr_event.specs.Getting.{is_number}
 use Rattle.vr_store.specs.Change.{NoOtherLogged, has_logged, need_with}
 use Rattle.vr_store.specs.Room.{IsDueAt}
-use Rattle.vr_store.specs.Store.{IsStored, PartNow, StoreNow, part_among, shape_among}
+use Rattle.vr_store.specs.Store.{HasLength, IsStored, PartNow, StoreNow, part_among, shape_among}
 use Rattle.vr_event.specs.Volume.{IsHeld, VolumeNow}
 use Rattle.vr_event.specs.declared.act.Act.{Act}
 use Rattle.vr_event.specs.declared.act.Act.TheVariants.{Again, Done}
@@ -119,6 +119,10 @@ is_length_for Relative n definition = nat_eq n definition.maximum
 
 abbrev pub is_length_in : ℕ → Definition → Bool
 is_length_in n definition = is_length_for definition.kind n definition
+
+-- there is one
+abbrev pub AllowsLength : Definition → Type 0
+AllowsLength definition = (n : ℕ) × (is_length_in n definition ≡ true)
 
 -- the parts are those of a catalog
 abbrev pub AreLaidBy : Geometry → List CatEntry → List PartNow → Type 0
@@ -225,13 +229,14 @@ IsOpenTo store image part request (Stage place n) = IsDueAt store image part pla
 IsOpenTo store image part request (Ready place old reply names) =
     HasRoomAt store image part place (new_record request)
 
--- a change that is ready fits its part, which has met its place
+-- a change that is ready fits its part, which has met its place, and in which some record may stand
 pub record IsReadyIn (parts : List PartNow) (part : ℕ) (request : Request) (place : List ℕ)
     (old : Option (List ℕ)) : Type 0 where
   pub at : HasPlace parts part place
   pub new_fits : FitsItem parts part place (new_record request)
   pub old_fits : FitsItem parts part place old
   pub met : HasMetAt parts part place
+  pub long : IfSome (shape_among parts part) HasLength
 
 -- whether or not the device reports its contents; a refusal moves no file
 abbrev pub FitsIn : List PartNow → ℕ → Request → Weighed → Type 0

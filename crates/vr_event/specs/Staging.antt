@@ -27,7 +27,8 @@ IsTakenBy part old new None = new ≡ old
 IsTakenBy part old new (Some area) =
     (least_free old ≡ Some area.0) × (new ≡ slice_set old area.0 (Some part))
 
--- the record file once the stage is entered, for the request on this line: a stage that takes an area splits no interval in two
+-- The record file once the stage is entered, for the request on this line: a stage that takes an area
+-- splits no interval in two.
 abbrev pub stage_entered : ℕ → UnitOfRecovery → ℕ → PartNo → Bool → Option AreaNo → FileNow
     → FileNow
 stage_entered after unit line part split (Some area) file =

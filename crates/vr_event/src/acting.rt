@@ -15,6 +15,7 @@ ghost use Rattle.vr_record_file.specs.Now.{CanSet, has_deck, number_of, state_no
 ghost use Rattle.vr_event.specs.Acting.{IsActed, IsLeftIn, MayAct};
 ghost use Rattle.vr_event.specs.Getting.{IsEntered};
 ghost use Rattle.vr_event.specs.Lacking.{IsLacking};
+ghost use Rattle.vr_event.specs.Nearer.{EntersSplits, IsNearer};
 ghost use Rattle.vr_event.specs.Putting as putting;
 ghost use Rattle.vr_event.specs.Serving.{IsEventOf};
 ghost use Rattle.vr_event.specs.Volume.{Holds, IsHeld, IsWhole};
@@ -100,7 +101,7 @@ impl<B: Blocks, P: Part> Volume<B, P> {
         requires after { after < 2 ^ 64 - 2 }
         requires deck { has_deck unit.deck self.old.file.numbers ≡ true }
         requires number { number_of self.old.file.numbers unit.deck < 2 ^ 32 - 1 }
-        requires generation { self.old.store.log.generation + 1 < 2 ^ 64 }
+        requires generation { self.old.store.log.generation + 1 < 2 ^ 63 }
         requires holds { IsTrue B.tells → Holds B.seen self.old }
         ensures held { IsTrue B.tells → (opening : State) → IsHeld B.seen opening self.old
             → MayAct opening self.old.file unit request
@@ -131,6 +132,8 @@ impl<B: Blocks, P: Part> Volume<B, P> {
             → place_changed (case_of self.old.file.geometry (state_now opening self.old.file) unit
             request) ≡ Some place
             → IsLacking self.old.store (B.seen self.old.blocks).cur place request need free }
+        ensures nearer { IsTrue B.tells → IsNearer result unit self.old self.new }
+        ensures splits { IsTrue B.tells → EntersSplits self.old self.new }
         ensures number { self.new.number ≡ self.old.number }
         ensures generation { self.new.file.stopped ≡ None
             → self.new.store.log.generation ≤ self.old.store.log.generation + 1 }
@@ -169,7 +172,7 @@ impl<B: Blocks, P: Part> Volume<B, P> {
         requires after { after < 2 ^ 64 - 2 }
         requires deck { has_deck unit.deck self.old.file.numbers ≡ true }
         requires number { number_of self.old.file.numbers unit.deck < 2 ^ 32 - 1 }
-        requires generation { self.old.store.log.generation + 1 < 2 ^ 64 }
+        requires generation { self.old.store.log.generation + 1 < 2 ^ 63 }
         requires holds { IsTrue B.tells → Holds B.seen self.old }
         ensures held { IsTrue B.tells → (opening : State) → IsHeld B.seen opening self.old
             → MayAct opening self.old.file unit request → IsHeld B.seen opening self.new }
@@ -197,6 +200,9 @@ impl<B: Blocks, P: Part> Volume<B, P> {
             → IsLacking self.old.store (B.seen self.old.blocks).cur place request need free }
         // A volume that stopped touches no block.
         ensures stopped { self.old.file.stopped ≢ None → self.new.blocks ≡ self.old.blocks }
+        // What is handed back waits for less; and splits are entered as they are done.
+        ensures nearer { IsTrue B.tells → IsNearer result unit self.old self.new }
+        ensures splits { IsTrue B.tells → EntersSplits self.old self.new }
         ensures number { self.new.number ≡ self.old.number }
         ensures generation { self.new.file.stopped ≡ None
             → self.new.store.log.generation ≤ self.old.store.log.generation + 1 }

@@ -1,7 +1,7 @@
 //! BACKOUT: the before-images that a unit of recovery keeps are put back, the last one first, and then
 //! the unit ends.
 ghost use Rattle.std.specs.Prelude.{◌≡◌, ◌≢◌, ◌<◌, ◌≤◌, ◌-◌, ◌+◌, ◌^◌, [], IsTrue, OnOk, None};
-ghost use Rattle.std.specs.Prelude.{IfOk, IfSome, true, false};
+ghost use Rattle.std.specs.Prelude.{IfOk, IfSome, Some, option_map, true, false};
 ghost use Rattle.std.specs.Option.{option_map_or};
 ghost use Rattle.vr_types.specs.Blocks.{Keeps};
 ghost use Rattle.vr_types.specs.Faults.{HasCause};
@@ -20,7 +20,8 @@ ghost use Rattle.vr_event.specs.Acting.{IsActed};
 ghost use Rattle.vr_store.specs.LastImage.{HasNoStage, IsDueAtLast, IsMetBy, OnLast, last_of_unit};
 ghost use Rattle.vr_event.specs.EndedFile.{IsEnding};
 ghost use Rattle.vr_store.specs.Store.{part_among, shape_among};
-ghost use Rattle.vr_event.specs.Putting.{is_length_in};
+ghost use Rattle.vr_event.specs.Nearer.{EntersSplits, IsNearer, MeetsOnly};
+ghost use Rattle.vr_event.specs.Putting.{AllowsLength, is_length_in};
 ghost use Rattle.vr_event.specs.Volume.{Holds, IsHeld, IsWhole};
 
 use crate::act::Act;
@@ -33,52 +34,43 @@ use vr_types::{Blocks, DeviceFault, Kind, PartNo, SharedRequest, Unit};
 use vr_undo::Before;
 
 /// The least length that a record of a definition may have: an entry-sequenced one has a byte or
-/// more, and each record of a relative cluster has the one length. None where none may stand.
-fn least_by(definition: &Definition) -> Option<u32>
-    ensures { IfSome result (λ n. is_length_in n definition.now ≡ true) }
+/// more, and each record of a relative cluster has the one length.
+fn least_by(definition: &Definition) -> u32
+    requires { AllowsLength definition.now }
+    ensures { is_length_in result definition.now ≡ true }
 {
     match definition.kind {
-        Kind::Keyed => {
-            let least = u32::from(definition.key_offset) + u32::from(definition.key_length);
-            if least <= definition.maximum {
-                Some(least)
-            } else {
-                None
-            }
-        }
-        Kind::Entry => {
-            if definition.maximum == 0 {
-                None
-            } else {
-                Some(1)
-            }
-        }
-        Kind::Relative => Some(definition.maximum),
+        Kind::Keyed => u32::from(definition.key_offset) + u32::from(definition.key_length),
+        Kind::Entry => 1,
+        Kind::Relative => definition.maximum,
     }
 }
 
 /// The least length that a record of a part may have, by its definition in a catalog.
-fn least_length(catalog: &Catalog, part: PartNo) -> Option<u32>
-    ensures { IfSome result (λ n. option_map_or (is_length_in n)
-        (definition_of catalog.now part.0) false ≡ true) }
+fn least_length(catalog: &Catalog, part: PartNo) -> u32
+    requires some { definition_of catalog.now part.0 ≢ None }
+    requires allows { IfSome (definition_of catalog.now part.0) AllowsLength }
+    ensures { option_map_or (is_length_in result) (definition_of catalog.now part.0) false
+        ≡ true }
 {
     match catalog.definition_of(part) {
-        None => None,
+        None => unreachable!("the part is defined"),
         Some(definition) => least_by(&definition),
     }
 }
 
 impl<B: Blocks, P: Part> Volume<B, P> {
-    /// A length that a record of the part may have of which a unit keeps its last before-image. None
-    /// where its definition allows no record.
-    fn last_length(&self, unit: Unit) -> Option<u32>
+    /// A length that a record of the part may have of which a unit keeps its last before-image.
+    fn last_length(&self, unit: Unit) -> u32
         requires whole { IsWhole B.seen self.now }
         requires going { self.now.file.stopped ≡ None }
-        ensures { IfSome result (λ n. OnLast self.now.store unit (λ last.
-            IfSome (shape_among self.now.store.parts last.part) (λ shape. IsLengthOf shape n))) }
+        requires some { last_of_unit self.now.store unit ≢ None }
+        ensures { OnLast self.now.store unit (λ last.
+            IfSome (shape_among self.now.store.parts last.part) (λ shape.
+            IsLengthOf shape result)) }
     {
         match self.store.last_part(unit) {
-            None => None,
+            None => unreachable!("the unit keeps one"),
             Some(part) => least_length(self.file.catalog(), part),
         }
     }
@@ -106,12 +98,25 @@ impl<B: Blocks, P: Part> Volume<B, P> {
             IfSome (shape_among self.new.store.parts last.part) (λ shape.
             IsLengthOf shape length)) }
         ensures log { self.new.store.log ≡ self.old.store.log }
+        ensures meets { MeetsOnly self.old.store self.new.store }
         ensures number { self.new.number ≡ self.old.number }
         ensures file { self.new.file ≡ self.old.file }
         ensures keeps { Keeps B.tells (B.seen self.old.blocks) (B.seen self.new.blocks) }
         ensures cause { HasCause (B.faults self.old.blocks) (B.faults self.new.blocks) result }
     {
         self.store.meet_last(&mut self.blocks, unit, length)
+    }
+
+    /// The part of the last before-image that a unit keeps.
+    fn last_of(&self, unit: Unit) -> PartNo
+        requires some { last_of_unit self.now.store unit ≢ None }
+        ensures { option_map (λ last. last.part) (last_of_unit self.now.store unit)
+            ≡ Some result.0 }
+    {
+        match self.store.last_part(unit) {
+            Some(part) => part,
+            None => unreachable!("the unit keeps one"),
+        }
     }
 
     /// Does the stage that comes before the last before-image of a unit, and enters that an interval was
@@ -147,12 +152,12 @@ impl<B: Blocks, P: Part> Volume<B, P> {
             → Guards (B.seen self.old.blocks) (B.seen self.new.blocks)
             (RecoversTo self.old.store.log.geometry self.old.number
             (state_now opening self.old.file) []) }
+        ensures nearer { IsTrue B.tells → IsNearer result unit self.old self.new }
+        ensures splits { IsTrue B.tells → EntersSplits self.old self.new }
         ensures number { self.new.number ≡ self.old.number }
         ensures log { self.new.store.log ≡ self.old.store.log }
     {
-        let Some(part) = self.store.last_part(unit) else {
-            return Act::Again(request);
-        };
+        let part = self.last_of(unit);
         let least = self.store.least_free();
         let free = self.store.free_areas();
         match self.store.advance_last(&mut self.blocks, unit, length) {
@@ -218,6 +223,8 @@ impl<B: Blocks, P: Part> Volume<B, P> {
             → Guards (B.seen self.old.blocks) (B.seen self.new.blocks)
             (RecoversTo self.old.store.log.geometry self.old.number
             (state_now opening self.old.file) []) }
+        ensures nearer { IsTrue B.tells → IsNearer result unit self.old self.new }
+        ensures splits { IsTrue B.tells → EntersSplits self.old self.new }
         ensures number { self.new.number ≡ self.old.number }
         ensures log { self.new.store.log ≡ self.old.store.log }
     {
@@ -253,12 +260,12 @@ impl<B: Blocks, P: Part> Volume<B, P> {
             → Guards (B.seen self.old.blocks) (B.seen self.new.blocks)
             (RecoversTo self.old.store.log.geometry self.old.number
             (state_now opening self.old.file) []) }
+        ensures nearer { IsTrue B.tells → IsNearer result unit self.old self.new }
+        ensures splits { IsTrue B.tells → EntersSplits self.old self.new }
         ensures number { self.new.number ≡ self.old.number }
         ensures log { self.new.store.log ≡ self.old.store.log }
     {
-        let Some(length) = self.last_length(unit) else {
-            return Act::Again(request);
-        };
+        let length = self.last_length(unit);
         match self.meet_back(unit, length) {
             Ok(true) => self.stage_back(unit, line, request, length, after),
             Ok(false) => self.put_back(unit, line, request, after),
@@ -287,7 +294,7 @@ impl<B: Blocks, P: Part> Volume<B, P> {
         requires after { after < 2 ^ 64 - 2 }
         requires deck { has_deck unit.deck self.old.file.numbers ≡ true }
         requires number { number_of self.old.file.numbers unit.deck < 2 ^ 32 - 1 }
-        requires generation { self.old.store.log.generation + 1 < 2 ^ 64 }
+        requires generation { self.old.store.log.generation + 1 < 2 ^ 63 }
         requires request { request ≡ Backout }
         requires holds { IsTrue B.tells → Holds B.seen self.old }
         ensures held { IsTrue B.tells → (opening : State) → IsHeld B.seen opening self.old
@@ -301,6 +308,9 @@ impl<B: Blocks, P: Part> Volume<B, P> {
             → Guards (B.seen self.old.blocks) (B.seen self.new.blocks)
             (RecoversTo self.old.store.log.geometry self.old.number
             (state_now opening self.old.file) []) }
+        // Asked again it waits for less, and a split is entered as it is done.
+        ensures nearer { IsTrue B.tells → IsNearer result unit self.old self.new }
+        ensures splits { IsTrue B.tells → EntersSplits self.old self.new }
         ensures number { self.new.number ≡ self.old.number }
         ensures generation { self.new.file.stopped ≡ None
             → self.new.store.log.generation ≤ self.old.store.log.generation + 1 }

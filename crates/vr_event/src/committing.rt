@@ -1,6 +1,6 @@
 //! The end of a unit of recovery on a volume: the blocks that it changed are forced, and then its end
 //! is logged and entered.
-ghost use Rattle.std.specs.Prelude.{◌≡◌, ◌<◌, ◌≤◌, ◌-◌, ◌+◌, ◌^◌, [], IsTrue, OnOk};
+ghost use Rattle.std.specs.Prelude.{◌≡◌, ◌≢◌, ◌<◌, ◌≤◌, ◌-◌, ◌+◌, ◌^◌, [], IsTrue, OnOk};
 ghost use Rattle.std.specs.Prelude.{None, OnErr, false, true};
 ghost use Rattle.vr_types.specs.Blocks.{Keeps};
 ghost use Rattle.vr_types.specs.Faults.{HasWriteCause};
@@ -19,6 +19,8 @@ ghost use Rattle.vr_volume.specs.Crashes.{RecoversTo};
 ghost use Rattle.vr_event.specs.Acting.{IsActed, IsLeftIn};
 ghost use Rattle.vr_store.specs.LastImage.{last_of_unit};
 ghost use Rattle.vr_event.specs.EndedFile.{IsEndBy, IsEnding};
+ghost use Rattle.vr_event.specs.Nearer.{EntersSplits, IsNearer};
+ghost use Rattle.vr_store.specs.Left.{left_for};
 ghost use Rattle.vr_store.specs.Store.{blocks_of};
 ghost use Rattle.vr_event.specs.Volume.{Holds, IsHeld, IsWhole};
 ghost use Rattle.vr_event.specs.declared.act.Act.TheVariants as acts;
@@ -47,6 +49,9 @@ impl<B: Blocks, P: Part> Volume<B, P> {
             (RecoversTo self.old.store.log.geometry self.old.number
             (state_now opening self.old.file) []) }
         ensures same { OnErr result (self.new.store ≡ self.old.store) }
+        // Where there are such blocks the unit waits for less.
+        ensures nearer { blocks_of unit self.old.store.changed ≢ []
+            → OnOk result (left_for unit self.new.store < left_for unit self.old.store) }
         ensures rest { self.new.store ≡ record self.old.store {
           changed = self.new.store.changed;
         } }
@@ -68,6 +73,7 @@ impl<B: Blocks, P: Part> Volume<B, P> {
         requires room { 1 < self.old.file.room }
         requires last { last_stamp 0 self.old.file.entries < 2 ^ 64 - 2 }
         requires after { after < 2 ^ 64 - 2 }
+        requires left { blocks_of unit self.old.store.changed ≢ [] }
         ensures held { IsTrue B.tells → (opening : State) → IsHeld B.seen opening self.old
             → IsEnding opening self.old.file unit request → IsHeld B.seen opening self.new }
         ensures whole { IsWhole B.seen self.new }
@@ -77,6 +83,8 @@ impl<B: Blocks, P: Part> Volume<B, P> {
             → Guards (B.seen self.old.blocks) (B.seen self.new.blocks)
             (RecoversTo self.old.store.log.geometry self.old.number
             (state_now opening self.old.file) []) }
+        ensures nearer { IsNearer result unit self.old self.new }
+        ensures splits { EntersSplits self.old self.new }
         ensures number { self.new.number ≡ self.old.number }
         ensures log { self.new.store.log ≡ self.old.store.log }
     {
@@ -103,7 +111,7 @@ impl<B: Blocks, P: Part> Volume<B, P> {
         requires ends { IsEndBy kind request }
         requires live { IsTrue (is_in unit (live_in self.old.store.log.records)) }
         requires none_left { blocks_of unit self.old.store.changed ≡ [] }
-        requires generation { self.old.store.log.generation + 1 < 2 ^ 64 }
+        requires generation { self.old.store.log.generation + 1 < 2 ^ 63 }
         requires holds { IsTrue B.tells → Holds B.seen self.old }
         ensures held { IsTrue B.tells → (opening : State) → IsHeld B.seen opening self.old
             → MayBeAsked opening self.old.file unit request (Done 0 None None)
@@ -120,6 +128,7 @@ impl<B: Blocks, P: Part> Volume<B, P> {
             after unit line request self.old.file self.new.file }
         ensures generation { self.new.file.stopped ≡ None
             → self.new.store.log.generation ≤ self.old.store.log.generation + 1 }
+        ensures parts { self.new.store.parts ≡ self.old.store.parts }
         ensures number { self.new.number ≡ self.old.number }
     {
         match self.store.end(&mut self.blocks, unit, kind) {
@@ -173,7 +182,7 @@ impl<B: Blocks, P: Part> Volume<B, P> {
         requires going { self.old.file.stopped ≡ None }
         requires ends { IsEndBy kind request }
         requires none_kept { kind ≡ BackedOut → last_of_unit self.old.store unit ≡ None }
-        requires generation { self.old.store.log.generation + 1 < 2 ^ 64 }
+        requires generation { self.old.store.log.generation + 1 < 2 ^ 63 }
         requires holds { IsTrue B.tells → Holds B.seen self.old }
         ensures held { IsTrue B.tells → (opening : State) → IsHeld B.seen opening self.old
             → IsEnding opening self.old.file unit request → IsHeld B.seen opening self.new }
@@ -184,6 +193,8 @@ impl<B: Blocks, P: Part> Volume<B, P> {
             → Guards (B.seen self.old.blocks) (B.seen self.new.blocks)
             (IsLeftIn self.old.store.log.geometry self.old.number (state_now opening self.old.file)
             after unit line request self.old.file self.new.file) }
+        ensures nearer { IsNearer result unit self.old self.new }
+        ensures splits { EntersSplits self.old self.new }
         ensures number { self.new.number ≡ self.old.number }
         ensures generation { self.new.file.stopped ≡ None
             → self.new.store.log.generation ≤ self.old.store.log.generation + 1 }
@@ -213,7 +224,7 @@ impl<B: Blocks, P: Part> Volume<B, P> {
         requires after { after < 2 ^ 64 - 2 }
         requires deck { has_deck unit.deck self.old.file.numbers ≡ true }
         requires number { number_of self.old.file.numbers unit.deck < 2 ^ 32 - 1 }
-        requires generation { self.old.store.log.generation + 1 < 2 ^ 64 }
+        requires generation { self.old.store.log.generation + 1 < 2 ^ 63 }
         requires request { request ≡ Commit }
         requires holds { IsTrue B.tells → Holds B.seen self.old }
         ensures held { IsTrue B.tells → (opening : State) → IsHeld B.seen opening self.old
@@ -226,6 +237,9 @@ impl<B: Blocks, P: Part> Volume<B, P> {
             → Guards (B.seen self.old.blocks) (B.seen self.new.blocks)
             (IsLeftIn self.old.store.log.geometry self.old.number (state_now opening self.old.file)
             after unit line request self.old.file self.new.file) }
+        // Asked again it waits for less, and no split is entered.
+        ensures nearer { IsNearer result unit self.old self.new }
+        ensures splits { EntersSplits self.old self.new }
         ensures number { self.new.number ≡ self.old.number }
         ensures generation { self.new.file.stopped ≡ None
             → self.new.store.log.generation ≤ self.old.store.log.generation + 1 }

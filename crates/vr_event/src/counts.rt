@@ -13,6 +13,7 @@ ghost use Rattle.vr_volume.specs.Crashes.{RecoversTo};
 ghost use Rattle.vr_event.specs.Counts as counting;
 ghost use Rattle.vr_event.specs.Counts.{HasCountFaults, IsCountEntered};
 ghost use Rattle.vr_event.specs.Defining.{utility_unit};
+ghost use Rattle.vr_event.specs.Nearer.{EntersSplits};
 ghost use Rattle.vr_event.specs.Volume.{Holds, IsHeld, IsWhole};
 ghost use Rattle.vr_event.specs.declared.counts.Count.TheVariants as counts;
 ghost use Rattle.vr_event.specs.declared.counts.Counts as numbers;
@@ -136,6 +137,8 @@ impl<B: Blocks, P: Part> Volume<B, P> {
         ensures quiet { self.new.file.stopped ≡ self.old.file.stopped
             → (B.faults self.new.blocks).writes ≡ (B.faults self.old.blocks).writes }
         ensures store { self.new.store ≡ self.old.store }
+        // It splits no interval, and enters no split.
+        ensures splits { EntersSplits self.old self.new }
         ensures number { self.new.number ≡ self.old.number }
     {
         match self.records_of(alloc, entry.part) {

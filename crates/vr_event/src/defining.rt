@@ -1,6 +1,6 @@
 //! DEFINE of a cluster as one event of a volume.
 ghost use Rattle.std.specs.Prelude.{◌≡◌, ◌≢◌, ◌⊎◌, ◌<◌, ◌≤◌, ◌+◌, ◌-◌, ◌^◌, ℕ, IfOk, IfSome};
-ghost use Rattle.std.specs.Prelude.{IsTrue, List, None, OnOk, Some, [], false, length, true};
+ghost use Rattle.std.specs.Prelude.{IsTrue, List, None, Ok, OnOk, Some, [], false, length, true};
 ghost use Rattle.vr_types.specs.Faults.{HasCause};
 ghost use Rattle.vr_types.specs.Geometry.{area_count};
 ghost use Rattle.vr_types.specs.LogSpace.{IsLogFull, log_size};
@@ -9,6 +9,7 @@ ghost use Rattle.vr_types.specs.Moments.{Guards};
 ghost use Rattle.vr_types.specs.Space.{least_free};
 ghost use Rattle.vr_types.specs.declared.fault.DeviceFault.TheVariants.{Write};
 ghost use Rattle.vr_types.specs.declared.unit.AreaNo as areas;
+ghost use Rattle.vr_types.specs.declared.unit.Unit as units;
 ghost use Rattle.vr_types.specs.declared.unit.Mode.TheVariants.{Exclusive};
 ghost use Rattle.vr_attach.specs.Laid.{shape_of};
 ghost use Rattle.vr_catalog.specs.declared.entry.CatEntry as entries;
@@ -21,6 +22,8 @@ ghost use Rattle.vr_record_file.specs.Now.{IsStateOf, faulted, has_deck, number_
 ghost use Rattle.vr_space.specs.Part.{owned_count};
 ghost use Rattle.vr_volume.specs.Crashes.{RecoversTo};
 ghost use Rattle.vr_store.specs.Change.{IsSettable};
+ghost use Rattle.vr_store.specs.Left.{left_for};
+ghost use Rattle.vr_store.specs.Parts.{OnlyMet};
 ghost use Rattle.vr_store.specs.Room.{IsDueAt, IsRoomAt};
 ghost use Rattle.vr_store.specs.Store.{shape_among};
 ghost use Rattle.vr_event.specs.Defining.{EnteredBy, FaultsBy, HasDefineFaults};
@@ -29,6 +32,7 @@ ghost use Rattle.vr_event.specs.Defining.{entry_place, entry_with_area, record_l
 ghost use Rattle.vr_event.specs.Defining.{utility_unit};
 ghost use Rattle.vr_event.specs.DefineSteps.{HasCome, HasComeHeld, IsStageOrFault};
 ghost use Rattle.vr_event.specs.DefineSteps.{LacksRoomWhere, MayAdd, MayDefineNow};
+ghost use Rattle.vr_event.specs.Nearer.{EntersSplits, LeavesLess};
 ghost use Rattle.vr_event.specs.NewCluster.{IsPreparedFor};
 ghost use Rattle.vr_event.specs.Putting.{HasMetAt};
 ghost use Rattle.vr_event.specs.Volume.{AreServedClusters, Holds, IsFileHeld, IsHeld, IsWhole};
@@ -115,6 +119,7 @@ impl<B: Blocks, P: Part> Volume<B, P> {
             (state_now opening self.old.file) []) }
         ensures file { self.new.file ≡ self.old.file }
         ensures number { self.new.number ≡ self.old.number }
+        ensures parts { OnlyMet 0 self.old.store.parts self.new.store.parts }
         ensures rest { self.new.store ≡ record self.old.store { parts = self.new.store.parts } }
         ensures cause { HasCause (B.faults self.old.blocks) (B.faults self.new.blocks) result }
     {
@@ -145,6 +150,7 @@ impl<B: Blocks, P: Part> Volume<B, P> {
             (RecoversTo self.old.store.log.geometry self.old.number
             (state_now opening self.old.file) []) }
         ensures is { IsStageOrFault result }
+        ensures less { IsTrue B.tells → LeavesLess (result ≡ defines.Again) self.old self.new }
         ensures stops { result ≡ defines.Fault Write
             → self.new.file ≡ faulted after unit line self.old.file }
         ensures cause { FaultsBy result (B.faults self.old.blocks) (B.faults self.new.blocks) }
@@ -297,6 +303,7 @@ impl<B: Blocks, P: Start + Drop> Volume<B, P> {
         ensures cause { HasDefineFaults (B.faults self.old.blocks) (B.faults self.new.blocks)
             result }
         ensures no_room { IfOk result (λ define. define ≢ defines.NoRoom) }
+        ensures less { IsTrue B.tells → LeavesLess (result ≡ Ok defines.Again) self.old self.new }
         ensures held { IsTrue B.tells → (opening : State) → IsHeld B.seen opening self.old
             → HasComeHeld B.seen opening after unit line entry.now self.old self.new }
     {
@@ -343,6 +350,7 @@ impl<B: Blocks, P: Start + Drop> Volume<B, P> {
         ensures cause { HasDefineFaults (B.faults self.old.blocks) (B.faults self.new.blocks)
             result }
         ensures no_room { IsTrue B.tells → LacksRoomWhere B.seen entry.now result self.old }
+        ensures less { IsTrue B.tells → LeavesLess (result ≡ Ok defines.Again) self.old self.new }
         ensures held { IsTrue B.tells → (opening : State) → IsHeld B.seen opening self.old
             → HasComeHeld B.seen opening after unit line entry.now self.old self.new }
     {
@@ -393,6 +401,7 @@ impl<B: Blocks, P: Start + Drop> Volume<B, P> {
         ensures cause { HasDefineFaults (B.faults self.old.blocks) (B.faults self.new.blocks)
             result }
         ensures no_room { IsTrue B.tells → LacksRoomWhere B.seen entry.now result self.old }
+        ensures less { IsTrue B.tells → LeavesLess (result ≡ Ok defines.Again) self.old self.new }
         ensures held { IsTrue B.tells → (opening : State) → IsHeld B.seen opening self.old
             → HasComeHeld B.seen opening after (utility_unit self.old.file) line entry.now
             self.old self.new }
@@ -427,6 +436,7 @@ impl<B: Blocks, P: Start + Drop> Volume<B, P> {
         ensures cause { HasDefineFaults (B.faults self.old.blocks) (B.faults self.new.blocks)
             result }
         ensures no_room { IsTrue B.tells → LacksRoomWhere B.seen entry.now result self.old }
+        ensures less { IsTrue B.tells → LeavesLess (result ≡ Ok defines.Again) self.old self.new }
         ensures held { IsTrue B.tells → (opening : State) → IsHeld B.seen opening self.old
             → HasComeHeld B.seen opening after (utility_unit self.old.file) line entry.now
             self.old self.new }
@@ -463,7 +473,7 @@ impl<B: Blocks, P: Start + Drop> Volume<B, P> {
         requires after { after < 2 ^ 64 - 4 }
         requires deck { has_deck 0 self.old.file.numbers ≡ true }
         requires number { number_of self.old.file.numbers 0 < 2 ^ 32 - 1 }
-        requires generation { self.old.store.log.generation + 1 < 2 ^ 64 }
+        requires generation { self.old.store.log.generation + 1 < 2 ^ 63 }
         requires entry { IsNewCluster self.old.file.geometry self.old.file.catalog entry.now }
         requires holds { IsTrue B.tells → Holds B.seen self.old }
         ensures held { IsTrue B.tells → (opening : State) → IsHeld B.seen opening self.old
@@ -497,6 +507,11 @@ impl<B: Blocks, P: Start + Drop> Volume<B, P> {
         // No fault is hidden: where the volume didn't stop no write or sync failed.
         ensures quiet { self.new.file.stopped ≡ self.old.file.stopped
             → (B.faults self.new.blocks).writes ≡ (B.faults self.old.blocks).writes }
+        // What is to be asked again leaves each unit fewer steps to wait for.
+        ensures nearer { IsTrue B.tells → result ≡ Ok defines.Again → (unit : units.Unit)
+            → left_for unit self.new.store < left_for unit self.old.store }
+        // Splits are entered as they are done.
+        ensures splits { IsTrue B.tells → EntersSplits self.old self.new }
         ensures number { self.new.number ≡ self.old.number }
         ensures generation { self.new.file.stopped ≡ None
             → self.new.store.log.generation ≤ self.old.store.log.generation + 1 }

@@ -9,6 +9,7 @@ ghost use Rattle.vr_types.specs.Moments.{Guards};
 ghost use Rattle.vr_types.specs.declared.fault.DeviceFault.TheVariants.{Write};
 ghost use Rattle.vr_types.specs.declared.unit.Mode.TheVariants.{Exclusive};
 ghost use Rattle.vr_types.specs.declared.unit.StageKind as kinds;
+ghost use Rattle.vr_types.specs.declared.unit.Unit as units;
 ghost use Rattle.vr_catalog.specs.declared.entry.CatEntry as entries;
 ghost use Rattle.vr_log.specs.Live.{live_in, used_by};
 ghost use Rattle.vr_history.specs.Merged.{last_stamp};
@@ -20,6 +21,7 @@ ghost use Rattle.vr_record_file.specs.Now.{IsStateOf, has_deck, number_of, state
 ghost use Rattle.vr_space.specs.declared.room.Room.TheVariants as answers;
 ghost use Rattle.vr_volume.specs.Crashes.{RecoversTo};
 ghost use Rattle.vr_store.specs.EntryChange.{IsEntrySettable};
+ghost use Rattle.vr_store.specs.Left.{left_for};
 ghost use Rattle.vr_store.specs.Room.{IsDueAt};
 ghost use Rattle.vr_store.specs.Store.{shape_among};
 ghost use Rattle.vr_event.specs.ChangedEntry.{IsPreparedChange};
@@ -30,6 +32,7 @@ ghost use Rattle.vr_event.specs.EntryChange.{IsAltered, IsChangeEntered, IsEntry
 ghost use Rattle.vr_event.specs.EntryChange.{IsLeftChanging, log_for_change};
 ghost use Rattle.vr_event.specs.EntryChangeSteps.{HasChangeCome, HasChangeComeHeld, IsChangeStage};
 ghost use Rattle.vr_event.specs.EntryChangeSteps.{MayChange, MayChangeNow, change_of};
+ghost use Rattle.vr_event.specs.Nearer.{EntersSplits, LeavesLess};
 ghost use Rattle.vr_event.specs.Putting.{HasMetAt};
 ghost use Rattle.vr_event.specs.Volume.{Holds, IsHeld, IsWhole};
 ghost use Rattle.vr_event.specs.declared.entry_change.EntryChange.TheVariants as changes;
@@ -144,6 +147,7 @@ impl<B: Blocks, P: Part> Volume<B, P> {
             (RecoversTo self.old.store.log.geometry self.old.number
             (state_now opening self.old.file) []) }
         ensures is { IsChangeStage result }
+        ensures less { IsTrue B.tells → LeavesLess (result ≡ changes.Again) self.old self.new }
         ensures cause { ChangeFaultsBy result (B.faults self.old.blocks)
             (B.faults self.new.blocks) }
         ensures number { self.new.number ≡ self.old.number }
@@ -262,6 +266,7 @@ impl<B: Blocks, P: Start + Drop> Volume<B, P> {
             result self.old self.new }
         ensures cause { HasChangeFaults (B.faults self.old.blocks) (B.faults self.new.blocks)
             result }
+        ensures less { IsTrue B.tells → LeavesLess (result ≡ Ok changes.Again) self.old self.new }
         ensures held { IsTrue B.tells → (opening : State) → IsHeld B.seen opening self.old
             → HasChangeComeHeld B.seen opening after unit line entry.now (option_copied new.entry)
             self.old self.new }
@@ -308,6 +313,7 @@ impl<B: Blocks, P: Start + Drop> Volume<B, P> {
             result self.old self.new }
         ensures cause { HasChangeFaults (B.faults self.old.blocks) (B.faults self.new.blocks)
             result }
+        ensures less { IsTrue B.tells → LeavesLess (result ≡ Ok changes.Again) self.old self.new }
         ensures held { IsTrue B.tells → (opening : State) → IsHeld B.seen opening self.old
             → HasChangeComeHeld B.seen opening after unit line entry.now (option_copied new.entry)
             self.old self.new }
@@ -354,6 +360,7 @@ impl<B: Blocks, P: Start + Drop> Volume<B, P> {
             (option_copied new.entry) result self.old self.new }
         ensures cause { HasChangeFaults (B.faults self.old.blocks) (B.faults self.new.blocks)
             result }
+        ensures less { IsTrue B.tells → LeavesLess (result ≡ Ok changes.Again) self.old self.new }
         ensures held { IsTrue B.tells → (opening : State) → IsHeld B.seen opening self.old
             → HasChangeComeHeld B.seen opening after (utility_unit self.old.file) line entry.now
             (option_copied new.entry) self.old self.new }
@@ -389,6 +396,7 @@ impl<B: Blocks, P: Start + Drop> Volume<B, P> {
         ensures live { live_in self.old.store.log.records ≢ [] → result ≡ Ok changes.Live }
         ensures cause { HasChangeFaults (B.faults self.old.blocks) (B.faults self.new.blocks)
             result }
+        ensures less { IsTrue B.tells → LeavesLess (result ≡ Ok changes.Again) self.old self.new }
         ensures held { IsTrue B.tells → (opening : State) → IsHeld B.seen opening self.old
             → HasChangeComeHeld B.seen opening after (utility_unit self.old.file) line entry.now
             (option_copied new.entry) self.old self.new }
@@ -426,7 +434,7 @@ impl<B: Blocks, P: Start + Drop> Volume<B, P> {
         requires after { after < 2 ^ 64 - 4 }
         requires deck { has_deck 0 self.old.file.numbers ≡ true }
         requires number { number_of self.old.file.numbers 0 < 2 ^ 32 - 1 }
-        requires generation { self.old.store.log.generation + 1 < 2 ^ 64 }
+        requires generation { self.old.store.log.generation + 1 < 2 ^ 63 }
         requires entry { IsEntryThere self.old.file.catalog entry.now }
         requires new { IfSome (option_copied new) (IsAltered entry.now) }
         requires holds { IsTrue B.tells → Holds B.seen self.old }
@@ -461,6 +469,11 @@ impl<B: Blocks, P: Start + Drop> Volume<B, P> {
         // No fault is hidden: where the volume didn't stop no write or sync failed.
         ensures quiet { self.new.file.stopped ≡ self.old.file.stopped
             → (B.faults self.new.blocks).writes ≡ (B.faults self.old.blocks).writes }
+        // What is to be asked again leaves each unit fewer steps to wait for.
+        ensures nearer { IsTrue B.tells → result ≡ Ok changes.Again → (unit : units.Unit)
+            → left_for unit self.new.store < left_for unit self.old.store }
+        // Splits are entered as they are done.
+        ensures splits { IsTrue B.tells → EntersSplits self.old self.new }
         ensures number { self.new.number ≡ self.old.number }
         ensures generation { self.new.file.stopped ≡ None
             → self.new.store.log.generation ≤ self.old.store.log.generation + 1 }

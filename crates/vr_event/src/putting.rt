@@ -17,7 +17,8 @@ ghost use Rattle.vr_store.specs.Change.{IsBefore, IsMadeOf, IsPrepared, IsReady,
 ghost use Rattle.vr_store.specs.Change.{need_with, with_kept};
 ghost use Rattle.vr_store.specs.Parts.{OnlyMet};
 ghost use Rattle.vr_event.specs.Putting as putting;
-ghost use Rattle.vr_store.specs.Store.{IsSet, IsStored, left_among, part_among, shape_among};
+ghost use Rattle.vr_store.specs.Store.{HasLength, IsSet, IsStored, left_among, part_among};
+ghost use Rattle.vr_store.specs.Store.{shape_among};
 ghost use Rattle.vr_event.specs.declared.putting.PutNo.TheVariants as nos;
 
 use std::alloc::Global;
@@ -137,6 +138,7 @@ pub(crate) fn put_at_place<B: Blocks, P: Part>(
     requires met { putting.HasMetAt store.old.parts part.0 place.now }
     requires old_fits { putting.FitsItem store.old.parts part.0 place.now (option_copied old) }
     requires new_fits { putting.FitsItem store.old.parts part.0 place.now (option_copied new) }
+    requires long { IfSome (shape_among store.old.parts part.0) HasLength }
     requires ready { IsTrue B.tells → putting.HasToMake store.old unit part place.now
         (option_copied old) (B.seen blocks.old) }
     requires can { IsTrue B.tells → putting.HasRoomAt store.old (B.seen blocks.old).cur part.0

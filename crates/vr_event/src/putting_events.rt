@@ -20,8 +20,10 @@ ghost use Rattle.vr_event.specs.Acting.{IsActed};
 ghost use Rattle.vr_event.specs.Cause.{HasReplyCause, is_faulted};
 ghost use Rattle.vr_event.specs.Getting.{IsEntered};
 ghost use Rattle.vr_event.specs.Lacking.{IfLacks, IsLacking, LacksRoomIn};
+ghost use Rattle.vr_event.specs.Nearer.{EntersSplits, IsNearer, MeetsOnly};
 ghost use Rattle.vr_event.specs.Putting as putting;
 ghost use Rattle.vr_event.specs.Staging.{IsStateStaged};
+ghost use Rattle.vr_store.specs.Parts.{OnlyMet};
 ghost use Rattle.vr_store.specs.Room.{IsDueAt};
 ghost use Rattle.vr_event.specs.Volume.{Holds, IsHeld, IsWhole};
 ghost use Rattle.vr_event.specs.declared.act.Act.TheVariants as acts;
@@ -71,6 +73,7 @@ impl<B: Blocks, P: Part> Volume<B, P> {
         ensures file { self.new.file ≡ self.old.file }
         ensures number { self.new.number ≡ self.old.number }
         ensures log { self.new.store.log ≡ self.old.store.log }
+        ensures meets { MeetsOnly self.old.store self.new.store }
         ensures keeps { Keeps B.tells (B.seen self.old.blocks) (B.seen self.new.blocks) }
         ensures cause { HasReplyCause (B.faults self.old.blocks) (B.faults self.new.blocks)
             (putting.reply_to result) }
@@ -130,6 +133,9 @@ impl<B: Blocks, P: Part> Volume<B, P> {
         // Where it is entered, it is not for want of areas.
         ensures lacks { (entered : IsEntered after unit line request self.old.file self.new.file)
             (need free : ℕ) → entered.reply ≡ Refused (NoSpace need free) → ⊥ }
+        // Fewer stages are left, and a split is entered as it is done.
+        ensures nearer { IsTrue B.tells → IsNearer result unit self.old self.new }
+        ensures splits { IsTrue B.tells → EntersSplits self.old self.new }
         ensures number { self.new.number ≡ self.old.number }
         ensures generation { self.new.store.log.generation ≡ self.old.store.log.generation }
     {
@@ -202,6 +208,9 @@ impl<B: Blocks, P: Part> Volume<B, P> {
         ensures lacks { (entered : IsEntered after unit line request self.old.file self.new.file)
             (need free : ℕ) → entered.reply ≡ Refused (NoSpace need free)
             → reply ≡ Refused (NoSpace need free) }
+        // As long as no write failed, its part only met blocks.
+        ensures met { self.new.file.stopped ≡ None
+            → OnlyMet part.0 self.old.store.parts self.new.store.parts }
         ensures number { self.new.number ≡ self.old.number }
         ensures generation { self.new.file.stopped ≡ None
             → self.new.store.log.generation ≡ self.old.store.log.generation }
@@ -267,6 +276,9 @@ impl<B: Blocks, P: Part> Volume<B, P> {
             → place_changed (case_of self.old.file.geometry (state_now opening self.old.file) unit
             request) ≡ Some place
             → IsLacking self.old.store (B.seen self.old.blocks).cur place request need free }
+        // Asked again it waits for less, and a split is entered as it is done.
+        ensures nearer { IsTrue B.tells → IsNearer result unit self.old self.new }
+        ensures splits { IsTrue B.tells → EntersSplits self.old self.new }
         ensures number { self.new.number ≡ self.old.number }
         ensures generation { self.new.file.stopped ≡ None
             → self.new.store.log.generation ≡ self.old.store.log.generation }

@@ -1,5 +1,6 @@
 //! What a stage of a part leaves to be entered.
-ghost use Rattle.std.specs.Prelude.{◌≡◌, ◌⊎◌, ◌<◌, ◌-◌, ◌^◌, IsTrue, List, Option, true, ℕ};
+ghost use Rattle.std.specs.Prelude.{◌≡◌, ◌≢◌, ◌⊎◌, ◌<◌, ◌-◌, ◌^◌, IsTrue, List, Option, false, true};
+ghost use Rattle.std.specs.Prelude.{ℕ};
 ghost use Rattle.std.specs.Option.{option_map};
 ghost use Rattle.vr_types.specs.Space.{free_count, least_free};
 ghost use Rattle.vr_types.specs.declared.unit.PartNo as part_numbers;
@@ -26,7 +27,8 @@ pub(crate) fn area_taken(least: Option<AreaNo>, free: u32, now: u32) -> Option<A
 
 /// Whether a stage splits an interval in two.
 pub(crate) fn splits_interval(kind: StageKind) -> bool
-    ensures { IsTrue result → kind ≡ CiSwitch }
+    ensures yes { IsTrue result → kind ≡ CiSwitch }
+    ensures no { result ≡ false → kind ≢ CiSwitch }
 {
     matches!(kind, StageKind::CiSwitch)
 }

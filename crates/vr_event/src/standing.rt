@@ -74,10 +74,10 @@ impl<B: Blocks, P: Part> Volume<B, P> {
 
     /// Whether the log has a further generation, and a deck's unit of recovery one after it.
     pub fn has_numbers(&self, deck: u32) -> bool
-        ensures generation { IsTrue result → self.now.store.log.generation + 1 < 2 ^ 64 }
+        ensures generation { IsTrue result → self.now.store.log.generation + 1 < 2 ^ 63 }
         ensures number { IsTrue result → number_of self.now.file.numbers deck < 2 ^ 32 - 1 }
     {
-        self.store.generation() < u64::MAX && self.unit_number(deck) < u32::MAX
+        self.store.generation() < (1 << 63) - 1 && self.unit_number(deck) < u32::MAX
     }
 
     /// Makes room for four entries and one more file. It fails only if memory runs out. All else

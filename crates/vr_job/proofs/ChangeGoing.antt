@@ -13,6 +13,7 @@ use Rattle.vr_event.specs.DefineSteps.{MayDefineNow}
 use Rattle.vr_event.specs.Defining.{utility_unit}
 use Rattle.vr_event.specs.EntryChange.{HasChangeFaults, IsAltered}
 use Rattle.vr_event.specs.EntryChangeSteps.{HasChangeCome, HasChangeComeHeld}
+use Rattle.vr_event.specs.Nearer.{EntersSplits}
 use Rattle.vr_event.specs.Volume.{IsHeld, VolumeNow}
 use Rattle.vr_event.specs.declared.entry_change.EntryChange.{EntryChange}
 use Rattle.vr_event.specs.declared.entry_change.EntryChange.TheVariants.{Again, Done, Fault, Full}
@@ -75,11 +76,11 @@ module _ {B : Type 0} (seen : B → Seen) (faults : B → Faults) (after line : 
         → (IsTrue tells → Left (seen old.blocks) (seen old.blocks).cur)
         → (IsTrue tells → AreSized (seen new.blocks))
         → (IsTrue tells → Left (seen new.blocks) (seen new.blocks).cur)
-        → WentOn tells seen faults old new
-    changed-went tells held was sized cur = record {
+        → (IsTrue tells → EntersSplits old new) → WentOn tells seen faults old new
+    changed-went tells held was sized cur enters = record {
       on = changed-goes;
       held = λ told opening before. (held told opening before).held;
       run = λ told opening first run. changed-run seen faults after line entry to result old new
-          there to-is may come cause (held told) (was told) (sized told) (cur told) opening first
-          run;
+          there to-is may come cause (held told) (was told) (sized told) (cur told) (enters told)
+          opening first run;
     }

@@ -21,6 +21,7 @@ use Rattle.vr_event.specs.Defining.{utility_unit}
 use Rattle.vr_event.specs.EntryChange.{HasChangeFaults, IsAltered, IsLeftChanging}
 use Rattle.vr_event.specs.EntryChange.{file_change_in_doubt, file_changed}
 use Rattle.vr_event.specs.EntryChangeSteps.{HasChangeCome, HasChangeComeHeld}
+use Rattle.vr_event.specs.Nearer.{EntersSplits}
 use Rattle.vr_event.specs.Volume.{IsHeld, VolumeNow}
 use Rattle.vr_event.specs.declared.entry_change.EntryChange.{EntryChange}
 use Rattle.vr_volume.specs.Crashes.{RecoversTo}
@@ -76,7 +77,7 @@ module _ {B : Type 0} (seen : B → Seen) (faults : B → Faults) (after line : 
   module _ (opening : State) (first : B) (run : HasRun seen faults opening first old)
       (held-by : HasChangeComeHeld seen opening after (utility_unit old.file) line entry to old new)
       (was : Left (seen old.blocks) (seen old.blocks).cur) (sized : AreSized (seen new.blocks))
-      (cur : Left (seen new.blocks) (seen new.blocks).cur) where
+      (cur : Left (seen new.blocks) (seen new.blocks).cur) (enters : EntersSplits old new) where
     abbrev before : State
     before = state_now opening old.file
 
@@ -158,8 +159,8 @@ module _ {B : Type 0} (seen : B → Seen) (faults : B → Faults) (after line : 
     -- ---- the run
 
     on-run : HasRun seen faults opening first new
-    on-run = utility-run seen faults old new come.whole come.number made-in.event opening first run
-        held-by.held sized cur while-guards made-keep
+    on-run = utility-run seen faults old new may.whole may.going come.whole come.number
+        made-in.event opening first run held-by.held sized cur while-guards made-keep enters
 
 -- An event of a change of an entry goes on with what a crash leaves at each moment, event by event.
 pub changed-run : {B : Type 0} (seen : B → Seen) (faults : B → Faults) (after line : ℕ)
@@ -171,9 +172,9 @@ pub changed-run : {B : Type 0} (seen : B → Seen) (faults : B → Faults) (afte
     → ((opening : State) → IsHeld seen opening old
     → HasChangeComeHeld seen opening after (utility_unit old.file) line entry to old new)
     → Left (seen old.blocks) (seen old.blocks).cur → AreSized (seen new.blocks)
-    → Left (seen new.blocks) (seen new.blocks).cur
+    → Left (seen new.blocks) (seen new.blocks).cur → EntersSplits old new
     → (opening : State) (first : B) → HasRun seen faults opening first old
     → HasRun seen faults opening first new
 changed-run seen faults after line entry to result old new there to-is may come cause held was sized
-    cur opening first run = on-run seen faults after line entry to result old new there to-is may
-    come cause opening first run (held opening run.held) was sized cur
+    cur enters opening first run = on-run seen faults after line entry to result old new there to-is
+    may come cause opening first run (held opening run.held) was sized cur enters

@@ -17,6 +17,7 @@ use Rattle.vr_ams_define.specs.Answers.{IsShownCounted}
 use Rattle.vr_ams_define.specs.Grown.{HasEntered}
 use Rattle.vr_event.specs.Counts.{AreCounts, CountedBy, HasCountFaults, IsCountEntered}
 use Rattle.vr_event.specs.Defining.{utility_unit}
+use Rattle.vr_event.specs.Nearer.{EntersSplits}
 use Rattle.vr_event.specs.Volume.{IsHeld, IsWhole, VolumeNow}
 use Rattle.vr_event.specs.declared.counts.Count.{Count}
 use Rattle.vr_event.specs.declared.counts.Count.TheVariants.{Counted, Fault}
@@ -109,10 +110,10 @@ module _ {B : Type 0} (seen : B → Seen) (faults : B → Faults) (after line : 
         → (IsTrue tells → (opening : State) → IsHeld seen opening old
         → Guards (seen old.blocks) (seen new.blocks)
         (RecoversTo old.store.log.geometry old.number (state_now opening old.file) []))
-        → (IsTrue tells → AreSized (seen new.blocks))
+        → (IsTrue tells → EntersSplits old new) → (IsTrue tells → AreSized (seen new.blocks))
         → (IsTrue tells → Left (seen new.blocks) (seen new.blocks).cur)
         → WentOn tells seen faults old new
-    count-went tells held moments sized cur = record {
+    count-went tells held moments enters sized cur = record {
       on = utility-goes seen faults after line (has_failed result) old new counted-made risen going
           whole number;
       held = held;
@@ -120,5 +121,5 @@ module _ {B : Type 0} (seen : B → Seen) (faults : B → Faults) (after line : 
           (still-made after line (utility_unit old.file) refl old.file new.file going
           (faults old.blocks) (faults new.blocks) (has_failed result) still risen)
           opening first run (held told opening run.held) (sized told) (cur told)
-          (moments told opening run.held);
+          (moments told opening run.held) (enters told);
     }

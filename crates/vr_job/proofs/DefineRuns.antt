@@ -21,6 +21,7 @@ use Rattle.vr_record_file.specs.Now.{state_now}
 use Rattle.vr_event.specs.Defining.{HasDefineFaults, IsLeftDefining, IsNewCluster, file_defined}
 use Rattle.vr_event.specs.Defining.{file_in_doubt, utility_unit}
 use Rattle.vr_event.specs.DefineSteps.{HasCome, HasComeHeld, MayDefineNow}
+use Rattle.vr_event.specs.Nearer.{EntersSplits}
 use Rattle.vr_event.specs.Volume.{IsHeld, VolumeNow}
 use Rattle.vr_event.specs.declared.define.Define.{Define}
 use Rattle.vr_volume.specs.Crashes.{RecoversTo}
@@ -66,7 +67,7 @@ module _ {B : Type 0} (seen : B → Seen) (faults : B → Faults) (after line : 
   module _ (opening : State) (first : B) (run : HasRun seen faults opening first old)
       (held-by : HasComeHeld seen opening after (utility_unit old.file) line entry old new)
       (was : Left (seen old.blocks) (seen old.blocks).cur) (sized : AreSized (seen new.blocks))
-      (cur : Left (seen new.blocks) (seen new.blocks).cur) where
+      (cur : Left (seen new.blocks) (seen new.blocks).cur) (enters : EntersSplits old new) where
     abbrev before : State
     before = state_now opening old.file
 
@@ -203,8 +204,8 @@ module _ {B : Type 0} (seen : B → Seen) (faults : B → Faults) (after line : 
     -- ---- the run
 
     on-run : HasRun seen faults opening first new
-    on-run = utility-run seen faults old new come.whole come.number made-in.event opening first run
-        held-by.held sized cur while-guards made-keep
+    on-run = utility-run seen faults old new may.whole may.going come.whole come.number
+        made-in.event opening first run held-by.held sized cur while-guards made-keep enters
 
 -- An event of a definition goes on with what a crash leaves at each moment, event by event.
 pub defined-run : {B : Type 0} (seen : B → Seen) (faults : B → Faults) (after line : ℕ)
@@ -215,9 +216,9 @@ pub defined-run : {B : Type 0} (seen : B → Seen) (faults : B → Faults) (afte
     → ((opening : State) → IsHeld seen opening old
     → HasComeHeld seen opening after (utility_unit old.file) line entry old new)
     → Left (seen old.blocks) (seen old.blocks).cur → AreSized (seen new.blocks)
-    → Left (seen new.blocks) (seen new.blocks).cur
+    → Left (seen new.blocks) (seen new.blocks).cur → EntersSplits old new
     → (opening : State) (first : B) → HasRun seen faults opening first old
     → HasRun seen faults opening first new
 defined-run seen faults after line entry result old new cluster may come cause held was sized cur
-    opening first run = on-run seen faults after line entry result old new cluster may come cause
-    opening first run (held opening run.held) was sized cur
+    enters opening first run = on-run seen faults after line entry result old new cluster may come
+    cause opening first run (held opening run.held) was sized cur enters

@@ -15,6 +15,7 @@ use Rattle.vr_ams_define.specs.Grown.{HasEntered}
 use Rattle.vr_event.proofs.CallerLemmas.{area-entry, area-small}
 use Rattle.vr_event.specs.DefineSteps.{HasCome, HasComeHeld, MayDefineNow}
 use Rattle.vr_event.specs.Defining.{HasDefineFaults, IsNewCluster, entry_with_area, utility_unit}
+use Rattle.vr_event.specs.Nearer.{EntersSplits}
 use Rattle.vr_event.specs.Volume.{IsHeld, VolumeNow}
 use Rattle.vr_event.specs.declared.define.Define.{Define}
 use Rattle.vr_event.specs.declared.define.Define.TheVariants.{Again, Done, Fault, Full, Held}
@@ -108,10 +109,11 @@ module _ {B : Type 0} (seen : B → Seen) (faults : B → Faults) (after line : 
         → (IsTrue tells → Left (seen old.blocks) (seen old.blocks).cur)
         → (IsTrue tells → AreSized (seen new.blocks))
         → (IsTrue tells → Left (seen new.blocks) (seen new.blocks).cur)
-        → WentOn tells seen faults old new
-    defined-went tells held was sized cur = record {
+        → (IsTrue tells → EntersSplits old new) → WentOn tells seen faults old new
+    defined-went tells held was sized cur enters = record {
       on = defined-goes;
       held = λ told opening before. (held told opening before).held;
       run = λ told opening first run. defined-run seen faults after line entry result old new is
-          may come cause (held told) (was told) (sized told) (cur told) opening first run;
+          may come cause (held told) (was told) (sized told) (cur told) (enters told) opening first
+          run;
     }

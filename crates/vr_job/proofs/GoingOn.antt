@@ -1,7 +1,7 @@
 -- What one event leaves of a volume, and what goes on from it.
 use Rattle.std.proofs.Common.{◌≡◌, ◌≢◌, inl, inr, ⊎_elim, ◌∙◌, ℕ, Bool, true, List, [], ◌∷◌, ◌++◌}
 use Rattle.std.proofs.Common.{Option, Some, None, refl, sym, ap, subst, ◌⊎◌, append_assoc, arith}
-use Rattle.std.proofs.Common.{◌==◌, false, max}
+use Rattle.std.proofs.Common.{◌==◌, ◌<◌, IsTrue, false, max}
 use Rattle.std.specs.Prelude.{is_some}
 use Rattle.std.specs.List.{AllByRecursion}
 use Rattle.std.proofs.lemmas.Bool.{true≢false}
@@ -28,9 +28,13 @@ use Rattle.vr_record_file.specs.Now.{IsOfClusterByDeck, state_now}
 use Rattle.vr_record_file.specs.declared.numbers.DeckNumber.{DeckNumber}
 use Rattle.vr_event.specs.Acting.{IsActed, IsLeftIn}
 use Rattle.vr_event.specs.Made.{HasMade}
+use Rattle.vr_event.specs.Nearer.{EntersSplits, IsNearer}
 use Rattle.vr_event.specs.Volume.{IsHeld, IsWhole, VolumeNow}
 use Rattle.vr_event.specs.declared.act.Act.{Act}
+use Rattle.vr_event.specs.declared.act.Act.TheVariants.{Again, Done}
 use Rattle.vr_event.proofs.CallerLemmas.{acted_made}
+use Rattle.vr_store.specs.Left.{left_for}
+use Rattle.vr_store.specs.Store.{StoreNow}
 use Rattle.vr_volume.specs.Crashes.{RecoversTo}
 use Rattle.vr_worker.proofs.CallerLemmas.{stamped-above}
 use Rattle.vr_job.specs.Committed.{KeepTheCatalog}
@@ -40,7 +44,7 @@ use Rattle.vr_job.specs.Events.{FaultsFollow, HasStopped, IsLeftWhile, IsOfEvent
 use Rattle.vr_job.specs.Events.{LeavesAtRest, OwnsAtRest}
 use Rattle.vr_job.specs.Faultless.{AreFaultless, has_stopped}
 use Rattle.vr_job.specs.Going.{GoesOn, HasRun, went-then}
-use Rattle.vr_job.specs.Serving.{IsServing, StaysServing}
+use Rattle.vr_job.specs.Serving.{IsNearerFor, IsServing, LeavesLess, StaysServing, is_done, unit_of}
 use Rattle.vr_job.proofs.Crashing.{held-left, left-more, left-while}
 use Rattle.vr_job.proofs.DeckEvents.{catalog-stays, made-decks, made-once, made-own}
 use Rattle.vr_job.proofs.Faultless.{NoFault, acted-faultless}
@@ -50,6 +54,7 @@ use Rattle.vr_job.proofs.Lacking.{SaysWhatLacks, event-lacking}
 use Rattle.vr_job.proofs.Owning.{held-owners}
 use Rattle.vr_job.proofs.ReadFaults.{acted-reads}
 use Rattle.vr_job.proofs.ShownStops.{acted-shows}
+use Rattle.vr_job.proofs.Splitting.{held-splits}
 use Rattle.vr_job.proofs.Stopping.{commit-first, commit-went, faults-follow, going-on, stop-of}
 use Rattle.vr_job.proofs.Stopping.{stopped-more}
 use Rattle.vr_job.proofs.Undoing.{shows-same}
@@ -215,7 +220,8 @@ module _ {B : Type 0} (seen : B → Seen) (faults : B → Faults) (old new : Vol
         request old.file new.file))
         (stays : old.file.stopped ≢ None → new.blocks ≡ old.blocks)
         (sized : AreSized (seen new.blocks)) (cur : Left (seen new.blocks) (seen new.blocks).cur)
-        (lacks : SaysWhatLacks seen opening old new after unit line request) where
+        (lacks : SaysWhatLacks seen opening old new after unit line request)
+        (enters : EntersSplits old new) where
       abbrev Left-by : Image → Type 0
       Left-by = IsLeftBy old.file.geometry old.number opening new.file.entries
 
@@ -274,6 +280,15 @@ module _ {B : Type 0} (seen : B → Seen) (faults : B → Faults) (old new : Vol
               × IsDoneCommit entry.what
           one = commit-first act unit line request made-in.made made-in.by done
 
+      -- a volume that hasn't stopped hadn't before
+      went-on : IsWhole seen new → new.file.stopped ≡ None → old.file.stopped ≡ None
+      went-on whole-new going = by_old old.file.stopped refl
+        where
+          by_old : (was : Option ℕ) → old.file.stopped ≡ was → old.file.stopped ≡ None
+          by_old None is = is
+          by_old (Some stamp) is = absurd (some-none stamp
+              (sym ((event-on whole-new number own stays).stays stamp is) ∙ going))
+
       one-event : IsWhole seen new → IsHeld seen opening new
           → IsOfEvents seen faults old.file.geometry old.number opening first new.blocks
           new.file.entries
@@ -300,6 +315,8 @@ module _ {B : Type 0} (seen : B → Seen) (faults : B → Faults) (old new : Vol
             owners = subst (λ (g : Geometry). OwnsAtRest seen g opening new.blocks
                 new.file.entries) made-in.geometry
                 (held-owners seen opening new whole-new held cur);
+            splits = held-splits seen opening old new whole whole-new run.held held made-in.made
+                made-in.entries made-in.geometry (went-on whole-new) enters;
             faults = follow;
             lasting = λ done. rests (sym held-stopped ∙ goes-on held done);
             refused_read = acted-reads old.file new.file made-in.made made-in.entries
@@ -469,6 +486,8 @@ module _ {B : Type 0} (seen : B → Seen) (old mid : VolumeNow B) (numbers : Lis
           (held opening run.held) run;
     };
     entries = entries-stay;
+    store = ap (λ (v : VolumeNow B). v.store) same;
+    units = λ deck. ap (λ (number : ℕ). record { deck = deck; number = number }) (stay deck);
   }
 
   -- so it does where the numbers stay too
@@ -483,6 +502,32 @@ module _ {B : Type 0} (seen : B → Seen) (old mid : VolumeNow B) (numbers : Lis
       are : mid.file.numbers ≡ old.file.numbers
       are = ap (λ (v : VolumeNow B). v.file.numbers) same ∙ stay
 
+-- A volume that serves as before waits for as much: from it on the same is less.
+pub nearer-then : {B : Type 0} (tells : Bool) (seen : B → Seen) (faults : B → Faults)
+    (a b c : VolumeNow B) (deck : ℕ) → StaysServing tells seen faults a b
+    → IsNearerFor tells b c deck → IsNearerFor tells a c deck
+nearer-then tells seen faults a b c deck stays nearer told =
+    subst (λ (unit : UnitOfRecovery). left_for unit c.store < left_for unit a.store)
+    (stays.units deck)
+    (subst (λ (store : StoreNow). left_for (unit_of deck b.file) c.store
+    < left_for (unit_of deck b.file) store) stays.store (nearer told))
+
+pub less-then : {B : Type 0} (tells : Bool) (seen : B → Seen) (faults : B → Faults)
+    (a b c : VolumeNow B) → StaysServing tells seen faults a b → LeavesLess b c → LeavesLess a c
+less-then tells seen faults a b c stays less unit =
+    subst (λ (store : StoreNow). left_for unit c.store < left_for unit store) stays.store (less unit)
+
+-- what an event hands back waits for less
+pub event-nearer : {B : Type 0} (tells : Bool) (old new : VolumeNow B) (act : Act)
+    (unit : UnitOfRecovery) → unit ≡ unit_of unit.deck old.file
+    → (IsTrue tells → IsNearer act unit old new) → (done : Bool) → done ≡ is_done act
+    → done ≡ false → IsNearerFor tells old new unit.deck
+event-nearer tells old new Done unit current nearer done is not told =
+    absurd (true≢false (sym is ∙ not))
+event-nearer tells old new (Again given) unit current nearer done is not told =
+    subst (λ (u : UnitOfRecovery). left_for u new.store < left_for u old.store) current
+    (nearer told)
+
 -- and on
 pub stays-then : {B : Type 0} (tells : Bool) (seen : B → Seen) (faults : B → Faults)
     (a b c : VolumeNow B) → StaysServing tells seen faults a b → StaysServing tells seen faults b c
@@ -491,4 +536,6 @@ stays-then tells seen faults a b c first second = record {
   serving = second.serving;
   went = went-then tells seen faults a b c first.went second.went;
   entries = second.entries ∙ first.entries;
+  store = second.store ∙ first.store;
+  units = λ deck. second.units deck ∙ first.units deck;
 }

@@ -36,6 +36,7 @@ pub mod Kept
 pub mod Lacking
 pub mod AreasOnce
 pub mod Owning
+pub mod Splitting
 pub mod Placing
 pub mod RunCommitted
 pub mod EachSeen

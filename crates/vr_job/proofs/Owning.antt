@@ -37,12 +37,13 @@ use Rattle.vr_space.specs.Rosters.{IsOwnArea, chain_of}
 use Rattle.vr_space.specs.Split.{MoveNow}
 use Rattle.vr_space.proofs.CallerLemmas.{aside-of, contains-cases, rest-sound, sound-image}
 use Rattle.vr_store.specs.Store.{IsRestedPart, IsSet, IsStored, OwnsItsChain, StoreNow, owners_of}
-use Rattle.vr_store.proofs.Among.{HasShape, among-shape}
-use Rattle.vr_store.proofs.CallerLemmas.{among-all, rested-at}
+use Rattle.vr_store.proofs.Among.{HasShape}
+use Rattle.vr_store.proofs.CallerLemmas.{among-all}
 use Rattle.vr_record_file.specs.Now.{state_now}
 use Rattle.vr_event.specs.Volume.{IsHeld, IsWhole, OwnLaid, VolumeNow}
 use Rattle.vr_job.specs.Owning.{AreOwnersWithAhead, HasOwners, IsAhead}
 use Rattle.vr_job.proofs.AreasOnce.{areas-once}
+use Rattle.vr_job.proofs.Splitting.{part-knows, part-rested, part-there}
 
 -- ---- how many areas a part has
 
@@ -176,17 +177,17 @@ module _ (number : ℕ) (store : StoreNow) (state : State) (now : Seen) (set : I
 
   module _ (part : PartNo) (shape : Shape)
       (laid : shape_in geometry entries part.0 ≡ Some shape) where
-    there : HasShape store.parts part.0 shape
-    there = among-shape store.parts part.0 shape (stored.whole part.0 shape laid)
+    abbrev there : HasShape store.parts part.0 shape
+    there = part-there number store state now set stored part.0 shape laid
 
     rested : IsRestedPart store state now there.part
-    rested = rested-at store now set number state part.0 there.part there.found stored
+    rested = part-rested number store state now set stored part.0 shape laid
 
     abbrev known : Known
     known = there.part.known
 
     knows : Knows shape known now
-    knows = subst (λ (s : Shape). Knows s known now) there.is rested.knows
+    knows = part-knows number store state now set stored part.0 shape laid
 
     owns : OwnsChain shape known store.space
     owns = subst (λ (s : Shape). OwnsChain s known store.space) there.is

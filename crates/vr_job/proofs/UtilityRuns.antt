@@ -22,6 +22,7 @@ use Rattle.vr_history.specs.State.{State}
 use Rattle.vr_history.specs.Step.{state_after}
 use Rattle.vr_history.specs.declared.entry.Entry.{Entry}
 use Rattle.vr_record_file.specs.Now.{state_now}
+use Rattle.vr_event.specs.Nearer.{EntersSplits}
 use Rattle.vr_event.specs.Volume.{IsHeld, IsWhole, VolumeNow}
 use Rattle.vr_volume.specs.Crashes.{RecoversTo}
 use Rattle.vr_job.specs.Catalogs.{catalog_after, catalog_told}
@@ -35,6 +36,7 @@ use Rattle.vr_job.proofs.Crashing.{held-left, left-more, left-while}
 use Rattle.vr_job.proofs.Keeping.{keep-then}
 use Rattle.vr_job.proofs.Kept.{AreSized, held-kept}
 use Rattle.vr_job.proofs.Owning.{held-owners}
+use Rattle.vr_job.proofs.Splitting.{held-splits}
 use Rattle.vr_job.proofs.UtilityEvents.{HasSpace, IsStill, IsStillMade, IsUtilityMade}
 
 -- what an entry doesn't make of a catalog, it doesn't make by a unit of the utilities either
@@ -79,7 +81,8 @@ while-left geometry number opening entries made image is = record {
 }
 
 module _ {B : Type 0} (seen : B → Seen) (faults : B → Faults) (old new : VolumeNow B)
-    (whole : IsWhole seen new) (number : new.number ≡ old.number)
+    (before : IsWhole seen old) (going : old.file.stopped ≡ None) (whole : IsWhole seen new)
+    (number : new.number ≡ old.number)
     (made-in : IsUtilityMade old.file new.file (faults old.blocks) (faults new.blocks)) where
   abbrev geometry : Geometry
   geometry = old.file.geometry
@@ -89,7 +92,8 @@ module _ {B : Type 0} (seen : B → Seen) (faults : B → Faults) (old new : Vol
       (cur : Left (seen new.blocks) (seen new.blocks).cur)
       (while-guards : Guards (seen old.blocks) (seen new.blocks)
       (IsLeftWhile geometry old.number opening old.file.entries made-in.made))
-      (keeps : KeepTheCatalog geometry (state_now opening old.file) made-in.made) where
+      (keeps : KeepTheCatalog geometry (state_now opening old.file) made-in.made)
+      (enters : EntersSplits old new) where
     -- what is left is so by the history after it
     left-by : Guards (seen first) (seen new.blocks)
         (IsLeftBy geometry old.number opening (old.file.entries ++ made-in.made))
@@ -136,6 +140,8 @@ module _ {B : Type 0} (seen : B → Seen) (faults : B → Faults) (old new : Vol
           new.file.entries) made-in.geometry (held-kept seen opening new whole held sized));
       owners = subst (λ (g : Geometry). OwnsAtRest seen g opening new.blocks new.file.entries)
           made-in.geometry (held-owners seen opening new whole held cur);
+      splits = held-splits seen opening old new before whole run.held held made-in.made
+          made-in.entries made-in.geometry (λ goes. going) enters;
       faults = made-in.faults;
       lasting = λ done. rests (sym held-stopped ∙ made-in.goes done);
       refused_read = made-in.reads;
@@ -197,11 +203,11 @@ pub still-run : {B : Type 0} (seen : B → Seen) (faults : B → Faults) (old ne
     → Left (seen new.blocks) (seen new.blocks).cur
     → Guards (seen old.blocks) (seen new.blocks)
     (RecoversTo old.store.log.geometry old.number (state_now opening old.file) [])
-    → HasRun seen faults opening first new
+    → EntersSplits old new → HasRun seen faults opening first new
 still-run {B} seen faults old new before whole going number made opening first run held sized cur
-    moments = utility-run seen faults old new whole number made.event opening first run held sized
-    cur while-guards
-    (still-keep old.file.geometry (state_now opening old.file) made.event.made made.still)
+    moments enters = utility-run seen faults old new before going whole number made.event opening
+    first run held sized cur while-guards
+    (still-keep old.file.geometry (state_now opening old.file) made.event.made made.still) enters
   where
     while-guards : Guards (seen old.blocks) (seen new.blocks)
         (IsLeftWhile old.file.geometry old.number opening old.file.entries made.event.made)

@@ -28,7 +28,7 @@ use Rattle.vr_history.specs.State.{State}
 use Rattle.vr_record_file.specs.Now.{FileNow, state_now}
 use Rattle.vr_job.specs.Going.{WentOn}
 use Rattle.vr_job.specs.Reported.{numbers_of}
-use Rattle.vr_job.specs.Serving.{StaysServing}
+use Rattle.vr_job.specs.Serving.{LeavesLess, StaysServing}
 
 -- the answer of an event, as a command has it
 abbrev pub answer_of : Define → Defined
@@ -41,7 +41,8 @@ answer_of events.Full = answers.Full
 answer_of (events.Fault fault) = answers.Fault fault
 
 -- A definition: the volume was made ready, which enters nothing, hadn't stopped, and in one event
--- came to this answer, by the causes of the event and its count of faults.
+-- came to this answer, by the causes of the event and its count of faults. One that is to be asked
+-- again waits for less.
 pub record IsDefinedIn {B : Type 0} (tells : Bool) (seen : B → Seen) (faults : B → Faults)
     (old : VolumeNow B) (line : ℕ) (entry : CatEntry) (answer : Defined) (new : VolumeNow B) : Type 0
   where
@@ -54,6 +55,7 @@ pub record IsDefinedIn {B : Type 0} (tells : Bool) (seen : B → Seen) (faults :
     pub answer_is : answer ≡ answer_of event
     pub come : HasCome seen after (utility_unit ready.file) line entry (Ok event) ready new
     pub no_room : IsTrue tells → LacksRoomWhere seen entry (Ok event) ready
+    pub nearer : IsTrue tells → event ≡ events.Again → LeavesLess old new
     pub cause : HasDefineFaults (faults ready.blocks) (faults new.blocks) (Ok event)
 
 -- what an event counted, as a command has it
@@ -103,6 +105,7 @@ pub record IsChangedIn {B : Type 0} (tells : Bool) (seen : B → Seen) (faults :
   pub event : EntryChange
   pub answer_is : answer ≡ changed_of event
   pub come : HasChangeCome seen after (utility_unit ready.file) line entry to (Ok event) ready new
+  pub nearer : IsTrue tells → event ≡ changing.Again → LeavesLess old new
   pub cause : HasChangeFaults (faults ready.blocks) (faults new.blocks) (Ok event)
 
 abbrev pub IsAnswered : {B : Type 0} → Bool → (B → Seen) → (B → Faults) → VolumeNow B → ℕ

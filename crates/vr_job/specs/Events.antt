@@ -27,6 +27,7 @@ use Rattle.vr_job.specs.Kept.{KeepsItems}
 use Rattle.vr_job.specs.Lacking.{LacksArea}
 use Rattle.vr_job.specs.Owning.{HasOwners}
 use Rattle.vr_job.specs.ReadFaults.{read_faults}
+use Rattle.vr_job.specs.Splits.{AddsAsSplit}
 
 -- An event: the deck that asked for it, 0 for the utilities, the blocks and the history as it
 -- began, and the entries that it made.
@@ -69,6 +70,14 @@ KeepsAtRest seen geometry number opening now entries =
 abbrev pub OwnsAtRest : {B : Type 0} → (B → Seen) → Geometry → State → B → List Entry → Type 0
 OwnsAtRest seen geometry opening now entries = (state_of geometry opening entries).stopped ≡ None
     → HasOwners geometry (state_of geometry opening entries) (seen now).cur
+
+-- And an interval was split for each entry of a split that the event made, and for nothing else.
+abbrev pub SplitsAtRest : {B : Type 0} → (B → Seen) → Geometry → State → Event B → B → List Entry
+    → Type 0
+SplitsAtRest seen geometry opening event now entries =
+    (state_of geometry opening entries).stopped ≡ None
+    → AddsAsSplit geometry (state_of geometry opening event.entries)
+    (state_of geometry opening entries) (seen event.blocks).cur (seen now).cur event.made
 
 -- Where an entry answers a request that there is no space, the part of its file lacks room in the
 -- state and the blocks that the event found.
@@ -141,7 +150,8 @@ pub record AnswersOnce (made : List Entry) : Type 0 where
 -- most, or defined a cluster, or changed an entry; it touched no block, or each image at each moment
 -- of it is as above; and it
 -- leaves the volume at rest, with the items of the state wherever no live unit changed them, and
--- each part as the owner of the areas that the history gives it. A fault is entered after a request
+-- each part as the owner of the areas that the history gives it, and with an interval more for each
+-- split of one that it entered. A fault is entered after a request
 -- alone that was answered 905. Where a COMMIT was answered 0, its unit is in every image that a
 -- crash may leave from then on. A request is answered 904 only where a read failed in its event,
 -- and 905, so that the volume stops, only where a write or a sync failed in it; and 28 only where
@@ -159,6 +169,7 @@ pub record IsEvent {B : Type 0} (seen : B → Seen) (counts : B → Faults) (geo
   pub after : LeavesAtRest seen geometry number opening now entries
   pub items : KeepsAtRest seen geometry number opening now entries
   pub owners : OwnsAtRest seen geometry opening now entries
+  pub splits : SplitsAtRest seen geometry opening event now entries
   pub faults : FaultsFollow event.made
   pub lasting : HaveDoneCommit event.made → (image : Image) → Left (seen now) image
       → RecoversTo geometry number (state_of geometry opening entries) [] image

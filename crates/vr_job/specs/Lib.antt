@@ -5,6 +5,7 @@ pub mod Events
 pub mod Kept
 pub mod Lacking
 pub mod Owning
+pub mod Splits
 pub mod Committed
 pub mod Faultless
 pub mod ReadFaults

@@ -6,17 +6,13 @@ use Rattle.vr_recover.specs.Opening.{IsDamaged, IsOfVersion}
 use Rattle.vr_recover.specs.declared.open_no.OpenNo.{OpenNo}
 use Rattle.vr_recover.specs.declared.open_no.OpenNo.TheVariants as nos
 use Rattle.vr_recover.specs.declared.open_no.Unserved.{Unserved}
-use Rattle.vr_recover.specs.declared.open_no.Unserved.TheVariants.{LogAtItsEnd, LogWithoutRoom}
 use Rattle.vr_recover.specs.declared.open_no.Unserved.TheVariants.{OtherKind, LongRecord}
 use Rattle.vr_recover.specs.Unserved.{IsUnserved}
 use Rattle.vr_trace.specs.declared.ending.EndLine.{EndLine}
 use Rattle.vr_trace.specs.declared.ending.EndLine.TheVariants.{Damaged, DeviceFault, NoMemory, Version}
 
--- The rule by which a line shows what isn't served: that of the log's blocks, or of the catalog's
--- records.
+-- the rule by which a line shows what isn't served: that of the catalog's records
 abbrev pub unserved_rule : Unserved → ℕ
-unserved_rule LogAtItsEnd = 2
-unserved_rule LogWithoutRoom = 2
 unserved_rule OtherKind = 17
 unserved_rule LongRecord = 17
 

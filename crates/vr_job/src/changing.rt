@@ -1,6 +1,6 @@
 //! A change of an entry of the catalog of a volume by the utilities, for ALTER and DELETE: one event of
 //! deck 0.
-ghost use Rattle.std.specs.Prelude.{◌≡◌, IfOk, IfSome, IsErr, None};
+ghost use Rattle.std.specs.Prelude.{◌≡◌, IfOk, IfSome, IsErr, IsTrue, None, Ok};
 ghost use Rattle.std.specs.Option.{option_copied};
 ghost use Rattle.vr_ams_define.specs.Answers.Exchange.{Changing};
 ghost use Rattle.vr_ams_define.specs.EntryChanges.{IsAltered, IsClusterThere, IsShownChanged};
@@ -9,10 +9,11 @@ ghost use Rattle.vr_event.specs.DefineSteps.{MayDefineNow};
 ghost use Rattle.vr_event.specs.Defining.{utility_unit};
 ghost use Rattle.vr_event.specs.EntryChange.{HasChangeFaults};
 ghost use Rattle.vr_event.specs.EntryChangeSteps.{HasChangeCome};
+ghost use Rattle.vr_event.specs.declared.entry_change.EntryChange.TheVariants as events;
 ghost use Rattle.vr_job.specs.Answering as answering;
 ghost use Rattle.vr_job.specs.Answering.{IsAnswered};
 ghost use Rattle.vr_job.specs.Going.{Follows, WentOn};
-ghost use Rattle.vr_job.specs.Serving.{IsServing, shown_of};
+ghost use Rattle.vr_job.specs.Serving.{IsServing, LeavesLess, shown_of};
 
 use crate::serving::make_ready;
 use std::alloc::Global;
@@ -54,6 +55,8 @@ fn change_event<B: Blocks, P: Start + Drop>(
     ensures went { WentOn B.tells B.seen B.faults volume.old volume.new }
     ensures come { HasChangeCome B.seen after (utility_unit volume.old.file) line entry.now
         (option_copied to.entry) result volume.old volume.new }
+    ensures nearer { IsTrue B.tells → result ≡ Ok events.Again
+        → LeavesLess volume.old volume.new }
     ensures cause { HasChangeFaults (B.faults volume.old.blocks) (B.faults volume.new.blocks)
         result }
     ensures entered_on { HasEntered line after volume.old.file.entries volume.new.file.entries }

@@ -27,13 +27,11 @@ use vr_recover::{OpenNo, Opened, Unserved, open_volume};
 use vr_trace::EndLine;
 use vr_types::Blocks;
 
-/// The rule by which the line of a job shows what isn't served: 2 at the first block of a log that
-/// can't be gone on with, and 17 at the head of a catalog that isn't served.
+/// The rule by which the line of a job shows what isn't served: 17 at the catalog's head.
 fn unserved_rule(cause: Unserved) -> u32
     ensures { result ≡ ends.unserved_rule cause }
 {
     match cause {
-        Unserved::LogAtItsEnd | Unserved::LogWithoutRoom => 2,
         Unserved::OtherKind | Unserved::LongRecord => 17,
     }
 }

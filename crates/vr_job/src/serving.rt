@@ -1,7 +1,7 @@
 //! A volume that the threads of decks share, and the utilities between them: one event of a
 //! request, under the volume's latch, or of a definition or a count.
 ghost use Rattle.std.specs.Prelude.{◌≡◌, ◌<◌, ◌≤◌, ◌==◌, ◌+◌, ◌-◌, ◌^◌, [], IsTrue, OnErr, OnOk};
-ghost use Rattle.std.specs.Prelude.{false, true, Contains, IfOk, IfSome, IsErr, None, is_some};
+ghost use Rattle.std.specs.Prelude.{false, true, Contains, IfOk, IfSome, IsErr, None, Ok, is_some};
 ghost use Rattle.std.specs.Option.{option_copied};
 ghost use Rattle.vr_catalog.specs.declared.entry.EntryKind.TheVariants.{Cluster};
 ghost use Rattle.vr_ams_define.specs.Answers.{IsShownAfter, IsShownCounted};
@@ -12,6 +12,7 @@ ghost use Rattle.vr_ams_define.specs.NewCluster.{IsNewCluster};
 ghost use Rattle.vr_event.specs.DefineSteps.{HasCome, LacksRoomWhere, MayDefineNow};
 ghost use Rattle.vr_event.specs.Defining.{HasDefineFaults, utility_unit};
 ghost use Rattle.vr_event.specs.Volume.{Holds, IsWhole};
+ghost use Rattle.vr_event.specs.declared.define.Define.TheVariants as events;
 ghost use Rattle.vr_history.specs.Merged.{last_stamp};
 ghost use Rattle.vr_record_file.specs.Now.{has_deck, number_of};
 ghost use Rattle.vr_trace.specs.Laws.{deck_entries};
@@ -20,7 +21,8 @@ ghost use Rattle.vr_worker.specs.Asked.{HasEntered, MayAsk};
 ghost use Rattle.vr_job.specs.Answering as answering;
 ghost use Rattle.vr_job.specs.Answering.{IsAnswered};
 ghost use Rattle.vr_job.specs.Going.{Follows, WentOn};
-ghost use Rattle.vr_job.specs.Serving.{IsServing, StaysServing, is_done, shown_of, unit_of};
+ghost use Rattle.vr_job.specs.Serving.{IsNearerFor, IsServing, LeavesLess, StaysServing, is_done};
+ghost use Rattle.vr_job.specs.Serving.{shown_of, unit_of};
 
 use crate::changing::change;
 use crate::counting::count;
@@ -80,7 +82,7 @@ pub(crate) fn make_ready<B: Blocks, P: Part>(
     ensures files_room { OnOk result (0 < volume.new.file.files_room) }
     ensures last { OnOk result (last_stamp 0 volume.new.file.entries < 2 ^ 62) }
     ensures after { OnOk result (after < 2 ^ 62) }
-    ensures generation { OnOk result (volume.new.store.log.generation + 1 < 2 ^ 64) }
+    ensures generation { OnOk result (volume.new.store.log.generation + 1 < 2 ^ 63) }
     ensures number { OnOk result (number_of volume.new.file.numbers deck < 2 ^ 32 - 1) }
     ensures stopped { volume.new.file.stopped ≡ volume.old.file.stopped }
     ensures stays { StaysServing B.tells B.seen B.faults volume.old volume.new }
@@ -114,7 +116,7 @@ fn event<B: Blocks, P: Part>(
     requires files { 0 < volume.old.file.files_room }
     requires last { last_stamp 0 volume.old.file.entries < 2 ^ 62 }
     requires after { after < 2 ^ 62 }
-    requires generation { volume.old.store.log.generation + 1 < 2 ^ 64 }
+    requires generation { volume.old.store.log.generation + 1 < 2 ^ 63 }
     requires number { number_of volume.old.file.numbers unit.deck < 2 ^ 32 - 1 }
     requires deck { has_deck unit.deck volume.old.file.numbers ≡ true }
     requires own { (unit.deck == 0) ≡ false }
@@ -124,6 +126,7 @@ fn event<B: Blocks, P: Part>(
     ensures went { WentOn B.tells B.seen B.faults volume.old volume.new }
     ensures entered { HasEntered volume.old.number unit.deck line request after result
         volume.old.file.entries volume.new.file.entries }
+    ensures nearer { result ≡ false → IsNearerFor B.tells volume.old volume.new unit.deck }
 {
     let act = volume.act(alloc, unit, line, request, after);
     is_done(&act)
@@ -146,6 +149,8 @@ fn serve<B: Blocks, P: Part>(
     ensures entered { HasEntered volume.old.number deck line request.now after
         (asked.is_done result) volume.old.file.entries volume.new.file.entries }
     ensures failed { OnErr result (volume.new.file.entries ≡ volume.old.file.entries) }
+    ensures nearer { IfOk result (λ done. done ≡ false
+        → IsNearerFor B.tells volume.old volume.new deck) }
     ensures number { volume.new.number ≡ volume.old.number }
 {
     make_ready(volume, deck, after)?;
@@ -187,6 +192,8 @@ fn define_event<B: Blocks, P: Start + Drop>(
     ensures come { HasCome B.seen after (utility_unit volume.old.file) line entry.now result
         volume.old volume.new }
     ensures no_room { IsTrue B.tells → LacksRoomWhere B.seen entry.now result volume.old }
+    ensures nearer { IsTrue B.tells → result ≡ Ok events.Again
+        → LeavesLess volume.old volume.new }
     ensures cause { HasDefineFaults (B.faults volume.old.blocks) (B.faults volume.new.blocks)
         result }
     ensures entered { HasEnteredOn line after volume.old.file.entries volume.new.file.entries }
@@ -261,12 +268,15 @@ impl<D: BlockDevice> Serving<D> {
 
 impl<D: BlockDevice> Served for Serving<D> {
     ghost use Rattle.vr_job.specs.Going.{Follows, follows-itself, follows-on};
+    ghost use Rattle.vr_job.specs.Serving.{IsNearerFor};
 
     ghost number = { λ serving. serving.number };
 
     ghost entries = { λ serving. serving.file.entries };
 
     ghost follows = { λ old new. Follows D.tells D.seen D.faults old new };
+
+    ghost nears = { λ old new deck. IsNearerFor D.tells old new deck };
 
     ghost stays = { λ serving. follows-itself D.tells D.seen D.faults serving };
 
@@ -298,6 +308,8 @@ impl<D: BlockDevice> Served for Serving<D> {
         ensures entered { HasEntered self.old.number deck line request.now after
             (asked.is_done result) self.old.file.entries self.new.file.entries }
         ensures failed { OnErr result (self.new.file.entries ≡ self.old.file.entries) }
+        ensures nearer { IfOk result (λ done. done ≡ false
+            → IsNearerFor D.tells self.old self.new deck) }
     {
         serve(self.alloc, &mut self.volume, deck, line, request, after)
     }

@@ -153,6 +153,11 @@ pub on-err-from : {X E : Type 0} (r : Result X E) (P : Type 0) → P → OnErr r
 on-err-from (Ok x) P is = tt
 on-err-from (Err e) P is = is
 
+pub on-err-both : {X E : Type 0} (r : Result X E) (P Q : Type 0) → OnErr r P → OnErr r Q
+    → OnErr r (P × Q)
+on-err-both (Ok x) P Q one other = tt
+on-err-both (Err e) P Q one other = (one, other)
+
 pub on-ok-both : {X E : Type 0} (r : Result X E) (P Q : Type 0) → OnOk r P → OnOk r Q
     → OnOk r (P × Q)
 on-ok-both (Ok x) P Q one other = (one, other)

@@ -6,13 +6,13 @@ use Rattle.vr_types.specs.Seen.{Seen, Left}
 use Rattle.vr_types.specs.Blocks.{Keeps}
 use Rattle.vr_types.proofs.CallerLemmas.{touches-then}
 use Rattle.vr_types.specs.declared.unit.StageKind.{StageKind}
-use Rattle.vr_types.specs.declared.unit.StageKind.TheVariants.{CiCopy}
+use Rattle.vr_types.specs.declared.unit.StageKind.TheVariants.{CiCopy, CiSwitch}
 use Rattle.vr_space.specs.declared.room.Room.TheVariants.{Stage, Ready, NoSpace}
 use Rattle.vr_space.specs.Room.{Lengths, Range, HaveRoom, have_room, with_length}
 use Rattle.vr_space.specs.Keyed.{EachMayLeave, HasEnds, HoldsRange, InArea, IsHead, IsKeyedAtRest}
 use Rattle.vr_space.specs.Keyed.{KeepsRoom, Keyed}
 use Rattle.vr_space.specs.Keyed.{entries_of, entry_block, lengths_of, low_of}
-use Rattle.vr_space.specs.Split.{free_interval, room_by}
+use Rattle.vr_space.specs.Split.{SplitNow, free_interval, room_by}
 use Rattle.vr_space.specs.Met.{Met, IsMet}
 use Rattle.vr_space.specs.Split.{room_by_split}
 use Rattle.vr_space.specs.Part.{Nothing}
@@ -20,6 +20,7 @@ use Rattle.vr_space.specs.AreaCalls.{HasRoomHere}
 use Rattle.vr_space.proofs.CallerLemmas.{due-here-keeps, due-here-then, found-in, keeps-here}
 use Rattle.vr_space.proofs.CallerLemmas.{nothing-then-here, room-here-keeps, rooms-here-keep}
 use Rattle.vr_space.proofs.CallerLemmas.{same-here-keeps, same-here-then}
+use Rattle.vr_split.specs.Splits.{after_stage, split_by, stage_after, stage_now}
 use Rattle.vr_split.specs.Switching.{KeepsPart, IsStageDone}
 use Rattle.vr_keyed.specs.Advance.{IsDue}
 use Rattle.vr_keyed.specs.Planned.{LacksRoom}
@@ -109,6 +110,16 @@ module _ (part : Keyed) (now : Seen) (left : Left now now.cur) (rests : IsKeyedA
     alone = alone;
     lacks = due-new.lacks;
   }
+
+-- Once the copy of a split is done its switch is next.
+pub after-copy : (split next : Option SplitNow) → stage_now split ≡ Some CiCopy
+    → next ≡ after_stage split → stage_now next ≡ Some CiSwitch
+after-copy None next copy goes = absurd cc
+after-copy (Some split) next copy goes =
+    let it : split.stage ≡ CiCopy = cc in
+    ap stage_now goes
+    ∙ ap (λ (stage : StageKind).
+    stage_now (split_by (stage_after stage) split.old split.into split.cut)) it
 
 -- ---- calls that only read, and then a stage
 

@@ -1,9 +1,9 @@
 -- Changes in a part by what they are in one area: which stage comes before a record that lacks
 -- room.
 use Rattle.std.proofs.Common.{◌≡◌, ℕ, Bool, true, false, List, Option, Some, None, refl, sym, ap}
-use Rattle.std.proofs.Common.{◌≢◌, ◌∙◌, subst, true≢false}
-use Rattle.std.specs.Prelude.{IfOk, IsSome, OnErr, cond, nat_eq, slice_index, unwrap_or, ◌||◌}
-use Rattle.std.specs.Option.{is_some, option_map}
+use Rattle.std.proofs.Common.{◌∙◌, subst, true≢false}
+use Rattle.std.specs.Prelude.{IfOk, IsSome, OnErr, cond, nat_eq, slice_index, ◌||◌}
+use Rattle.std.specs.Option.{is_some}
 use Rattle.std.specs.declared.result.Result.{Result}
 use Rattle.std.specs.declared.result.Result.TheVariants.{Ok, Err}
 use Rattle.vr_types.specs.Image.{Image}
@@ -17,7 +17,7 @@ use Rattle.vr_space.specs.Room.{Lengths, Range}
 use Rattle.vr_space.specs.Split.{AreaSplit, MoveNow, SplitNow, area_fits, area_stage, can_grow}
 use Rattle.vr_space.specs.Split.{free_interval, keyed_room, keyed_room_by, move_stage, room_after}
 use Rattle.vr_space.specs.Split.{room_by, room_by_split, split_in, stage_in}
-use Rattle.vr_split.specs.Splits.{after_fault, after_stage, split_by, stage_again, stage_after}
+use Rattle.vr_split.specs.Splits.{after_fault, split_by, stage_again}
 use Rattle.vr_split.specs.Splits.{stage_now}
 use Rattle.vr_split.specs.Splits.{split_at as split_of}
 use Rattle.vr_keyed.specs.Advance.{IsDue, IsLater, IsLaterStage}
@@ -57,6 +57,13 @@ is-moving next some None same tests is = absurd (true≢false
     (sym is ∙ tests ∙ ap (λ (stage : Option StageKind). is_some stage) same))
 is-moving next some (Some move) same tests is = refl
 
+-- the next stage of a split whose copy is done comes after the copy
+pub later-stage : (split : Option SplitNow) (kind : StageKind) → IsLater split
+    → stage_now split ≡ Some kind → IsLaterStage kind
+later-stage None kind later is = absurd cc
+later-stage (Some split) kind later is =
+    let same : split.stage ≡ kind = cc in subst IsLaterStage same later
+
 -- a stage that fails leaves a split whose copy is done as it was
 pub fault-same : (split : Option SplitNow) → IsLater split → after_fault split ≡ split
 fault-same None later = refl
@@ -72,43 +79,6 @@ fault-same (Some split) later = by_stage split.stage refl later
     by_stage CiSwitch is later = same CiSwitch is
     by_stage CiClean is later = same CiClean is
     by_stage stage is later = absurd later
-
--- ---- a split goes on
-
--- once a stage is done it isn't the split that it was,
-pub stage-other : (split : Option SplitNow) → IsSome split → after_stage split ≢ split
-stage-other None some same = cc
-stage-other (Some split) some same = by_stage split.stage refl same
-  where
-    other : (stage next : StageKind) → split.stage ≡ stage
-        → Some (split_of split.old split.into split.cut next) ≡ Some split → stage ≡ next
-    other stage next is same = sym is
-        ∙ sym (ap (λ (one : Option SplitNow). unwrap_or (stage_now one) stage) same)
-
-    by_stage : (stage : StageKind) → split.stage ≡ stage
-        → split_by (stage_after stage) split.old split.into split.cut ≡ Some split → ⊥
-    by_stage CiCopy is same =
-        let both : CiCopy ≡ CiSwitch = other CiCopy CiSwitch is same in cc
-    by_stage CiSwitch is same =
-        let both : CiSwitch ≡ CiClean = other CiSwitch CiClean is same in cc
-    by_stage stage is same = cc
-
--- in whichever area,
-pub split-other : (area : ℕ) (one other : Option SplitNow) → one ≢ other
-    → split_at area one ≢ split_at area other
-split-other area one other differ same = differ (sym (inner one) ∙ ap splits same ∙ inner other)
-  where
-    splits : Option AreaSplit → Option SplitNow
-    splits now = option_map (λ (at : AreaSplit). at.split) now
-
-    inner : (now : Option SplitNow) → splits (split_at area now) ≡ now
-    inner None = refl
-    inner (Some now) = refl
-
--- and one that begins isn't none.
-pub split-begun : (area : ℕ) (split : Option SplitNow) → IsSome split → split_at area split ≢ None
-split-begun area None some same = cc
-split-begun area (Some split) some same = cc
 
 -- ---- the stage that comes before a record
 

@@ -20,7 +20,7 @@ use Rattle.vr_seqset.specs.Entry.{Entry, IsWhole}
 use Rattle.vr_seqset.specs.Reading.{record_in}
 use Rattle.vr_space.specs.Areas.{ChainKeepsRoom, IsChainAtRest, IsFollowed}
 use Rattle.vr_space.specs.Areas.{IsQuietArea, KeyedChain, KnowsAreas, LinksIn, area_of}
-use Rattle.vr_space.specs.Areas.{areas_after, end_of, head_in}
+use Rattle.vr_space.specs.Areas.{areas_after, end_of, head_in, intervals_in}
 use Rattle.vr_space.specs.Keyed.{IsHead, Keyed, entries_of, last_high, low_of}
 use Rattle.vr_space.specs.Known.{Known}
 use Rattle.vr_space.specs.Met.{IsChainMet}
@@ -110,6 +110,8 @@ pub record HasStepped (part : KeyedChain) (move : MoveNow) (next : Option MoveNo
       → IsAtWork part move owners kept old → KnowsAreas part areas ends old.cur
       → KnowsAreas part (areas_by move.stage move areas) (ends_by move.stage move cut areas ends)
       new.cur
+  pub counts : (owners : Owners) (kept : Lengths) → IsAtWork part move owners kept old
+      → intervals_in part new.cur ≡ intervals_in part old.cur
 
 pub stepped : (part at : KeyedChain) → at ≡ part → (move next : Option MoveNow) (cut : List ℕ)
     (old new : Seen)
@@ -120,11 +122,13 @@ pub stepped : (part at : KeyedChain) → at ≡ part → (move next : Option Mov
     → IfSome move (λ now. (owners : Owners) (kept : Lengths) (areas : List ℕ)
     (ends : List (List ℕ)) → IsAtWork at now owners kept old → KnowsAreas at areas ends old.cur
     → KnowsAreas at (areas_by now.stage now areas) (ends_by now.stage now cut areas ends) new.cur)
+    → IfSome move (λ now. (owners : Owners) (kept : Lengths) → IsAtWork at now owners kept old
+    → intervals_in at new.cur ≡ intervals_in at old.cur)
     → IfSome move (λ now. HasStepped part now next cut old new)
-stepped part at same None next cut old new rests way knows = tt
-stepped part at same (Some move) next cut old new rests way knows =
+stepped part at same None next cut old new rests way knows counts = tt
+stepped part at same (Some move) next cut old new rests way knows counts =
     subst (λ (one : KeyedChain). HasStepped one move next cut old new) same
-    (record { rests = rests; way = way; knows = knows })
+    (record { rests = rests; way = way; knows = knows; counts = counts })
 
 pub step-done : (part : KeyedChain) (move next : Option MoveNow) (cut : List ℕ) (old new : Seen)
     → IsSome move → IsQuiet (KeyedShape part) old → MoveUnderWay part move old → (kept : Lengths)
@@ -159,10 +163,11 @@ ends-stay stage move cut areas ends other = refl
 knows-areas : (chain : AreasNow) (next : Option MoveNow) (new : Seen)
     → MoveUnderWay chain.part next new → IsPastClaim next
     → KnowsAreas chain.part chain.areas chain.ends new.cur
+    → chain.intervals ≡ intervals_in chain.part new.cur
     → Knows (KeyedShape chain.part) (known_by chain None next []) new
-knows-areas chain next new way past knows = record {
+knows-areas chain next new way past knows counted = record {
   way = (tt, way, inl refl, past);
-  blocks = (knows, All-nil (IsChainMet chain.part new.cur));
+  blocks = (knows, All-nil (IsChainMet chain.part new.cur), counted);
 }
 
 -- before the last stage it has the areas that it had
@@ -170,12 +175,14 @@ pub knows-on : (chain : AreasNow) (move next : Option MoveNow) (cut : List ℕ) 
     → IsSome move → IsQuiet (KeyedShape chain.part) old → MoveUnderWay chain.part move old
     → (kept : Lengths) → ChainKeepsRoom chain.part kept old
     → IfSome move (λ now. HasStepped chain.part now next cut old new)
-    → KnowsAreas chain.part chain.areas chain.ends old.cur → (kind : StageKind)
+    → KnowsAreas chain.part chain.areas chain.ends old.cur
+    → chain.intervals ≡ intervals_in chain.part old.cur → (kind : StageKind)
     → IfSome move (λ now. kind ≡ now.stage) → kind ≢ CaSwitch → IsPastClaim next
     → Knows (KeyedShape chain.part) (known_by chain None next []) new
-knows-on chain None next cut old new some quiet way kept room step knows kind is other past =
-    absurd cc
-knows-on chain (Some move) next cut old new some quiet way kept room step knows kind is other past =
+knows-on chain None next cut old new some quiet way kept room step knows counted kind is other
+    past = absurd cc
+knows-on chain (Some move) next cut old new some quiet way kept room step knows counted kind is
+    other past =
     let part : KeyedChain = chain.part in
     let work : IsAtWork part move (all_of part) kept old =
     all-work part move old kept quiet room way in
@@ -188,6 +195,7 @@ knows-on chain (Some move) next cut old new some quiet way kept room step knows 
     KnowsAreas part (areas_by move.stage move chain.areas) ends new.cur)
     (ends-stay move.stage move cut chain.areas chain.ends differs)
     (step.knows (all_of part) kept chain.areas chain.ends work knows)))
+    (counted ∙ sym (step.counts (all_of part) kept work))
 
 -- ---- where the areas end
 
@@ -337,7 +345,7 @@ cut-from key low (one ∷ areas) (end ∷ ends) area cut has many rises =
 
 -- ---- how many areas there are
 
-areas-most : (part : KeyedChain) (image : Image) (k area : ℕ)
+pub areas-most : (part : KeyedChain) (image : Image) (k area : ℕ)
     → length (areas_after part image k area) ≤ k
 areas-most part image zero area = omega arith
 areas-most part image (suc k) area =
@@ -374,7 +382,8 @@ module _ (chain : AreasNow) (move : MoveNow) (next : Option MoveNow) (cut : List
     (way : IsMoving chain.part move old) (kept : Lengths)
     (room : ChainKeepsRoom chain.part kept old)
     (step : HasStepped chain.part move next cut old new)
-    (knows : KnowsAreas chain.part chain.areas chain.ends old.cur) (last : move.stage ≡ CaSwitch)
+    (knows : KnowsAreas chain.part chain.areas chain.ends old.cur)
+    (counted : chain.intervals ≡ intervals_in chain.part old.cur) (last : move.stage ≡ CaSwitch)
     (left : Left new new.cur) where
   work : IsAtWork chain.part move (all_of chain.part) kept old
   work = all-work chain.part move old kept quiet room way
@@ -429,26 +438,32 @@ pub record EndsSplit (chain : AreasNow) (area into : ℕ) (cut : List ℕ) (new 
   pub is_cut : IsCut chain area cut
   pub knows : KnowsAreas chain.part (with_area area into chain.areas)
       (with_end area cut chain.areas chain.ends) new.cur
+  pub counted : chain.intervals ≡ intervals_in chain.part new.cur
 
 pub ends-split : (chain : AreasNow) (move next : Option MoveNow) (cut : List ℕ) (old new : Seen)
     → IsSome move → IsQuiet (KeyedShape chain.part) old → MoveUnderWay chain.part move old
     → (kept : Lengths) → ChainKeepsRoom chain.part kept old
     → IfSome move (λ now. HasStepped chain.part now next cut old new)
-    → KnowsAreas chain.part chain.areas chain.ends old.cur → (kind : StageKind)
+    → KnowsAreas chain.part chain.areas chain.ends old.cur
+    → chain.intervals ≡ intervals_in chain.part old.cur → (kind : StageKind)
     → IfSome move (λ now. kind ≡ now.stage) → kind ≡ CaSwitch → Left new new.cur
     → (area into : ℕ) → IfSome move (λ now. (area ≡ now.area) × (into ≡ now.into))
     → (place : List ℕ) → place ≡ cut → EndsSplit chain area into place new
-ends-split chain None next cut old new some quiet way kept room step knows kind is last left area
-    into areas place at = absurd cc
-ends-split chain (Some move) next cut old new some quiet way kept room step knows kind is last left
-    area into areas place at =
+ends-split chain None next cut old new some quiet way kept room step knows counted kind is last left
+    area into areas place at = absurd cc
+ends-split chain (Some move) next cut old new some quiet way kept room step knows counted kind is
+    last left area into areas place at =
     let switch : move.stage ≡ CaSwitch = sym is ∙ last in
     subst (λ (one : List ℕ). EndsSplit chain area into one new) (sym at)
     (subst (λ (one : ℕ). EndsSplit chain one into cut new) (sym areas.0)
     (subst (λ (other : ℕ). EndsSplit chain move.area other cut new) (sym areas.1)
     (record {
-      is_cut = is-cut chain move next cut old new quiet way kept room step knows switch left;
-      knows = knows-more chain move next cut old new quiet way kept room step knows switch left;
+      is_cut = is-cut chain move next cut old new quiet way kept room step knows counted switch
+          left;
+      knows = knows-more chain move next cut old new quiet way kept room step knows counted switch
+          left;
+      counted = counted ∙ sym (step.counts (all_of chain.part) kept
+          (all-work chain.part move old kept quiet room way));
     })))
 
 -- no split is under way then
@@ -467,4 +482,4 @@ knows-ended chain after area into cut new next ended same none =
     subst (λ (one : AreasNow). Knows (KeyedShape chain.part) (known_by one None next []) new)
     (sym same)
     (subst (λ (one : Option MoveNow). Knows (KeyedShape chain.part) (known_by more None one []) new)
-    (sym none) (knows-areas more None new tt tt ended.knows))
+    (sym none) (knows-areas more None new tt tt ended.knows ended.counted))

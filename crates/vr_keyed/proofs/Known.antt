@@ -15,7 +15,7 @@ use Rattle.vr_types.specs.declared.unit.StageKind.{StageKind}
 use Rattle.vr_space.specs.declared.room.Room.{Room}
 use Rattle.vr_space.specs.declared.room.Room.TheVariants.{Stage}
 use Rattle.vr_space.specs.Areas.{ChainKeepsRoom, IsChainOn, KeyedChain, KnowsAreas, area_by}
-use Rattle.vr_space.specs.Areas.{area_for, area_of, areas_in}
+use Rattle.vr_space.specs.Areas.{area_for, area_of, areas_in, intervals_in}
 use Rattle.vr_space.specs.Keyed.{InArea, KeepsRoom, Keyed}
 use Rattle.vr_space.specs.Met.{IsChainMet, IsMet, Met, met_next}
 use Rattle.vr_space.specs.Part.{InHeld, KeyedShape, Knows, Stands}
@@ -190,6 +190,7 @@ module _ (chain : AreasNow) (tells : Bool) (told : IsTrue tells) (a b : Seen)
           knows.blocks.0,
       subst (λ (image : Image). All (IsChainMet chain.part image) new) (sym (call.content told))
           met,
+      knows.blocks.2 ∙ ap (intervals_in chain.part) (sym (call.content told)),
     );
   }
 

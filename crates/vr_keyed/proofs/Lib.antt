@@ -29,3 +29,5 @@ pub mod Moved
 pub mod Aside
 pub mod ReadThen
 pub mod NewSplits
+pub mod Counted
+pub mod Left

@@ -1,6 +1,6 @@
 -- What a call that puts into one area of a keyed part at rest leaves of the part: a stage of a
 -- split, or a record that is set.
-use Rattle.std.proofs.Common.{◌≡◌, ◌≢◌, ⊎_elim, inl, inr, ℕ, Bool, List, [], Option}
+use Rattle.std.proofs.Common.{◌≡◌, ◌≢◌, ◌≤◌, ◌+◌, ◌*◌, ⊎_elim, inl, inr, ℕ, Bool, List, [], Option}
 use Rattle.std.proofs.Common.{Some, None, All, refl, sym, ap, subst, ◌∙◌, arith, length, map}
 use Rattle.std.specs.Prelude.{Contains, IfSome, cond}
 use Rattle.std.specs.Option.{option_map}
@@ -10,10 +10,12 @@ use Rattle.vr_types.specs.Content.{Item}
 use Rattle.vr_types.specs.Content.Item.{Standing}
 use Rattle.vr_types.specs.Image.{Block, Image}
 use Rattle.vr_types.specs.Seen.{Left, Seen}
+use Rattle.vr_types.specs.declared.unit.StageKind.{StageKind}
 use Rattle.vr_space.specs.Areas.{ChainKeepsRoom, KeyedChain, area_for, area_of}
-use Rattle.vr_space.specs.Areas.{areas_in, head_in, head_of}
+use Rattle.vr_space.specs.Areas.{areas_in, head_in, head_of, intervals_in}
 use Rattle.vr_space.specs.Keyed.{InArea, IsHead}
 use Rattle.vr_space.specs.Known.{Known}
+use Rattle.vr_space.specs.Left.{added_by, area_intervals}
 use Rattle.vr_space.specs.Met.{IsChainMet, IsMet, Met}
 use Rattle.vr_space.specs.Part.{HasRoomFor, IsQuiet}
 use Rattle.vr_space.specs.Part.{IsRecordOf, Just, KeyedShape, Knows, Nothing, Stands}
@@ -22,11 +24,13 @@ use Rattle.vr_space.specs.Moves.{IsPastClaim, MoveUnderWay}
 use Rattle.vr_space.specs.Split.{AreaSplit, MoveNow, SplitNow, move_stage, split_in}
 use Rattle.vr_space.specs.UnderWay.{AreaUnderWay}
 use Rattle.vr_space.proofs.CallerLemmas.{ChangesArea, PutsInto, adds-puts, areas-apart, found-in}
+use Rattle.vr_space.proofs.CallerLemmas.{intervals-changed, intervals-most}
 use Rattle.vr_space.proofs.CallerLemmas.{fits-of-area, lift-adds, lift-due, lift-due-at, lift-met}
 use Rattle.vr_space.proofs.CallerLemmas.{lift-rest, lift-room, lift-rooms, lift-same, lift-sets}
 use Rattle.vr_space.proofs.CallerLemmas.{lift-move, lift-under, record-of-area, rest-here}
 use Rattle.vr_space.proofs.CallerLemmas.{no-stage-of-area, resting-for, resting-stands, room-here}
 use Rattle.vr_space.proofs.CallerLemmas.{same-area, same-areas, same-known, under-here}
+use Rattle.vr_split.specs.Splits.{AddsEntries}
 use Rattle.vr_split.specs.Switching.{IsStageDone, KeepsPart}
 use Rattle.vr_attach.specs.Areas.{AreasNow}
 use Rattle.vr_keyed.specs.Changed.{IsDoneIn, IsReadyIn, IsSetIn, KeepsIn, MaySetIn}
@@ -83,6 +87,11 @@ met-inside part image area one head is =
 
 module _ (part : KeyedChain) (area : ℕ) (old new : Seen) (quiet : IsQuiet (KeyedShape part) old)
     (left : Left old old.cur) (inside : Contains (areas_in part old.cur) area) where
+  -- the areas of the part, with a count of its intervals
+  abbrev chain_with : List ℕ → List (List ℕ) → ℕ → AreasNow
+  chain_with areas ends count =
+      record { part = part; areas = areas; ends = ends; intervals = count }
+
   pub quiet-stands : Stands (KeyedShape part) old.cur
   quiet-stands = resting-stands part quiet.0 old quiet.1 left
 
@@ -109,34 +118,56 @@ module _ (part : KeyedChain) (area : ℕ) (old new : Seen) (quiet : IsQuiet (Key
 
     -- Once it is done, the split of the interval is under way, none of an area is, and nothing is
     -- met.
-    pub stage-done : (areas : List ℕ) (ends : List (List ℕ)) (before : Option AreaSplit)
-        (split : Option SplitNow) (move : Option MoveNow) (met after : List Met)
-        → Knows (KeyedShape part) (known_by (record { part = part; areas = areas; ends = ends })
-        before move met) old
+    pub stage-done : (areas : List ℕ) (ends : List (List ℕ)) (count next : ℕ)
+        (before : Option AreaSplit) (split : Option SplitNow) (move : Option MoveNow)
+        (met after : List Met)
+        → Knows (KeyedShape part) (known_by (chain_with areas ends count) before move met) old
         → IsStageDone (area_of part area) old new → AreaUnderWay (area_of part area) split new
-        → move ≡ None → after ≡ []
-        → IsDoneIn part move (known_by (record { part = part; areas = areas; ends = ends })
-        (split_at area split) move after) old new
-    stage-done areas ends before split move met after knows done way no_move none = record {
-      due = lift-due part quiet.0 area old new quiet.1 left inside puts changes [] done.due;
-      rests = λ owners still own.
-          lift-rest part owners area old new still left inside puts done.rests;
-      knows = record {
-        way = (
-          way-there part area split new
-              (subst (λ (those : List ℕ). Contains those area)
-              (sym (same-areas part area old.cur new.cur changes)) inside)
-              way,
-          subst (λ (one : Option MoveNow). MoveUnderWay part one new) (sym no_move) tt,
-          inr no_move,
-          subst IsPastClaim (sym no_move) tt,
-        );
-        blocks = (
-          same-known part area old.cur new.cur changes areas ends knows.blocks.0,
-          subst (All (IsChainMet part new.cur)) (sym none) (All-nil (IsChainMet part new.cur)),
-        );
-      };
-    }
+        → move ≡ None → after ≡ [] → next ≡ intervals_in part new.cur
+        → IsDoneIn part move
+        (known_by (chain_with areas ends next) (split_at area split) move after) old new
+    stage-done areas ends count next before split move met after knows done way no_move none counts
+        = record {
+          due = lift-due part quiet.0 area old new quiet.1 left inside puts changes [] done.due;
+          rests = λ owners still own.
+              lift-rest part owners area old new still left inside puts done.rests;
+          knows = record {
+            way = (
+              way-there part area split new
+                  (subst (λ (those : List ℕ). Contains those area)
+                  (sym (same-areas part area old.cur new.cur changes)) inside)
+                  way,
+              subst (λ (one : Option MoveNow). MoveUnderWay part one new) (sym no_move) tt,
+              inr no_move,
+              subst IsPastClaim (sym no_move) tt,
+            );
+            blocks = (
+              same-known part area old.cur new.cur changes areas ends knows.blocks.0,
+              subst (All (IsChainMet part new.cur)) (sym none) (All-nil (IsChainMet part new.cur)),
+              counts,
+            );
+          };
+        }
+
+    -- Its blocks stand for a content then,
+    pub done-stands : IsStageDone (area_of part area) old new → Left new new.cur
+        → Stands (KeyedShape part) new.cur
+    done-stands done after = resting-stands part quiet.0 new
+        (lift-rest part quiet.0 area old new quiet.1 left inside puts done.rests) after
+
+    -- its heads lead to at most the intervals of its areas,
+    pub done-within : IsStageDone (area_of part area) old new → Left new new.cur
+        → intervals_in part new.cur ≤ length (areas_in part old.cur) * area_intervals part
+    done-within done after = subst
+        (λ (those : List ℕ). intervals_in part new.cur ≤ length those * area_intervals part)
+        (same-areas part area old.cur new.cur changes)
+        (intervals-most part new.cur (done-stands done after))
+
+    -- and they lead to as many more as the stage adds.
+    pub stage-counts : (kind : StageKind) → AddsEntries (area_of part area) kind old.cur new.cur
+        → intervals_in part new.cur ≡ intervals_in part old.cur + added_by kind
+    stage-counts kind adds = intervals-changed part old.cur new.cur area (added_by kind)
+        quiet-stands changes inside adds
 
   -- ---- a record that is set
 
@@ -184,6 +215,14 @@ module _ (part : KeyedChain) (area : ℕ) (old new : Seen) (quiet : IsQuiet (Key
     set-changes : ChangesArea part area old.cur new.cur
     set-changes = record { others = set-puts.content; ends = may.current }
 
+    -- the heads lead to as many intervals,
+    set-counts : intervals_in part new.cur ≡ intervals_in part old.cur
+    set-counts = omega (
+      arith,
+      intervals-changed part old.cur new.cur area 0 quiet-stands set-changes
+          inside (omega (arith, may.counts)),
+    )
+
     -- What it adds in the area it adds in the part.
     pub may-set : ChainKeepsRoom part kept old → MaySetIn part kept place bytes old new
     may-set room = record {
@@ -229,21 +268,20 @@ module _ (part : KeyedChain) (area : ℕ) (old new : Seen) (quiet : IsQuiet (Key
         (cases_eq is.area area)
 
     -- and the record is set in the part as it is in the area, which waits for no split of it.
-    pub is-set : (areas : List ℕ) (ends : List (List ℕ)) (split : Option AreaSplit)
+    pub is-set : (areas : List ℕ) (ends : List (List ℕ)) (count : ℕ) (split : Option AreaSplit)
         (move : Option MoveNow) (met mid after : List Met) (put : Option ℕ) (block : Block)
         → area_for part old.cur place ≡ Some area
-        → Knows (KeyedShape part) (known_by (record { part = part; areas = areas; ends = ends })
-        split move met) old
+        → Knows (KeyedShape part) (known_by (chain_with areas ends count) split move met) old
         → move_stage move area ≡ None
         → All (IsChainMet part old.cur) mid → after ≡ map (again put block) mid
         → All (InArea (area_of part area)) (put_of put)
         → ((one : Met) → IsMet (area_of part area) old.cur one
         → IsMet (area_of part area) new.cur (again put block one))
         → IsSetNow (area_of part area) (split_in split area) (put_of put) place bytes old new
-        → IsSetIn part (known_by (record { part = part; areas = areas; ends = ends }) split move
-        after) (put_of put) place bytes old new
-    is-set areas ends split move met mid after put block found knows waits were same within stays
-        done = record {
+        → IsSetIn part (known_by (chain_with areas ends count) split move after) (put_of put) place
+        bytes old new
+    is-set areas ends count split move met mid after put block found knows waits were same within
+        stays done = record {
           set = lift-sets part area old.cur new.cur set-changes quiet-stands place bytes found
               done.set;
           due = lift-due-at part quiet.0 area old new quiet.1 left inside set-puts set-changes place
@@ -266,6 +304,7 @@ module _ (part : KeyedChain) (area : ℕ) (old new : Seen) (quiet : IsQuiet (Key
                   (All-weaker (IsChainMet part old.cur)
                   (λ one. IsChainMet part new.cur (again put block one))
                   (λ one. again-met put block within one (stays one)) mid were)),
+              knows.blocks.2 ∙ sym set-counts,
             );
           };
         }

@@ -1,7 +1,7 @@
 -- What a stage of a split of an area leaves of the split, which goes on or is over; of the owners
 -- of areas; and of the areas that the part holds.
 use Rattle.std.proofs.Common.{◌≡◌, ◌≢◌, ◌+◌, inl, inr, ℕ, Bool, true, false, List, [], ◌∷◌, ◌++◌}
-use Rattle.std.proofs.Common.{Option, Some, None, refl, sym, ap, subst, ◌∙◌, arith}
+use Rattle.std.proofs.Common.{Option, Some, None, refl, sym, subst, ◌∙◌}
 use Rattle.std.specs.Prelude.{IfSome, IsSome, cond, nat_eq}
 use Rattle.vr_types.specs.declared.unit.PartNo.{PartNo}
 use Rattle.vr_types.specs.declared.unit.StageKind.{StageKind}
@@ -10,10 +10,10 @@ use Rattle.vr_types.specs.declared.unit.StageKind.TheVariants.{Extend, Post}
 use Rattle.vr_space.specs.Areas.{KeyedChain}
 use Rattle.vr_space.specs.Known.{held_with}
 use Rattle.vr_space.specs.Moves.{IsAreaStage, IsPastClaim, IsPastClaimStage, moving}
-use Rattle.vr_space.specs.Part.{HoldsSame, KeepsChain, KeyedShape, OwnersAfter, part_no}
+use Rattle.vr_space.specs.Part.{HoldsSame, IsClaimed, KeepsChain, KeyedShape, OwnersAfter, part_no}
 use Rattle.vr_space.specs.Split.{MoveNow}
-use Rattle.vr_casplit.specs.Splits.{OwnersBy, after_by, after_move, begun_at, left_at, left_by}
-use Rattle.vr_keyed.specs.Owned.{held_at, held_now}
+use Rattle.vr_casplit.specs.Splits.{OwnersBy, after_by, after_move, left_at, left_by}
+use Rattle.vr_keyed.specs.Owned.{held_at, held_now, stage_of_move}
 
 -- ---- the owners of areas
 
@@ -35,6 +35,21 @@ owners-left part at same (Some move) some old new kind is by =
     subst (λ (stage : StageKind). OwnersAfter (part_no (KeyedShape part)) stage old new) (sym is)
     (subst (λ (one : KeyedChain). OwnersAfter (part_no (KeyedShape one)) move.stage old new) same
     (owners-by move.stage (part_no (KeyedShape at)) by.0 old new by.1))
+
+-- The claim takes the least free area for it.
+pub claims-left : (part at : KeyedChain) → at ≡ part → (move : Option MoveNow) → IsSome move
+    → (old new : List (Option PartNo))
+    → IfSome move (λ now. (claimed : ℕ)
+    × OwnersBy now.stage (part_no (KeyedShape at)) claimed old new)
+    → stage_of_move move ≡ Some CaClaim → IsClaimed (part_no (KeyedShape part)) old new
+claims-left part at same None some old new by is = absurd cc
+claims-left part at same (Some move) some old new by is =
+    let claim : move.stage ≡ CaClaim = cc in
+    let both : OwnersBy CaClaim (part_no (KeyedShape at)) by.0 old new =
+    subst (λ (stage : StageKind). OwnersBy stage (part_no (KeyedShape at)) by.0 old new) claim by.1
+    in
+    subst (λ (one : KeyedChain). IsClaimed (part_no (KeyedShape one)) old new) same
+    (by.0, both.0, both.1)
 
 holds-itself : (areas : List ℕ) → HoldsSame areas areas
 holds-itself areas = record { many = refl; kept = λ area is. is; none = λ area is. is }
@@ -125,43 +140,6 @@ moved-on at (Some move) next some kind is other old new by goes = (
   by.0,
   goes by.0 by.1 ∙ moved-by move by.0 move.stage (λ same. other (is ∙ same)),
 )
-
--- So it isn't the split that it was,
-pub moved-other : (move next : Option MoveNow) → IsSome move → IsPastClaim move
-    → IfSome move (λ now. (claimed : ℕ) × (next ≡ after_move now claimed)) → next ≢ move
-moved-other None next some past goes same = cc
-moved-other (Some move) next some past goes same =
-    by_stage move.stage refl past (sym goes.1 ∙ same)
-  where
-    stage_of : Option MoveNow → StageKind
-    stage_of None = CaClaim
-    stage_of (Some now) = now.stage
-
-    copied_of : Option MoveNow → ℕ
-    copied_of None = 0
-    copied_of (Some now) = now.copied
-
-    by_stage : (stage : StageKind) → move.stage ≡ stage → IsPastClaimStage stage
-        → after_by stage move goes.0 ≡ Some move → ⊥
-    by_stage CaCopy is there after =
-        let more : move.copied + 1 ≡ move.copied = ap copied_of after in omega (arith, more)
-    by_stage CaLink is there after =
-        let both : CaSwitch ≡ CaLink = ap stage_of after ∙ is in cc
-    by_stage CaSwitch is there after = cc
-    by_stage stage is there after = absurd there
-
--- and one that begins is under way.
-pub moved-first : (area entries stay : ℕ) (move next : Option MoveNow)
-    → move ≡ Some (begun_at area entries stay)
-    → IfSome move (λ now. (claimed : ℕ) × (next ≡ after_move now claimed)) → next ≢ None
-moved-first area entries stay move next begun goes same =
-    let here : (claimed : ℕ) × (next ≡ after_move (begun_at area entries stay) claimed) =
-    subst (λ (one : Option MoveNow). IfSome one (λ now. (claimed : ℕ)
-    × (next ≡ after_move now claimed))) begun goes in
-    some-none (sym here.1 ∙ same)
-  where
-    some-none : {X : Type 0} {x : X} → Some x ≡ None → ⊥
-    some-none is = cc
 
 -- ---- the areas that the part holds
 

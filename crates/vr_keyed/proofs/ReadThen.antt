@@ -34,6 +34,11 @@ pub record IsBetween (part : KeyedChain) (known : Known) (kept : Lengths) (now :
 
 module _ (part : KeyedChain) (tells : Bool) (told : IsTrue tells) (a b : Seen)
     (call : Keeps tells a b) (quiet : IsQuiet (KeyedShape part) a) where
+  -- the areas of the part, with a count of its intervals
+  abbrev chain_with : List ℕ → List (List ℕ) → ℕ → AreasNow
+  chain_with areas ends count =
+      record { part = part; areas = areas; ends = ends; intervals = count }
+
   sound : IsSound (KeyedShape part) quiet.0 a
   sound = rest-sound (KeyedShape part) quiet.0 a quiet.1
 
@@ -58,18 +63,17 @@ module _ (part : KeyedChain) (tells : Bool) (told : IsTrue tells) (a b : Seen)
       knows-keeps tells told (KeyedShape part) quiet.0 known a b call sound left knows
 
   -- even where it forgets what it met.
-  pub knows-less : (areas : List ℕ) (ends : List (List ℕ)) (split : Option AreaSplit)
+  pub knows-less : (areas : List ℕ) (ends : List (List ℕ)) (count : ℕ) (split : Option AreaSplit)
       (move : Option MoveNow) (met : List Met) → Left a a.cur
-      → Knows (KeyedShape part)
-      (known_by (record { part = part; areas = areas; ends = ends }) split move met) a
-      → Knows (KeyedShape part)
-      (known_by (record { part = part; areas = areas; ends = ends }) split move []) b
-  knows-less areas ends split move met left knows =
-      let same : Knows (KeyedShape part)
-      (known_by (record { part = part; areas = areas; ends = ends }) split move met) b =
-      knows-then (known_by (record { part = part; areas = areas; ends = ends }) split move met) left
-      knows in
-      record { way = same.way; blocks = (same.blocks.0, All-nil (IsChainMet part b.cur)) }
+      → Knows (KeyedShape part) (known_by (chain_with areas ends count) split move met) a
+      → Knows (KeyedShape part) (known_by (chain_with areas ends count) split move []) b
+  knows-less areas ends count split move met left knows =
+      let same : Knows (KeyedShape part) (known_by (chain_with areas ends count) split move met) b =
+      knows-then (known_by (chain_with areas ends count) split move met) left knows in
+      record {
+        way = same.way;
+        blocks = (same.blocks.0, All-nil (IsChainMet part b.cur), same.blocks.2);
+      }
 
   -- So it is between two calls then.
   pub between : (known : Known) (kept : Lengths) → Left a a.cur → Left b b.cur

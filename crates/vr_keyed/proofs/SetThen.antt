@@ -1,6 +1,6 @@
 -- A `set` after a call that puts nothing, and the order of what was met.
 use Rattle.std.proofs.Common.{◌≡◌, ◌<◌, ◌≤◌, ℕ, zero, suc, Bool, IsTrue, List, [], ◌∷◌, Option}
-use Rattle.std.proofs.Common.{take, map, refl, sym, ap, subst, ◌∙◌, arith}
+use Rattle.std.proofs.Common.{take, map, refl, sym, ap, subst, ◌∙◌, arith, length}
 use Rattle.std.specs.Option.{option_map}
 use Rattle.vr_types.specs.Content.Item.{Standing}
 use Rattle.vr_types.specs.Image.{Block, Image, block_at}
@@ -8,7 +8,7 @@ use Rattle.vr_types.specs.Seen.{Seen, Left}
 use Rattle.vr_types.specs.Blocks.{Keeps}
 use Rattle.vr_types.proofs.CallerLemmas.{touches-then}
 use Rattle.vr_space.specs.Room.{Lengths}
-use Rattle.vr_space.specs.Keyed.{HasEnds, InArea, IsHead, KeepsRoom, Keyed}
+use Rattle.vr_space.specs.Keyed.{HasEnds, InArea, IsHead, KeepsRoom, Keyed, entries_of}
 use Rattle.vr_space.specs.Met.{Met}
 use Rattle.vr_space.specs.Part.{Just, Nothing}
 use Rattle.vr_space.specs.AreaCalls.{HasRoomHere, SetsHere}
@@ -51,6 +51,7 @@ module _ (part : Keyed) (kept : Lengths) (split : Option SplitNow) (place : List
       adds = adds-here-weaken part Nothing (Just place (option_map Standing item)) a m
           (keeps-here tells told part a m call ready.rests.sound) (λ p i none. absurd none);
       current = still-current part tells told a m call;
+      counts = ap (λ (top : Block). length (entries_of top)) (still-head part tells told a m call);
       room = room-now;
       rooms = rooms-here-keep tells told part a m call ready.rests.sound kept ready.room;
     }
@@ -61,6 +62,8 @@ module _ (part : Keyed) (kept : Lengths) (split : Option SplitNow) (place : List
           (keeps-here tells told part a m call ready.rests.sound) may.adds;
       current = subst (λ (top : Block). HasEnds top (block_at b.cur part.head))
           (still-head part tells told a m call) may.current;
+      counts = may.counts
+          ∙ ap (λ (top : Block). length (entries_of top)) (still-head part tells told a m call);
       room = may.room;
       rooms = touches-then (InArea part) (HasRoomHere part kept) a m b
           (rooms-here-keep tells told part a m call ready.rests.sound kept ready.room) may.rooms;

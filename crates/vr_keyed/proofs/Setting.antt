@@ -281,6 +281,8 @@ module _ (part : Keyed) (kept : Lengths) (split : Option SplitNow) (place : List
         adds = set-adds part tells told a b met.number bytes place (option_map Standing item)
             ready.rests left call other inside-part of-holds keeps;
         current = current-after part tells told a b met.number bytes call other;
+        counts = ap (λ (top : Block). length (entries_of top))
+            (head-still part tells told a b met.number bytes call other);
         room = room-after part tells told a b met.number bytes kept ready.rests call other
             ready.room of-room;
         rooms = rooms-after part tells told a b met.number bytes kept ready.rests call other

@@ -1,8 +1,9 @@
 -- What is seen of a keyed part on blocks.
-use Rattle.std.specs.Prelude.{◌≡◌, ◌++◌, ◌∷◌, [], ℕ, List, Option, None, Some, Contains}
+use Rattle.std.specs.Prelude.{◌≡◌, ◌+◌, ◌-◌, ◌^◌, ◌++◌, ◌∷◌, [], ℕ, List, Option, None, Some}
+use Rattle.std.specs.Prelude.{Contains, min}
 use Rattle.std.specs.Option.{option_map}
 use Rattle.vr_types.specs.declared.unit.StageKind.{StageKind}
-use Rattle.vr_types.specs.declared.unit.StageKind.TheVariants.{CaClaim}
+use Rattle.vr_types.specs.declared.unit.StageKind.TheVariants.{CaClaim, CiSwitch}
 use Rattle.vr_space.specs.Areas.{KeyedChain, area_by, area_of}
 use Rattle.vr_space.specs.Keyed.{InArea}
 use Rattle.vr_space.specs.Split.{AreaSplit, MoveNow, SplitNow}
@@ -16,13 +17,14 @@ pub record Splitting : Type 0 where
   pub split : Option AreaSplit
   pub move : Option MoveNow
 
--- Where it is, its areas in the order of their chain and where the ranges of each end, the split
--- of an interval or of an area that is under way, what it met last, and which blocks its last
--- `set` put.
+-- Where it is, its areas in the order of their chain, where the ranges of each end, and how many
+-- intervals their heads lead to; the split of an interval or of an area that is under way, what it
+-- met last, and which blocks its last `set` put.
 pub record Owned : Type 0 where
   pub part : KeyedChain
   pub areas : List ℕ
   pub ends : List (List ℕ)
+  pub intervals : ℕ
   pub split : Option AreaSplit
   pub move : Option MoveNow
   pub met : List Met
@@ -40,13 +42,27 @@ known_by chain split move met = record {
   met = met;
   areas = chain.areas;
   ends = chain.ends;
-  used = 0;
+  used = chain.intervals;
   tail = None;
 }
 
+-- its areas, with their count
+abbrev pub chain_of : Owned → AreasNow
+chain_of keyed = record {
+  part = keyed.part;
+  areas = keyed.areas;
+  ends = keyed.ends;
+  intervals = keyed.intervals;
+}
+
 abbrev pub known_of : Owned → Known
-known_of keyed = known_by (record { part = keyed.part; areas = keyed.areas; ends = keyed.ends })
-    keyed.split keyed.move keyed.met
+known_of keyed = known_by (chain_of keyed) keyed.split keyed.move keyed.met
+
+-- how many intervals are counted once a stage is done: a switch adds one, up to the end of the
+-- counter's type
+abbrev pub counted_by : StageKind → ℕ → ℕ
+counted_by CiSwitch count = min (count + 1) (2 ^ 64 - 1)
+counted_by stage count = count
 
 -- the same, with these splits
 abbrev pub known_in : AreasNow → Splitting → List Met → Known

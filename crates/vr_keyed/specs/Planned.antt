@@ -1,9 +1,10 @@
 -- Where an interval in which a record lacks room is cut. The cut is that of vr_split.
-use Rattle.std.specs.Prelude.{◌≡◌, ℕ, ◌+◌, ◌<◌, ◌≤◌, IsTrue, Bool, ◌↔◌, List, Some, length}
+use Rattle.std.specs.Prelude.{◌≡◌, ℕ, ◌+◌, ◌<◌, ◌≤◌, IsTrue, Bool, ◌↔◌, List, None, Some, length}
 use Rattle.std.specs.Prelude.{false, slice_get, slice_index}
 use Rattle.vr_types.specs.Image.{Block, Image, block_at}
 use Rattle.vr_types.specs.declared.unit.StageKind.TheVariants.{CiCopy}
 use Rattle.vr_seqset.specs.Entry.{Entry}
+use Rattle.vr_seqset.specs.Reading.{record_in}
 use Rattle.vr_space.specs.Room.{Lengths, Range, HaveRoom, have_room, length_at, with_length}
 use Rattle.vr_space.specs.Whence.{places_kept}
 use Rattle.vr_space.specs.Keyed.{Keyed, IsHead, HoldsRange, entries_of, entry_in, lengths_of}
@@ -29,7 +30,8 @@ pub record IsCutAt (lengths : Lengths) (place : List ℕ) (last : Bool) (number 
 pub record HasNoCut (lengths : Lengths) (place : List ℕ) : Type 0 where
   pub none : 2 ≤ length lengths → (n : ℕ) → length_at lengths place ≡ Some n → ⊥
 
--- The interval to be cut, the one that gets the upper records, and whether it is the last.
+-- The interval to be cut, the one that gets the upper records, and whether it is the last of the
+-- part: of its area, after which no other comes.
 pub record IsTargetAt (part : Keyed) (top : Block) (place : List ℕ) (target : Target) : Type 0 where
   pub at : Range × Entry
   pub leads : entry_in top place ≡ Some at
@@ -37,7 +39,8 @@ pub record IsTargetAt (part : Keyed) (top : Block) (place : List ℕ) (target : 
   pub into : free_interval part top ≡ Some target.into
   pub number : ℕ
   pub is : slice_get (entries_of top) number ≡ Some at.1
-  pub last : IsTrue target.last ↔ (number + 1 ≡ length (entries_of top))
+  pub last : IsTrue target.last
+      ↔ ((number + 1 ≡ length (entries_of top)) × ((record_in top).next ≡ None))
 
 -- no entry leads there, or no interval is free
 abbrev pub HasNoTarget : Keyed → Block → List ℕ → Type 0

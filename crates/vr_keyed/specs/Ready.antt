@@ -8,7 +8,7 @@ use Rattle.vr_types.specs.Image.{Block, Image, block_at}
 use Rattle.vr_types.specs.Regions.{Touches}
 use Rattle.vr_types.specs.Seen.{Seen}
 use Rattle.vr_space.specs.Room.{Lengths, length_at}
-use Rattle.vr_space.specs.Keyed.{HasEnds, InArea, IsKeyedAtRest, KeepsRoom, Keyed}
+use Rattle.vr_space.specs.Keyed.{HasEnds, InArea, IsKeyedAtRest, KeepsRoom, Keyed, entries_of}
 use Rattle.vr_space.specs.Met.{Met}
 use Rattle.vr_space.specs.Part.{Just}
 use Rattle.vr_space.specs.AreaCalls.{AddsHere, DueMoreAtHere, HasRoomHere, SetsHere}
@@ -39,12 +39,15 @@ pub record IsReady (part : Keyed) (kept : Lengths) (split : Option SplitNow) (pl
   pub can : CanSetHere part split now.cur kept place bytes
   pub valid : IfSome bytes (IsRecordHere part place)
 
--- Whether it failed or not: at most this is added at the place; the heads have the ends that they
--- had, and there is room for what is kept, in the image of each moment and from then on.
+-- Whether it failed or not: at most this is added at the place; the head has the ends that it had,
+-- and as many entries, and there is room for what is kept, in the image of each moment and from
+-- then on.
 pub record MaySet (part : Keyed) (kept : Lengths) (place : List ℕ) (bytes : Option (List ℕ))
     (old new : Seen) : Type 0 where
   pub adds : AddsHere part (Just place (option_map Standing bytes)) old new
   pub current : HasEnds (block_at old.cur part.head) (block_at new.cur part.head)
+  pub counts : length (entries_of (block_at new.cur part.head))
+      ≡ length (entries_of (block_at old.cur part.head))
   pub room : KeepsRoom part kept new
   pub rooms : Touches (InArea part) (HasRoomHere part kept) old new
 

@@ -11,7 +11,7 @@ ghost use Rattle.vr_space.specs.Room.{Lengths};
 ghost use Rattle.vr_space.specs.Keyed.{IsKeyedAtRest, KeepsRoom};
 ghost use Rattle.vr_space.specs.UnderWay.{AreaUnderWay};
 ghost use Rattle.vr_split.specs.Switching.{KeepsPart, IsStageDone};
-ghost use Rattle.vr_split.specs.Splits.{stage_now, after_stage, after_fault};
+ghost use Rattle.vr_split.specs.Splits.{AddsEntries, stage_now, after_stage, after_fault};
 ghost use Rattle.vr_keyed.specs.Lent.{HasRoomFor};
 ghost use Rattle.vr_keyed.specs.Look.{HasEntry};
 ghost use Rattle.vr_keyed.specs.Slots.{AreSlotsOf, IsInside, IsMetAt, LeavesMet, met_in, mets};
@@ -145,6 +145,8 @@ pub(crate) fn go_on<B: Blocks>(
         → KeepsPart split.old.part kept (B.seen blocks.old) (B.seen blocks.new) }
     ensures done { IsTrue B.tells → OnOk result
         (IsStageDone split.old.part (B.seen blocks.old) (B.seen blocks.new)) }
+    ensures adds { IsTrue B.tells → IfOk result (λ kind. AddsEntries split.old.part kind
+        (B.seen blocks.old).cur (B.seen blocks.new).cur) }
     ensures way { IsTrue B.tells → OnOk result
         (AreaUnderWay split.old.part split.new.split (B.seen blocks.new)) }
     ensures slots { AreSlotsOf split.old.part slots.old → AreSlotsOf split.old.part slots.new }
@@ -198,7 +200,10 @@ pub(crate) fn begin_at<B: Blocks, K: Kept>(
         (AreaUnderWay layout.now split.new.split (B.seen blocks.new)) }
     ensures split { OnErr result (split.new.split ≡ None) }
     ensures later { IsLater split.new.split }
-    ensures begun { IsTrue B.tells → OnOk result (IsSome split.new.split) }
+    ensures begun { IsTrue B.tells → OnOk result
+        (stage_now split.new.split ≡ Some stages.CiSwitch) }
+    ensures adds { IsTrue B.tells → OnOk result (AddsEntries layout.now stages.CiCopy
+        (B.seen blocks.old).cur (B.seen blocks.new).cur) }
     ensures part { split.new.part ≡ layout.now }
     ensures slots { AreSlotsOf layout.now slots.new }
     ensures leaves { (mets slots.new ≡ [])

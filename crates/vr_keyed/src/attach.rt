@@ -3,7 +3,7 @@ ghost use Rattle.std.specs.Prelude.{◌≡◌, Some, None, IsTrue, IfOk, IfErr, 
 ghost use Rattle.std.specs.Prelude.{slice_index_or};
 ghost use Rattle.vr_types.specs.Blocks.{Keeps};
 ghost use Rattle.vr_types.specs.Geometry.{area_count};
-ghost use Rattle.vr_space.specs.Areas.{KnowsAreas};
+ghost use Rattle.vr_space.specs.Areas.{KnowsAreas, intervals_in};
 ghost use Rattle.vr_space.specs.Part.{IsOn, KeyedShape, Stands, owned_count, part_no};
 ghost use Rattle.vr_attach.specs.Attached.{HasPartCause};
 ghost use Rattle.vr_attach.specs.Marked.{AreMarked, IsTakenIn};
@@ -38,6 +38,8 @@ impl Keyed {
             (Stands (KeyedShape layout) (B.seen blocks.old).cur) }
         ensures knows { IsTrue B.tells → IfOk result (λ keyed.
             KnowsAreas layout keyed.areas keyed.ends (B.seen blocks.old).cur) }
+        ensures counted { IsTrue B.tells → IfOk result (λ keyed.
+            keyed.intervals ≡ intervals_in layout (B.seen blocks.old).cur) }
         ensures marked { IfOk result (λ keyed. AreMarked (part_no (KeyedShape layout)) layout.first
             keyed.areas taken.old taken.new) }
         ensures count { length taken.new ≡ length taken.old }

@@ -1,6 +1,6 @@
 //! Changes in a part: room, the stages of splits, and setting, each by what it is in the area of
 //! the place.
-ghost use Rattle.std.specs.Prelude.{◌≡◌, ◌≢◌, ◌⊎◌, ◌<◌, ◌≤◌, ℕ, [], All, Contains, false, IfErr};
+ghost use Rattle.std.specs.Prelude.{◌≡◌, ◌≢◌, ◌<◌, ◌≤◌, ℕ, [], All, Contains, false, IfErr};
 ghost use Rattle.std.specs.Prelude.{IfOk, IfSome, IsSome, IsTrue, None, OnErr, OnOk, Some};
 ghost use Rattle.std.specs.Prelude.{length};
 ghost use Rattle.vr_types.specs.Blocks.{Keeps};
@@ -10,22 +10,28 @@ ghost use Rattle.vr_types.specs.Space.{free_count, least_free};
 ghost use Rattle.vr_types.specs.declared.fault.DeviceFault.TheVariants.{Read, Write};
 ghost use Rattle.vr_types.specs.declared.unit.StageKind.TheVariants as stages;
 ghost use Rattle.vr_space.specs.declared.room.Room.TheVariants as answers;
+ghost use Rattle.vr_space.specs.AreaCalls.{IsAreaOn};
 ghost use Rattle.vr_space.specs.Areas.{ChainKeepsRoom, IsChainOn, KnowsAreas, area_of};
+ghost use Rattle.vr_space.specs.Areas.{intervals_in};
+ghost use Rattle.vr_space.specs.Keyed.{IsKeyedAtRest, KeepsRoom};
 ghost use Rattle.vr_space.specs.Known.{held_with};
 ghost use Rattle.vr_space.specs.Met.{met_next};
 ghost use Rattle.vr_space.specs.Moves.{IsAreaStage, IsPastClaim, MoveUnderWay};
-ghost use Rattle.vr_space.specs.Part.{AreMet, IsQuiet, IsStageDue, KeepsChain, KeyedShape, Knows};
-ghost use Rattle.vr_space.specs.Part.{OwnersAfter, Stands};
+ghost use Rattle.vr_space.specs.Part.{AreMet, HasMore, IsClaimed, IsQuiet, IsStageDue, KeepsChain};
+ghost use Rattle.vr_space.specs.Part.{KeyedShape, Knows, OwnersAfter, Stands};
 ghost use Rattle.vr_space.specs.Part.{given, part_no};
 ghost use Rattle.vr_space.specs.Room.{Lengths};
 ghost use Rattle.vr_space.specs.Split.{keyed_room};
+ghost use Rattle.vr_space.specs.UnderWay.{AreaUnderWay};
+ghost use Rattle.vr_split.specs.Splits.{AddsEntries, after_fault, after_stage, stage_now};
+ghost use Rattle.vr_split.specs.Switching.{IsStageDone, KeepsPart};
 ghost use Rattle.vr_casplit.specs.Splits.{after_move};
 ghost use Rattle.vr_attach.specs.Areas.{AreWhole};
 ghost use Rattle.vr_keyed.specs.Advance.{IsLeastAside};
 ghost use Rattle.vr_keyed.specs.Changed.{IsDoneIn, IsReadyIn, IsSetIn, KeepsIn, MaySetIn};
 ghost use Rattle.vr_keyed.specs.Lent.{ArePlaces, HasRoomFor};
-ghost use Rattle.vr_keyed.specs.Owned.{InAreas, IsMine, Splitting, held_now, known_by, known_in};
-ghost use Rattle.vr_keyed.specs.Owned.{stage_of_move};
+ghost use Rattle.vr_keyed.specs.Owned.{InAreas, IsMine, Splitting, counted_by, held_now, known_by};
+ghost use Rattle.vr_keyed.specs.Owned.{known_in, stage_of_move};
 ghost use Rattle.vr_keyed.specs.Ready.{put_of};
 ghost use Rattle.vr_keyed.specs.Slots.{AreSlotsOf, HasMetPlace, met_places, mets};
 
@@ -40,7 +46,7 @@ use crate::splits::Splits;
 use vr_attach::Areas;
 use vr_casplit::CaSplit;
 use vr_space::{Kept, Room};
-use vr_split::Weights;
+use vr_split::{CiSplit, Weights};
 use vr_types::{Blocks, DeviceFault, Place, Space, StageKind};
 
 /// What stands in the way of a record of this length at a place, with this many areas free on the
@@ -151,6 +157,51 @@ pub(crate) fn set_over<B: Blocks>(
     set(slots, &layout, blocks, out, place, bytes)
 }
 
+/// Does the next stage of the split of an interval that is under way, and counts the interval that
+/// a switch adds to those of the part. What was met is forgotten.
+fn go_on_over<B: Blocks>(
+    areas: &mut Areas,
+    interval: &mut CiSplit,
+    slots: &mut Slots,
+    blocks: &mut B,
+) -> Result<StageKind, DeviceFault>
+    requires on { IsAreaOn interval.old.part (B.seen blocks.old) }
+    requires under_way { IsSome interval.old.split }
+    requires rests { IsTrue B.tells → IsKeyedAtRest interval.old.part (B.seen blocks.old) }
+    requires way { IsTrue B.tells
+        → AreaUnderWay interval.old.part interval.old.split (B.seen blocks.old) }
+    ensures part { interval.new.part ≡ interval.old.part }
+    ensures stage { IfOk result (λ kind. stage_now interval.old.split ≡ Some kind) }
+    ensures next { OnOk result (interval.new.split ≡ after_stage interval.old.split) }
+    ensures failed { OnErr result (interval.new.split ≡ after_fault interval.old.split) }
+    ensures counts { IfOk result (λ kind. areas.new
+        ≡ record areas.old { intervals = counted_by kind areas.old.intervals }) }
+    ensures areas { OnErr result (areas.new ≡ areas.old) }
+    ensures keeps { IsTrue B.tells → (kept : Lengths)
+        → KeepsRoom interval.old.part kept (B.seen blocks.old)
+        → KeepsPart interval.old.part kept (B.seen blocks.old) (B.seen blocks.new) }
+    ensures done { IsTrue B.tells → OnOk result
+        (IsStageDone interval.old.part (B.seen blocks.old) (B.seen blocks.new)) }
+    ensures adds { IsTrue B.tells → IfOk result (λ kind. AddsEntries interval.old.part kind
+        (B.seen blocks.old).cur (B.seen blocks.new).cur) }
+    ensures way { IsTrue B.tells → OnOk result
+        (AreaUnderWay interval.old.part interval.new.split (B.seen blocks.new)) }
+    ensures slots { AreSlotsOf interval.old.part slots.old
+        → AreSlotsOf interval.old.part slots.new }
+    ensures none { mets slots.new ≡ [] }
+    ensures unread { IfErr result (λ fault. fault ≡ Read
+        → Keeps B.tells (B.seen blocks.old) (B.seen blocks.new)) }
+    ensures count { (B.seen blocks.new).count ≡ (B.seen blocks.old).count }
+    ensures size { (B.seen blocks.new).size ≡ (B.seen blocks.old).size }
+    ensures cause { HasCause (B.faults blocks.old) (B.faults blocks.new) result }
+{
+    let stage = go_on(interval, slots, blocks)?;
+    if stage == StageKind::CiSwitch {
+        areas.add_interval();
+    }
+    Ok(stage)
+}
+
 /// Whether the part can have the least free area of the volume: always, where the owners of areas
 /// go with the blocks.
 fn takes_least(areas: &Areas, space: &Space) -> bool
@@ -195,6 +246,8 @@ fn move_on<B: Blocks>(
         → MoveUnderWay areas.old.part whole.old.move (B.seen blocks.old) }
     requires knows { IsTrue B.tells → KnowsAreas areas.old.part areas.old.areas areas.old.ends
         (B.seen blocks.old).cur }
+    requires counted { IsTrue B.tells → areas.old.intervals
+        ≡ intervals_in areas.old.part (B.seen blocks.old).cur }
     ensures stage { IfOk result (λ kind. stage_of_move whole.old.move ≡ Some kind) }
     ensures owners { IfOk result (λ kind.
         OwnersAfter (part_no (KeyedShape areas.old.part)) kind space.old space.new) }
@@ -203,6 +256,9 @@ fn move_on<B: Blocks>(
         (held_now areas.old.areas whole.old.move) (held_now areas.new.areas whole.new.move)
         space.old space.new) }
     ensures claims { IfErr result (λ _. stage_of_move whole.old.move ≢ Some stages.CaClaim) }
+    ensures claimed { OnOk result (stage_of_move whole.old.move ≡ Some stages.CaClaim
+        → IsClaimed (part_no (KeyedShape areas.old.part)) space.old space.new) }
+    ensures counted { areas.new.intervals ≡ areas.old.intervals }
     ensures failed { OnErr result (whole.new.move ≡ whole.old.move) }
     ensures areas { OnErr result (areas.new ≡ areas.old) }
     ensures past { OnOk result (IsPastClaim whole.new.move) }
@@ -286,9 +342,12 @@ fn begin_over<B: Blocks, K: Kept>(
         (B.seen blocks.old) (B.seen blocks.new) }
     ensures done { IsTrue B.tells → OnOk result (IsDoneIn areas.old.part splits.old.move
         (known_in areas.new splits.new (mets slots.new)) (B.seen blocks.old) (B.seen blocks.new)) }
-    // A split goes on, where the least free area is none of the chain.
-    ensures further { IsTrue B.tells → IsLeastAside areas.old space.old → OnOk result
-        ((splits.new.split ≢ splits.old.split) ⊎ (splits.new.move ≢ splits.old.move)) }
+    // Fewer stages are left, where the least free area is none of the chain.
+    ensures more { IsTrue B.tells → IsLeastAside areas.old space.old → IfOk result (λ kind.
+        HasMore (KeyedShape areas.old.part) kind
+        (known_in areas.old splits.old (mets slots.old))
+        (known_in areas.new splits.new (mets slots.new))
+        (free_count space.old) (free_count space.new)) }
     ensures splits { OnErr result (splits.new ≡ splits.old) }
     ensures areas { OnErr result (areas.new ≡ areas.old) }
     ensures whole { AreWhole areas.new }
@@ -370,9 +429,12 @@ pub(crate) fn advance_over<B: Blocks, K: Kept>(
         (B.seen blocks.old) (B.seen blocks.new) }
     ensures done { IsTrue B.tells → OnOk result (IsDoneIn areas.old.part splits.old.move
         (known_in areas.new splits.new (mets slots.new)) (B.seen blocks.old) (B.seen blocks.new)) }
-    // A split goes on, where the least free area is none of the chain.
-    ensures further { IsTrue B.tells → IsLeastAside areas.old space.old → OnOk result
-        ((splits.new.split ≢ splits.old.split) ⊎ (splits.new.move ≢ splits.old.move)) }
+    // Fewer stages are left, where the least free area is none of the chain.
+    ensures more { IsTrue B.tells → IsLeastAside areas.old space.old → IfOk result (λ kind.
+        HasMore (KeyedShape areas.old.part) kind
+        (known_in areas.old splits.old (mets slots.old))
+        (known_in areas.new splits.new (mets slots.new))
+        (free_count space.old) (free_count space.new)) }
     ensures splits { OnErr result (splits.new ≡ splits.old) }
     ensures areas { OnErr result (areas.new ≡ areas.old) }
     ensures whole { AreWhole areas.new }
@@ -391,7 +453,7 @@ pub(crate) fn advance_over<B: Blocks, K: Kept>(
     ensures cause { HasCause (B.faults blocks.old) (B.faults blocks.new) result }
 {
     if splits.interval.next_stage().is_some() {
-        return go_on(&mut splits.interval, slots, blocks);
+        return go_on_over(areas, &mut splits.interval, slots, blocks);
     }
     if splits.whole.next_stage().is_some() {
         return move_on(areas, &mut splits.whole, slots, blocks, space);

@@ -50,6 +50,7 @@ impl Model for Keyed {
       part = keyed.areas.part;
       areas = keyed.areas.areas;
       ends = keyed.areas.ends;
+      intervals = keyed.areas.intervals;
       split = keyed.splits.split;
       move = keyed.splits.move;
       met = mets keyed.slots;
@@ -97,6 +98,7 @@ pub(crate) fn keyed_part(alloc: Global, areas: Areas, out: Vec<u8>) -> Result<Ke
       part = areas.part;
       areas = areas.areas;
       ends = areas.ends;
+      intervals = areas.intervals;
       split = None;
       move = None;
       met = [];
@@ -120,13 +122,15 @@ pub(crate) fn keyed_part(alloc: Global, areas: Areas, out: Vec<u8>) -> Result<Ke
     })
 }
 
-/// A part that is new, of one area, whose ranges go up to the greatest key: with no split under
-/// way, and nothing met. It reads nothing, and fails only if memory runs out.
+/// A part that is new, of one area, whose head leads to one interval, and whose ranges go up to the
+/// greatest key: with no split under way, and nothing met. It reads nothing, and fails only if
+/// memory runs out.
 pub fn new_part(alloc: Global, layout: KeyedLayout) -> Result<Keyed, OutOfMemory>
     ensures { IfOk result (λ keyed. keyed ≡ record {
       part = layout;
       areas = layout.first ∷ [];
       ends = replicate layout.key 255 ∷ [];
+      intervals = 1;
       split = None;
       move = None;
       met = [];
@@ -137,7 +141,7 @@ pub fn new_part(alloc: Global, layout: KeyedLayout) -> Result<Keyed, OutOfMemory
     let first = layout.first;
     let greatest = vec![in alloc; 255; layout.key as usize]?;
     let mut areas = no_areas(alloc, layout)?;
-    areas.add(first, greatest.as_slice());
+    areas.add(first, greatest.as_slice(), 1);
     keyed_part(alloc, areas, out)
 }
 

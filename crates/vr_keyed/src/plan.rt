@@ -1,7 +1,8 @@
 //! Where an interval is cut in which a record lacks room, and which one gets the upper records.
 ghost use Rattle.std.specs.Prelude.{◌≡◌, ◌<◌, ℕ, IsTrue, IfSome, IfOk, MatchOption, MatchBool};
-ghost use Rattle.std.specs.Prelude.{IsSomeAnd, Some, length};
+ghost use Rattle.std.specs.Prelude.{◌↔◌, IsSomeAnd, None, Some, length};
 ghost use Rattle.vr_types.specs.Image.{Image};
+ghost use Rattle.vr_seqset.specs.Reading.{record_in};
 ghost use Rattle.vr_space.specs.AreaCalls.{area_part, IsAreaOn};
 ghost use Rattle.vr_space.specs.Room.{HaveRoom, with_length};
 ghost use Rattle.vr_space.specs.Keyed.{HoldsRange, lengths_of};
@@ -18,12 +19,13 @@ ghost use Rattle.vr_keyed.specs.Planned.{IsCutAt, HasNoCut, IsTargetAt, HasNoTar
 use crate::gather::gather_lengths;
 use crate::room::{least_free, range_of};
 use crate::slot::Slot;
+use vr_seqset::SeqView;
 use vr_space::{Kept, Layout, entry_for};
 use vr_split::{Weights, plan_cut};
 use vr_types::{Blocks, DeviceFault, Place};
 
 /// The interval that is to be cut, the free one that gets the upper records, and whether the first
-/// is the last of its area.
+/// is the last of the data set.
 #[derive(Clone, Copy)]
 pub struct Target {
     pub old: u16,
@@ -52,6 +54,16 @@ pub(crate) fn cut_at(weights: &Weights, place: &[u8], last: bool) -> Option<usiz
     Some(plan_cut(weights, at, last) - 1)
 }
 
+/// Whether no area of the chain comes after a head.
+fn ends_chain(layout: &Layout, top: &[u8]) -> bool
+    ensures { IsHead layout.now top.now → IsTrue result ↔ ((record_in top.now).next ≡ None) }
+{
+    let Ok(view) = SeqView::read(top, layout.area) else {
+        return false;
+    };
+    view.next().is_none()
+}
+
 /// The interval of a place, under a head, and one that is free. None where no entry leads to the
 /// place, or no interval is free, or the block is no head.
 pub(crate) fn target_in(layout: &Layout, top: &[u8], place: &[u8]) -> Option<Target>
@@ -66,7 +78,7 @@ pub(crate) fn target_in(layout: &Layout, top: &[u8], place: &[u8]) -> Option<Tar
     Some(Target {
         old: found.interval,
         into,
-        last: found.last,
+        last: found.last && ends_chain(layout, top),
     })
 }
 

@@ -1,12 +1,14 @@
 -- What a log that was read back spells, or where it is damaged.
-use Rattle.std.proofs.Common.{◌≡◌, inl, inr, ℕ, ◌+◌, ◌/◌, List, drop, Some, None}
-use Rattle.std.proofs.Common.{sym, ap, subst, ◌∙◌, ◌≤◌, Result, Ok, Err, IfErr}
+use Rattle.std.proofs.Common.{◌≡◌, inl, inr, ℕ, ◌+◌, ◌/◌, ◌^◌, ◌<◌, List, drop, Some, None}
+use Rattle.std.proofs.Common.{refl, sym, ap, subst, ◌∙◌, ◌≤◌, Result, Ok, Err, IfErr}
 use Rattle.vr_types.specs.Image.{Image, block_at}
+use Rattle.vr_types.specs.LogSpace.{log_size}
 use Rattle.vr_types.specs.declared.geometry.Geometry.{Geometry}
 use Rattle.vr_log.specs.declared.record.LogRecord.{LogRecord}
 use Rattle.vr_log.specs.Content.{Content}
 use Rattle.vr_log.specs.Damage.{IsFirst, IsMisspelled, IsDamagedAt}
 use Rattle.vr_log.specs.Decoding.{IsUpTo}
+use Rattle.vr_log.specs.Live.{used_by}
 use Rattle.vr_log.specs.LogBlock.{room_of}
 use Rattle.vr_log.specs.declared.read_no.LogReadNo.{LogReadNo}
 use Rattle.vr_log.specs.declared.read_no.LogReadNo.TheVariants.{Damaged, Fault, Memory}
@@ -19,16 +21,35 @@ module _ (geometry : Geometry) (image : Image) (generation : ℕ) (bytes : List 
   -- all bytes are those of the records
   pub read_spells : (content : Content) → content.generation ≡ generation
       → IsGathered geometry generation image bytes None → SpellsRecords bytes content.records
-      → Spells geometry image content
-  read_spells content same gathered spelled = inr (record {
+      → used_by content.records ≤ log_size geometry → Spells geometry image content
+  read_spells content same gathered spelled room = inr (record {
     generation = first.generation ∙ sym same;
     some = subst (λ (n : ℕ). 1 ≤ n) (sym same) first.some;
+    below = subst (λ (n : ℕ). n < 2 ^ 63) (sym same) first.below;
     first = first.first;
     fits = subst (λ (n : ℕ). Fits (room_of geometry) n 0 geometry.log image) (sym same)
         gathered.end;
     records = subst (λ (n : ℕ). SpellsRecords (log_bytes geometry n image) content.records)
         (sym same)
         (subst (λ (l : List ℕ). SpellsRecords l content.records) (sym gathered.bytes_is) spelled);
+    room = room;
+  })
+
+  -- and there is no room for what they keep
+  pub read_crowded : (content : Content) → IsGathered geometry generation image bytes None
+      → SpellsRecords bytes content.records → log_size geometry < used_by content.records
+      → IsDamagedAt geometry image 1
+  read_crowded content gathered spelled over = inr (record {
+    generation = generation;
+    first = first;
+    bad = inr (inr (record {
+      fits = gathered.end;
+      records = content.records;
+      spelled = subst (λ (l : List ℕ). SpellsRecords l content.records) (sym gathered.bytes_is)
+          spelled;
+      over = over;
+      block = refl;
+    }));
   })
 
   -- some are misspelled
@@ -39,14 +60,14 @@ module _ (geometry : Geometry) (image : Image) (generation : ℕ) (bytes : List 
   read_misspelled records at n is read bad place = inr (record {
     generation = generation;
     first = first;
-    bad = inr (record {
+    bad = inr (inl (record {
       records = records;
       rest = drop at bytes;
       fields = read.fields;
       bytes = is ∙ read.is;
       misspelled = bad;
       block = place ∙ ap (λ (m : ℕ). 1 + m / room_of geometry) (sym read.long);
-    });
+    }));
   })
 
   -- a block says more bytes than it has room for, or has others than zeros past them

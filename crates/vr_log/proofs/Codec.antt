@@ -1,5 +1,5 @@
 -- What a prefix of the bytes of records spells.
-use Rattle.std.proofs.Common.{◌≡◌, inl, inr, ℕ, zero, suc, ◌≤◌, List, [], ◌∷◌, ◌++◌, length}
+use Rattle.std.proofs.Common.{◌≡◌, inl, inr, ℕ, zero, suc, ◌^◌, ◌<◌, ◌≤◌, List, [], ◌∷◌, ◌++◌, length}
 use Rattle.std.proofs.Common.{take, drop, All, refl, sym, ap, subst, ◌∙◌, arith}
 use Rattle.std.proofs.lemmas.Bool.{cases_lt}
 use Rattle.std.proofs.lemmas.List.{append_assoc, take-append-drop, length-append, length-drop}
@@ -7,12 +7,15 @@ use Rattle.std.proofs.lemmas.List.{take_at, drop_at, take-append-le, drop-append
 use Rattle.std.proofs.lemmas.List.{nil_from_length}
 use Rattle.std.proofs.lemmas.List.Elements.{All-head, All-tail, All-append}
 use Rattle.vr_types.specs.Image.{Image}
+use Rattle.vr_types.specs.LogSpace.{log_size}
 use Rattle.vr_log.specs.declared.record.LogRecord.{LogRecord}
+use Rattle.vr_log.specs.Live.{used_by}
 use Rattle.vr_log.specs.LogNow.{LogNow, HasLog}
 use Rattle.vr_log.specs.Records.{record_bytes, bytes_of, HasFields, IsCut}
 use Rattle.vr_log.specs.Records.{SpellsRecords}
 use Rattle.vr_log.specs.Standing.{forced_length}
 use Rattle.vr_log.proofs.Cuts.{begun-cut, none-cut}
+use Rattle.vr_log.proofs.Using.{used_take}
 use Rattle.vr_log.specs.Writing.{IsFound}
 
 pub All-none : {X : Type 0} (P : X → Type 0) → All P []
@@ -108,22 +111,24 @@ counted-of (r ∷ rs) (suc forced) p rest fields below same least =
 
 -- an image whose bytes are a prefix of the log's has a log of it
 pub found_log : (log : LogNow) (records : List LogRecord) (image : Image) → 1 ≤ log.generation
-    → All HasFields records → log.forced ≤ length records
-    → forced_length log ≡ length (bytes_of (take log.forced records))
+    → log.generation < 2 ^ 63 → All HasFields records → used_by records ≤ log_size log.geometry
+    → log.forced ≤ length records → forced_length log ≡ length (bytes_of (take log.forced records))
     → IsFound log (bytes_of records) image → HasLog (record log { records = records }) image
-found_log log records image some fields forced stable (inl (older, is, spelled)) =
+found_log log records image some below fields room forced stable (inl (older, is, spelled)) =
     (older, spelled, inr is)
-found_log log records image some fields forced stable (inr has) =
+found_log log records image some below fields room forced stable (inr has) =
     let counted = counted-of records log.forced _ has.prefix.0 fields forced has.prefix.1
     (omega (arith, stable, has.least)) in (
       record { generation = log.generation; records = take counted.0 records },
       inr (record {
         generation = has.generation;
         some = some;
+        below = below;
         first = has.first;
         fits =
             has.fits;
         records = counted.3;
+        room = omega (arith, used_take counted.0 records, room);
       }),
       inl (record { count = counted.0; forced = counted.1; all = counted.2; is = refl }),
     )

@@ -1,6 +1,6 @@
 -- Blocks that are damaged spell no log, and one of them at most is the first.
-use Rattle.std.proofs.Common.{◌≡◌, ◌⊎◌, inl, inr, ⊎_elim, ℕ, zero, suc, ◌+◌, ◌/◌, ◌<◌, ◌≤◌, List}
-use Rattle.std.proofs.Common.{◌++◌, length, All, sym, ap, subst, ◌∙◌, arith}
+use Rattle.std.proofs.Common.{◌≡◌, ◌⊎◌, inl, inr, ⊎_elim, ℕ, zero, suc, ◌+◌, ◌/◌, ◌^◌, ◌<◌, ◌≤◌, List}
+use Rattle.std.proofs.Common.{◌≢◌, ◌++◌, length, All, sym, ap, subst, ◌∙◌, arith}
 use Rattle.std.proofs.lemmas.Bool.{cases_lt}
 use Rattle.vr_types.specs.Fields.{AreZeros}
 use Rattle.vr_types.specs.Image.{Image, block_at}
@@ -8,12 +8,13 @@ use Rattle.vr_types.specs.declared.geometry.Geometry.{Geometry}
 use Rattle.vr_log.specs.declared.record.LogRecord.{LogRecord}
 use Rattle.vr_log.specs.Content.{Content}
 use Rattle.vr_log.specs.Damage.{IsMisspelled, IsFirst, IsBadFirst, IsBadNext, IsBadBlock}
-use Rattle.vr_log.specs.Damage.{IsBadRecord, IsBadLog, IsDamagedAt}
-use Rattle.vr_log.specs.LogBlock.{rest_in, room_of, used_in}
+use Rattle.vr_log.specs.Damage.{IsBadRecord, IsBadLog, IsCrowded, IsDamagedAt}
+use Rattle.vr_log.specs.Live.{used_by}
+use Rattle.vr_log.specs.LogBlock.{generation_in, index_in, rest_in, room_of, used_in}
 use Rattle.vr_log.specs.Records.{HasFields, bytes_of, IsCut, SpellsRecords}
 use Rattle.vr_log.specs.Spells.{Spells, SpellsLog, Fits, log_bytes}
 use Rattle.vr_log.proofs.Cuts.{cut-none}
-use Rattle.vr_log.proofs.Unique.{ends_one, zeros-generation}
+use Rattle.vr_log.proofs.Unique.{ends_one, spelled_one, zeros-generation}
 
 -- bytes that are spelled are nowhere misspelled
 spelled-well : (bytes : List ℕ) (records before : List LogRecord) (rest : List ℕ)
@@ -59,30 +60,43 @@ one-bad geometry generation image one other first second less =
 -- a block 1 that begins a generation is neither zeros nor bad
 first-bad : (image : Image) (generation : ℕ) → IsFirst (block_at image 1) generation
     → IsBadFirst (block_at image 1) → ⊥
-first-bad image generation first bad =
-    ⊎_elim (λ none. omega (arith, none, first.generation, first.some))
-    (λ other. other first.first) bad.bad
+first-bad image generation first bad = by bad.bad
+  where
+    by : (generation_in (block_at image 1) ≡ 0) ⊎ (2 ^ 63 ≤ generation_in (block_at image 1))
+        ⊎ (index_in (block_at image 1) ≢ 0) → ⊥
+    by (inl none) = omega (arith, none, first.generation, first.some)
+    by (inr (inl late)) = omega (arith, late, first.generation, first.below)
+    by (inr (inr other)) = other first.first
 
 module _ (geometry : Geometry) (image : Image) where
+  -- the ways in which the log of a generation is misspelled at a block
+  abbrev Wrong : ℕ → ℕ → Type 0
+  Wrong generation n = IsBadBlock geometry generation image n
+      ⊎ IsBadRecord geometry generation image n ⊎ IsCrowded geometry generation image n
+
   same-first : (one other : ℕ) → IsFirst (block_at image 1) one → IsFirst (block_at image 1) other
       → other ≡ one
   same-first one other first second = sym second.generation ∙ first.generation
 
   log-damaged : (content : Content) (n : ℕ) → SpellsLog geometry image content
       → IsBadLog geometry image n → ⊥
-  log-damaged content n spells bad =
-      let same : bad.generation ≡ content.generation = sym bad.first.generation
-      ∙ spells.generation in
-      ⊎_elim
-      (λ (block : IsBadBlock geometry bad.generation image n).
-      fits-bad geometry content.generation image block.index
-      (subst (λ (g : ℕ). IsBadNext geometry g image block.index) same block.bad) 0 geometry.log
-      (omega arith) (omega (arith, block.bad.within)) spells.fits)
-      (λ (wrong : IsBadRecord geometry bad.generation image n).
-      spelled-well (log_bytes geometry content.generation image) content.records wrong.records
-      wrong.rest spells.records wrong.fields
-      (ap (λ (g : ℕ). log_bytes geometry g image) (sym same) ∙ wrong.bytes) wrong.misspelled)
-      bad.bad
+  log-damaged content n spells bad = by (subst (λ (g : ℕ). Wrong g n) same bad.bad)
+    where
+      same : bad.generation ≡ content.generation
+      same = sym bad.first.generation ∙ spells.generation
+
+      by : Wrong content.generation n → ⊥
+      by (inl block) =
+          fits-bad geometry content.generation image block.index block.bad 0 geometry.log
+          (omega arith) (omega (arith, block.bad.within)) spells.fits
+      by (inr (inl wrong)) =
+          spelled-well (log_bytes geometry content.generation image) content.records wrong.records
+          wrong.rest spells.records wrong.fields wrong.bytes wrong.misspelled
+      by (inr (inr crowded)) =
+          let one : content.records ≡ crowded.records =
+          spelled_one (log_bytes geometry content.generation image) content.records
+          crowded.records spells.records crowded.spelled in
+          omega (arith, spells.room, crowded.over, ap used_by one)
 
   -- damaged blocks spell no log
   pub damaged_none : (content : Content) (n : ℕ) → 8 ≤ length (block_at image 1)
@@ -97,13 +111,30 @@ module _ (geometry : Geometry) (image : Image) where
       )
   damaged_none content n long (inr spells) (inl first) =
       first-bad image content.generation
-      (record { generation = spells.generation; some = spells.some; first = spells.first })
+      (record {
+        generation = spells.generation;
+        some = spells.some;
+        below = spells.below;
+        first = spells.first;
+      })
       first.1
   damaged_none content n long (inr spells) (inr bad) = log-damaged content n spells bad
 
-  one-block : (generation one other : ℕ) → IsBadBlock geometry generation image one
-      ⊎ IsBadRecord geometry generation image one → IsBadBlock geometry generation image other
-      ⊎ IsBadRecord geometry generation image other → one ≡ other
+  -- what is crowded is misspelled nowhere else
+  crowded-block : (generation one other : ℕ) → IsCrowded geometry generation image one
+      → IsBadBlock geometry generation image other → ⊥
+  crowded-block generation one other crowded block =
+      fits-bad geometry generation image block.index block.bad 0 geometry.log (omega arith)
+      (omega (arith, block.bad.within)) crowded.fits
+
+  crowded-record : (generation one other : ℕ) → IsCrowded geometry generation image one
+      → IsBadRecord geometry generation image other → ⊥
+  crowded-record generation one other crowded wrong =
+      spelled-well (log_bytes geometry generation image) crowded.records wrong.records wrong.rest
+      crowded.spelled wrong.fields wrong.bytes wrong.misspelled
+
+  one-block : (generation one other : ℕ) → Wrong generation one → Wrong generation other
+      → one ≡ other
   one-block generation one other (inl first) (inl second) =
       let less : first.index < second.index → ⊥ =
       one-bad geometry generation image first.index second.index first.bad second.bad in
@@ -116,13 +147,13 @@ module _ (geometry : Geometry) (image : Image) where
       (λ (at : first.index ≤ second.index). omega (arith, above, at))
       (cases_lt second.index first.index)) (cases_lt first.index second.index) in
       first.block ∙ ap (λ (n : ℕ). 1 + n) same ∙ sym second.block
-  one-block generation one other (inl first) (inr second) =
+  one-block generation one other (inl first) (inr (inl second)) =
       absurd (spelled-well (log_bytes geometry generation image) first.records second.records
       second.rest first.spelled second.fields second.bytes second.misspelled)
-  one-block generation one other (inr first) (inl second) =
+  one-block generation one other (inr (inl first)) (inl second) =
       absurd (spelled-well (log_bytes geometry generation image) second.records first.records
       first.rest second.spelled first.fields first.bytes first.misspelled)
-  one-block generation one other (inr first) (inr second) =
+  one-block generation one other (inr (inl first)) (inr (inl second)) =
       let same : first.records ≡ second.records =
       (ends_one first.records second.records first.rest second.rest first.fields second.fields
       first.misspelled.no_record second.misspelled.no_record
@@ -130,6 +161,16 @@ module _ (geometry : Geometry) (image : Image) where
       first.block
       ∙ ap (λ (rs : List LogRecord). 1 + length (bytes_of rs) / room_of geometry) same
       ∙ sym second.block
+  one-block generation one other (inr (inr first)) (inr (inr second)) =
+      first.block ∙ sym second.block
+  one-block generation one other (inr (inr first)) (inl second) =
+      absurd (crowded-block generation one other first second)
+  one-block generation one other (inr (inr first)) (inr (inl second)) =
+      absurd (crowded-record generation one other first second)
+  one-block generation one other (inl first) (inr (inr second)) =
+      absurd (crowded-block generation other one second first)
+  one-block generation one other (inr (inl first)) (inr (inr second)) =
+      absurd (crowded-record generation other one second first)
 
   -- one block at most is the first that is misspelled
   pub damaged_one : (one other : ℕ) → IsDamagedAt geometry image one
@@ -142,5 +183,4 @@ module _ (geometry : Geometry) (image : Image) where
   damaged_one one other (inr first) (inr second) =
       let same = same-first first.generation second.generation first.first second.first in
       one-block first.generation one other first.bad
-      (subst (λ (g : ℕ). IsBadBlock geometry g image other
-      ⊎ IsBadRecord geometry g image other) same second.bad)
+      (subst (λ (g : ℕ). Wrong g other) same second.bad)

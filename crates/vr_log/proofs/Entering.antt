@@ -18,6 +18,7 @@ use Rattle.vr_log.specs.declared.record.LogRecord.{LogRecord}
 use Rattle.vr_log.specs.declared.record.LogRecord.TheVariants.{Before, End}
 use Rattle.vr_log.specs.declared.tail.Tail.{Tail}
 use Rattle.vr_log.specs.Content.{Content}
+use Rattle.vr_log.specs.Live.{used_by}
 use Rattle.vr_log.specs.LogBlock.{room_of}
 use Rattle.vr_log.specs.LogNow.{LogNow, IsOf, IsForced, first_of, last_index}
 use Rattle.vr_log.specs.Memory.{IsTail, IsTurned, behind_in, older_in}
@@ -226,8 +227,9 @@ pub stands_grown : (told : Bool) (is_told : IsTrue told) (log : LogNow) (rec : L
     → IsTurned log.geometry tail
     → IsWriting log (bytes_of (log.records ++ rec ∷ [])) (bytes_of (log.records
     ++ rec ∷ [])) tail told seen → IsCurrent log (bytes_of (log.records ++ rec ∷ [])) seen
+    → used_by (log.records ++ rec ∷ []) ≤ log_size log.geometry
     → LogStands (Grown log rec (if tail.begun then None else log.behind)) seen
-stands_grown told is_told log rec tail before seen stood fields turned w current =
+stands_grown told is_told log rec tail before seen stood fields turned w current room =
     let behind : Option Content = if tail.begun then None else log.behind in
     let total = bytes_of (log.records ++ rec ∷ []) in
     let same = grown-forced log rec behind stood.forced in
@@ -238,8 +240,9 @@ stands_grown told is_told log rec tail before seen stood fields turned w current
     record {
       allowed = w.allowed;
       shape = w.shape;
-      fits = w.most;
+      fits = room;
       some = stood.some;
+      below = stood.below;
       fields = All-push HasFields log.records rec stood.fields fields;
       forced = omega (arith, stood.forced, length_push log.records rec);
       behind = λ older is. ⊎_elim

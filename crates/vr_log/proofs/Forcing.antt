@@ -169,6 +169,7 @@ module _ (told : Bool) (is_told : IsTrue told) (log : LogNow) (tail : Tail) (a b
     };
     allowed = allowed;
     some = stands.some;
+    below = stands.below;
     fields = stands.fields;
     fits = stands.fits;
     forced = omega arith;

@@ -156,14 +156,16 @@ live_grown records rec = sym (live-push [] records rec)
 
 -- what each image has while a record is appended
 pub moments_grown : (log : LogNow) (rec : LogRecord) (total : List ℕ) (a b : Seen)
-    → LogStands log a → HasFields rec → total ≡ bytes_of (log.records ++ rec ∷ [])
+    → LogStands log a → HasFields rec → used_by (log.records ++ rec ∷ []) ≤ log_size log.geometry
+    → total ≡ bytes_of (log.records ++ rec ∷ [])
     → Touches (InLog log.geometry) (IsFound log total) a b
     → Touches (InLog log.geometry) (HasLog (with_record log rec)) a b
-moments_grown log rec total a b stands fields is call =
+moments_grown log rec total a b stands fields room is call =
     touches-weaken (InLog log.geometry) (IsFound log total) (HasLog (with_record log rec)) a b call
     (λ image found.
     found_log log (log.records
-    ++ rec ∷ []) image stands.some (All-push HasFields log.records rec stands.fields fields)
+    ++ rec ∷ []) image stands.some stands.below
+    (All-push HasFields log.records rec stands.fields fields) room
     (omega (arith, stands.forced, length_push log.records rec))
     (ap (λ (rs : List LogRecord). length (bytes_of rs))
     (sym (take-append-le log.forced log.records (rec ∷ []) stands.forced)))
@@ -269,12 +271,12 @@ need_end live rec unit kind is = ap (need_of live) is
 
 -- each image of a log that stands has a log of it
 pub stands_has : (log : LogNow) (seen : Seen) (image : Image) → IsAllowed log.geometry
-    → length (bytes_of log.records) ≤ log_size log.geometry → LogStands log seen
+    → used_by log.records ≤ log_size log.geometry → LogStands log seen
     → IsImageOn (InLog log.geometry) seen.count seen.may image → HasLog log image
 stands_has log seen image allowed most stands on =
     let least : forced_length log ≤ log.geometry.log * room_of log.geometry =
     omega (arith, bytes-take log.forced log.records, most) in
-    found_log log log.records image stands.some stands.fields stands.forced refl
+    found_log log log.records image stands.some stands.below stands.fields most stands.forced refl
     (found_of log (bytes_of log.records) seen.count seen.may image stands.leaves allowed.some_log
     (omega (arith, log-inside log allowed, stands.shape.count)) least on stands.begun
     (omega (arith, log-room log allowed)))

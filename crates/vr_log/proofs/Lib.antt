@@ -9,6 +9,7 @@ pub mod Turning
 pub mod Filling
 pub mod Adding
 pub mod Lives
+pub mod Using
 pub mod Entering
 pub mod Growing
 pub mod Forcing
@@ -26,3 +27,4 @@ pub mod Settled
 pub mod Total
 pub mod Zeroing
 pub mod Clears
+pub mod Renewing

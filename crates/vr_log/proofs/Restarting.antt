@@ -30,7 +30,7 @@ left-none None last is = absurd cc
 left-none (Some older) last is = absurd cc
 
 module _ (log : LogNow) (seen : Seen) (stands : LogStands log seen) (forced : IsForced log)
-    (dead : live_in log.records ≡ []) (room_left : log.generation + 1 < 2 ^ 64) where
+    (dead : live_in log.records ≡ []) (room_left : log.generation + 1 < 2 ^ 63) where
   abbrev Last : Content
   Last = first_of log (length log.records)
 
@@ -138,6 +138,7 @@ module _ (log : LogNow) (seen : Seen) (stands : LogStands log seen) (forced : Is
     allowed = stands.allowed;
     shape = stands.shape;
     some = omega (arith, next);
+    below = omega (arith, next, room_left);
     fields = All-none HasFields;
     fits = omega arith;
     forced = omega arith;
@@ -190,6 +191,7 @@ module _ (told : Bool) (is_told : IsTrue told) (log : LogNow) (home : ℕ) (byte
           ∙ stands.shape.size;
     };
     some = stands.some;
+    below = stands.below;
     fields = stands.fields;
     fits = stands.fits;
     forced = stands.forced;

@@ -1,5 +1,5 @@
 -- A log that is made of what its blocks spell stands on them.
-use Rattle.std.proofs.Common.{◌≡◌, inl, inr, ⊎_elim, ℕ, zero, suc, ◌+◌, ◌-◌, ◌*◌, ◌/◌, ◌<◌, ◌≤◌}
+use Rattle.std.proofs.Common.{◌≡◌, inl, inr, ⊎_elim, ℕ, zero, suc, ◌+◌, ◌-◌, ◌*◌, ◌/◌, ◌^◌, ◌<◌, ◌≤◌}
 use Rattle.std.proofs.Common.{Bool, true, false, List, [], ◌++◌, length, take, drop, Some, None}
 use Rattle.std.proofs.Common.{min, max, nat_eq, nat_le, refl, sym, ap, subst, ◌∙◌, arith, All}
 use Rattle.std.proofs.Common.{eqb-true}
@@ -16,7 +16,7 @@ use Rattle.vr_types.specs.Seen.{Seen}
 use Rattle.vr_types.specs.declared.geometry.Geometry.{Geometry}
 use Rattle.vr_log.specs.Content.{Content}
 use Rattle.vr_log.specs.Damage.{IsFull}
-use Rattle.vr_log.specs.Live.{live_in}
+use Rattle.vr_log.specs.Live.{live_in, used_by}
 use Rattle.vr_log.specs.LogBlock.{generation_in, index_in, used_in, payload_in, rest_in, is_next}
 use Rattle.vr_log.specs.LogBlock.{room_of}
 use Rattle.vr_log.specs.LogNow.{LogNow, IsOf, made, IsBehind}
@@ -72,12 +72,14 @@ spells-same geometry image other content some same (inr log) =
     inr (record {
       generation = ap generation_in (same 0 some) ∙ log.generation;
       some = log.some;
+      below = log.below;
       first = ap index_in (same 0 some) ∙ log.first;
       fits = fits-same (room_of geometry) content.generation 0 geometry.log image other each
           log.fits;
       records = subst (λ (l : List ℕ). SpellsRecords l content.records)
           (sym (bytes-same (room_of geometry) content.generation 0 geometry.log image other each))
           log.records;
+      room = log.room;
     })
 
 -- ---- the payload of a block
@@ -91,30 +93,6 @@ payload-long : (room : ℕ) (block : Block) → used_in block ≡ room → 16 + 
 unfolding payload_in
 payload-long room block used long =
     omega (arith, length-take (used_in block) (drop 16 block), length-drop 16 block, used, long)
-
-join-most : (next fits full : Bool) (used room more : ℕ) (payload rest : List ℕ)
-    → (fits ≡ true → used ≤ room) → length payload ≤ used → length rest ≤ more
-    → length (joined next fits full payload rest) ≤ room + more
-join-most false fits full used room more payload rest roomy short less = omega arith
-join-most true false full used room more payload rest roomy short less = omega arith
-join-most true true true used room more payload rest roomy short less =
-    omega (arith, length-append payload rest, roomy refl, short, less)
-join-most true true false used room more payload rest roomy short less =
-    omega (arith, length-append payload [], roomy refl, short)
-
--- a log has no more bytes than room
-bytes-most : (room generation index left : ℕ) (image : Image)
-    → length (bytes_from room generation index left image) ≤ left * room
-bytes-most room generation index zero image = omega arith
-bytes-most room generation index (suc left) image =
-    let block = block_at image (1 + index) in
-    let rest = bytes_from room generation (index + 1) left image in
-    let all : length (bytes_from room generation index (suc left) image) ≤ room + left * room =
-    join-most (is_next generation index block) (nat_le (used_in block) room)
-    (nat_eq (used_in block) room) (used_in block) room (left * room) (payload_in block) rest
-    (λ fits. leb-true (used_in block) room fits) (payload-short block)
-    (bytes-most room generation (index + 1) left image) in
-    omega (arith, all)
 
 join-full : (next fits full : Bool) (used room : ℕ) (payload rest : List ℕ) → 0 < room
     → (fits ≡ true → used ≤ room) → (full ≡ false → used ≡ room → ⊥) → length payload ≤ used
@@ -234,15 +212,16 @@ module _ (geometry : Geometry) (content : Content) (seen : Seen) (allowed : IsAl
   no-bytes : SpellsNone seen.cur content → length bytes ≡ 0
   no-bytes none = ap (λ (c : Content). length (bytes_of c.records)) none.none
 
-  fits : Spells geometry seen.cur content → length bytes ≤ log_size geometry
-  fits (inl none) = omega (arith, no-bytes none)
-  fits (inr has) =
-      omega (
-        arith,
-        bytes-most room content.generation 0 geometry.log seen.cur,
-        ap length has.records.spelled,
-        length-append bytes has.records.cut,
-      )
+  fits : Spells geometry seen.cur content → used_by content.records ≤ log_size geometry
+  fits (inl none) =
+      let unused : used_by content.records ≡ 0 =
+      ap (λ (c : Content). used_by c.records) none.none in
+      omega (arith, unused)
+  fits (inr has) = has.room
+
+  young : Spells geometry seen.cur content → max 1 content.generation < 2 ^ 63
+  young (inl none) = omega (arith, ap (λ (c : Content). c.generation) none.none)
+  young (inr has) = omega (arith, has.below)
 
   all-fields : Spells geometry seen.cur content → All HasFields content.records
   all-fields (inl none) =
@@ -337,6 +316,7 @@ module _ (geometry : Geometry) (content : Content) (seen : Seen) (allowed : IsAl
     allowed = allowed;
     shape = shape;
     some = omega arith;
+    below = young spells;
     fields = all-fields spells;
     fits = fits spells;
     forced = omega arith;

@@ -1,5 +1,5 @@
 -- Blocks spell a log, or one of them is the first that is misspelled.
-use Rattle.std.proofs.Common.{◌≡◌, ◌⊎◌, inl, inr, ⊎_elim, ℕ, zero, suc, ◌+◌, ◌-◌, ◌/◌, ◌<◌, ◌≤◌}
+use Rattle.std.proofs.Common.{◌≡◌, ◌⊎◌, inl, inr, ⊎_elim, ℕ, zero, suc, ◌+◌, ◌-◌, ◌/◌, ◌^◌, ◌<◌, ◌≤◌}
 use Rattle.std.proofs.Common.{Bool, true, false, List, [], ◌∷◌, ◌++◌, length, take, drop, All}
 use Rattle.std.proofs.Common.{Option, Some, None, get_or, nat_eq, nat_le, refl, sym, ap, subst, ◌∙◌}
 use Rattle.std.proofs.Common.{arith, true≢false}
@@ -8,6 +8,7 @@ use Rattle.std.proofs.lemmas.List.{append_assoc, length-drop, length-take, nil_f
 use Rattle.std.proofs.lemmas.List.Elements.{All-append}
 use Rattle.vr_types.specs.Fields.{IsBytes, AreZeros, two_at, four_at}
 use Rattle.vr_types.specs.Image.{Block, Image, block_at}
+use Rattle.vr_types.specs.LogSpace.{log_size}
 use Rattle.vr_types.specs.declared.geometry.Geometry.{Geometry}
 use Rattle.vr_types.proofs.CallerLemmas.{IsBytes-take, IsBytes-drop}
 use Rattle.vr_log.specs.declared.record.EndKind.TheVariants.{Committed, BackedOut}
@@ -16,6 +17,7 @@ use Rattle.vr_log.specs.declared.record.LogRecord.TheVariants.{Before}
 use Rattle.vr_log.specs.Content.{Content}
 use Rattle.vr_log.specs.Damage.{IsMisspelled, IsFirst, IsFull, IsBadNext, IsDamagedAt}
 use Rattle.vr_log.specs.Decoding.{IsOldCut, IsOldWrong, IsOld, IsWhole}
+use Rattle.vr_log.specs.Live.{used_by}
 use Rattle.vr_log.specs.LogBlock.{generation_in, index_in, used_in, payload_in, rest_in, is_next}
 use Rattle.vr_log.specs.LogBlock.{room_of}
 use Rattle.vr_log.specs.Records.{HasFields, record_bytes, bytes_of, IsCut, SpellsRecords}
@@ -269,6 +271,42 @@ module _ (geometry : Geometry) (generation : ℕ) (image : Image) where
       (λ next. absurd (true≢false (sym next ∙ out))))
       (next-or (is_next generation index (At index)))
 
+  -- whether the log has room for what the records keep
+  spelled-or : IsFirst (block_at image 1) generation → (records : List LogRecord)
+      → Fits Room generation 0 geometry.log image
+      → SpellsRecords (log_bytes geometry generation image) records
+      → ((content : Content) × Spells geometry image content)
+      ⊎ ((n : ℕ) × IsDamagedAt geometry image n)
+  spelled-or first records fits spelled =
+      ⊎_elim
+      (λ (over : log_size geometry < used_by records). inr (
+        1,
+        inr (record {
+          generation = generation;
+          first = first;
+          bad = inr (inr (record {
+            fits = fits;
+            records = records;
+            spelled = spelled;
+            over = over;
+            block = refl;
+          }));
+        }),
+      ))
+      (λ (room : used_by records ≤ log_size geometry). inl (
+        record { generation = generation; records = records },
+        inr (record {
+          generation = first.generation;
+          some = first.some;
+          below = first.below;
+          first = first.first;
+          fits = fits;
+          records = spelled;
+          room = room;
+        }),
+      ))
+      (cases_lt (log_size geometry) (used_by records))
+
   log-or : IsFirst (block_at image 1) generation
       → ((i : ℕ) → i < geometry.log → IsBytes (At i))
       → ((content : Content) × Spells geometry image content)
@@ -283,16 +321,8 @@ module _ (geometry : Geometry) (generation : ℕ) (image : Image) where
       let spelled : SpellsRecords bytes parts.records =
       record { fields = parts.fields; cut = parts.rest; is_cut = cut; spelled = parts.is } in
       ⊎_elim
-      (λ (fits : Fits Room generation 0 geometry.log image). inl (
-        record { generation = generation; records = parts.records },
-        inr (record {
-          generation = first.generation;
-          some = first.some;
-          first = first.first;
-          fits = fits;
-          records = spelled;
-        }),
-      ))
+      (λ (fits : Fits Room generation 0 geometry.log image). spelled-or first parts.records fits
+      spelled)
       (λ (bad : (i : ℕ) × IsBadNext geometry generation image i). inr (
         1 + bad.0,
         inr (record {
@@ -313,14 +343,14 @@ module _ (geometry : Geometry) (generation : ℕ) (image : Image) where
         inr (record {
           generation = generation;
           first = first;
-          bad = inr (record {
+          bad = inr (inl (record {
             records = parts.records;
             rest = parts.rest;
             fields = parts.fields;
             bytes = parts.is;
             misspelled = bad;
             block = refl;
-          });
+          }));
         }),
       ))
       parts.end
@@ -339,13 +369,17 @@ spelled_or_damaged geometry image some each =
     (λ (other : AreZeros block → ⊥).
     elim (cases_eq (generation_in block) 0) [
       | inl none ↦ inr (1, inl (refl, record { some = other; bad = inl none }))
-      | inr later ↦ elim (cases_eq (index_in block) 0) [
-        | inr index ↦ inr (1, inl (refl, record { some = other; bad = inr index }))
-        | inl index ↦ log-or geometry (generation_in block) image (record {
-          generation = refl;
-          some = positive (generation_in block) later;
-          first = index;
-        }) each
+      | inr later ↦ elim (cases_lt (generation_in block) (2 ^ 63)) [
+        | inr late ↦ inr (1, inl (refl, record { some = other; bad = inr (inl late) }))
+        | inl below ↦ elim (cases_eq (index_in block) 0) [
+          | inr index ↦ inr (1, inl (refl, record { some = other; bad = inr (inr index) }))
+          | inl index ↦ log-or geometry (generation_in block) image (record {
+            generation = refl;
+            some = positive (generation_in block) later;
+            below = below;
+            first = index;
+          }) each
+        ]
       ]
     ]) (zeros-or block)
   where

@@ -200,6 +200,7 @@ module _ (geometry : Geometry) (image : Image) (content : Content) (index : ℕ)
       inr (record {
         generation = ap generation_in first ∙ spells.generation;
         some = spells.some;
+        below = spells.below;
         first = ap index_in first ∙ spells.first;
         fits = fits-on (room_of geometry) content.generation index image new other-index
             (gone content.generation spells.some) geometry.log 0 spells.fits;
@@ -210,6 +211,7 @@ module _ (geometry : Geometry) (image : Image) (content : Content) (index : ℕ)
             (omega arith) (let at : index ≡ 0 + index = omega arith in at)))
             (records-cut (index * room_of geometry)
             (log_bytes geometry content.generation image) content.records short spells.records);
+        room = spells.room;
       })
 
 -- a block past the last one

@@ -4,10 +4,13 @@ use Rattle.std.specs.Prelude.{◌≡◌, ◌⊎◌, ℕ, ◌+◌, ◌<◌, Bool,
 use Rattle.vr_types.specs.Blocks.{Keeps, Puts}
 use Rattle.vr_types.specs.Fields.{AreZeros}
 use Rattle.vr_types.specs.Image.{Block, Image, block_at}
+use Rattle.vr_types.specs.Regions.{IsImageOn}
 use Rattle.vr_types.specs.Seen.{Seen}
+use Rattle.vr_types.specs.declared.geometry.Geometry.{Geometry}
 use Rattle.vr_log.specs.LogBlock.{generation_in, is_next}
-use Rattle.vr_log.specs.LogNow.{LogNow}
-use Rattle.vr_log.specs.Standing.{open_index}
+use Rattle.vr_log.specs.LogNow.{LogNow, no_log}
+use Rattle.vr_log.specs.Spells.{Spells}
+use Rattle.vr_log.specs.Standing.{InLog, open_index}
 
 -- The block of this index is past the last one of a log and goes on with it, or has a later
 -- generation than the log.
@@ -27,3 +30,8 @@ abbrev pub ClearsOne : Bool → ℕ → ℕ → ℕ → Seen → Seen → Type 0
 ClearsOne tells generation last index old new = Keeps tells old new
     ⊎ (IsStale generation last index (block_at old.cur (1 + index))
     × Puts tells (1 + index) (replicate old.size 0) old new)
+
+-- The image has of the log what a crash might have left of it before, or its blocks spell none yet.
+abbrev pub IsAsItWasOrNone : Geometry → Seen → Image → Type 0
+IsAsItWasOrNone geometry old image = IsImageOn (InLog geometry) old.count old.may image
+    ⊎ Spells geometry image no_log

@@ -51,6 +51,14 @@ IsLogOf log content = IsPrefixOf log content ⊎ (log.behind ≡ Some content)
 abbrev pub HasLog : LogNow → Image → Type 0
 HasLog log image = (content : Content) × Spells log.geometry image content × IsLogOf log content
 
+-- a log of no generation yet, as that of a volume that was just formatted
+abbrev pub no_log : Content
+no_log = record { generation = 0; records = [] }
+
+-- or the image's blocks spell none yet
+abbrev pub HasLogOrNone : LogNow → Image → Type 0
+HasLogOrNone log image = HasLog log image ⊎ Spells log.geometry image no_log
+
 -- The log before is that of a generation whose units have all ended. A log that was just made has
 -- its own records there, all of them forced.
 abbrev pub IsBehind : LogNow → Content → Type 0

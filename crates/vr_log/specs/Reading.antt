@@ -1,6 +1,6 @@
 -- What the blocks of a log say while it is read, and when reading it fails. The rules are this
 -- project's own.
-use Rattle.std.specs.Prelude.{◌≡◌, ◌⊎◌, ℕ, ◌+◌, ◌-◌, ◌<◌, ◌≤◌, List, ◌++◌, true, false, Option}
+use Rattle.std.specs.Prelude.{◌≡◌, ◌⊎◌, ℕ, ◌+◌, ◌-◌, ◌^◌, ◌<◌, ◌≤◌, List, ◌++◌, true, false, Option}
 use Rattle.std.specs.Prelude.{Some, None, Result, OnOk, IfErr, IsErrOf}
 use Rattle.vr_types.specs.Faults.{Faults}
 use Rattle.vr_types.specs.Fields.{AreZeros}
@@ -22,6 +22,12 @@ abbrev pub IsFirstFound : Block → First → Type 0
 IsFirstFound block Zeros = AreZeros block
 IsFirstFound block (Begins generation) = IsFirst block generation
 IsFirstFound block Bad = IsBadFirst block
+
+-- a generation that a log may have, where it is one
+abbrev pub IsYoung : First → Type 0
+IsYoung Zeros = Unit {0}
+IsYoung (Begins generation) = generation < 2 ^ 63
+IsYoung Bad = Unit {0}
 
 -- the last block of the log: it goes on and isn't full, with zeros past its bytes, or it doesn't go
 -- on

@@ -1,11 +1,13 @@
 -- Which generation and records the blocks of a log spell. The log is blocks 1 to L of a volume. The
 -- rules are this project's own.
-use Rattle.std.specs.Prelude.{◌≡◌, ◌⊎◌, ℕ, zero, suc, ◌+◌, ◌≤◌, List, [], ◌++◌, Bool, true, nat_eq}
-use Rattle.std.specs.Prelude.{nat_le, ◌&&◌, if◌then◌else◌}
+use Rattle.std.specs.Prelude.{◌≡◌, ◌⊎◌, ℕ, zero, suc, ◌+◌, ◌^◌, ◌<◌, ◌≤◌, List, [], ◌++◌, Bool}
+use Rattle.std.specs.Prelude.{true, nat_eq, nat_le, ◌&&◌, if◌then◌else◌}
 use Rattle.vr_types.specs.Fields.{AreZeros}
 use Rattle.vr_types.specs.Image.{Image, block_at}
+use Rattle.vr_types.specs.LogSpace.{log_size}
 use Rattle.vr_types.specs.declared.geometry.Geometry.{Geometry}
 use Rattle.vr_log.specs.Content.{Content}
+use Rattle.vr_log.specs.Live.{used_by}
 use Rattle.vr_log.specs.LogBlock.{generation_in, index_in, used_in, payload_in, rest_in, is_next}
 use Rattle.vr_log.specs.LogBlock.{room_of}
 use Rattle.vr_log.specs.Records.{SpellsRecords}
@@ -39,14 +41,17 @@ Fits room generation index (suc left) image =
 abbrev pub log_bytes : Geometry → ℕ → Image → List ℕ
 log_bytes geometry generation image = bytes_from (room_of geometry) generation 0 geometry.log image
 
--- Block 1 is the first of a generation, from 1 on, and the bytes from there on are those of the
--- records.
+-- Block 1 is the first of a generation, from 1 to 2^63 - 1, and the bytes from there on are those of
+-- the records, beside which the log has room for the ends of the units that are live after them. So
+-- each log that a crash may leave can be gone on with.
 pub record SpellsLog (geometry : Geometry) (image : Image) (content : Content) : Type 0 where
   pub generation : generation_in (block_at image 1) ≡ content.generation
   pub some : 1 ≤ content.generation
+  pub below : content.generation < 2 ^ 63
   pub first : index_in (block_at image 1) ≡ 0
   pub fits : Fits (room_of geometry) content.generation 0 geometry.log image
   pub records : SpellsRecords (log_bytes geometry content.generation image) content.records
+  pub room : used_by content.records ≤ log_size geometry
 
 -- a block 1 of zeros is a log of no records and no generation yet
 pub record SpellsNone (image : Image) (content : Content) : Type 0 where

@@ -1,7 +1,7 @@
 -- When a log stands on its blocks: what a crash may leave of each of them, block by block. The
 -- rules are this project's own.
-use Rattle.std.specs.Prelude.{◌≡◌, ◌⊎◌, ℕ, ◌+◌, ◌*◌, ◌<◌, ◌≤◌, List, length, take, drop, Some, None}
-use Rattle.std.specs.Prelude.{true, All}
+use Rattle.std.specs.Prelude.{◌≡◌, ◌⊎◌, ℕ, ◌+◌, ◌*◌, ◌^◌, ◌<◌, ◌≤◌, List, length, take, drop, Some}
+use Rattle.std.specs.Prelude.{None, true, All}
 use Rattle.vr_types.specs.Fields.{AreZeros}
 use Rattle.vr_types.specs.Geometry.{IsAllowed}
 use Rattle.vr_types.specs.LogSpace.{log_size}
@@ -10,6 +10,7 @@ use Rattle.vr_types.specs.Regions.{IsImageOn}
 use Rattle.vr_types.specs.Seen.{Seen, Only}
 use Rattle.vr_types.specs.declared.geometry.Geometry.{Geometry}
 use Rattle.vr_log.specs.Content.{Content}
+use Rattle.vr_log.specs.Live.{used_by}
 use Rattle.vr_log.specs.LogBlock.{generation_in, used_in, payload_in, rest_in, is_next, room_of}
 use Rattle.vr_log.specs.LogNow.{LogNow, IsBehind, IsForced, IsOf, last_index}
 use Rattle.vr_log.specs.Records.{bytes_of, HasFields}
@@ -101,8 +102,9 @@ pub record LogStands (log : LogNow) (seen : Seen) : Type 0 where
   pub allowed : IsAllowed log.geometry
   pub shape : IsOf log.geometry seen
   pub some : 1 ≤ log.generation
+  pub below : log.generation < 2 ^ 63
   pub fields : All HasFields log.records
-  pub fits : length (bytes_of log.records) ≤ log_size log.geometry
+  pub fits : used_by log.records ≤ log_size log.geometry
   pub forced : log.forced ≤ length log.records
   pub behind : (older : Content) → log.behind ≡ Some older → IsBehind log older
   pub begun : (older : Content) → log.behind ≡ Some older

@@ -8,8 +8,8 @@ ghost use Rattle.vr_types.specs.Image.{Image, block_at};
 ghost use Rattle.vr_types.specs.LogSpace.{log_size};
 ghost use Rattle.vr_types.specs.Regions.{Touches};
 ghost use Rattle.vr_types.specs.Seen.{Only};
-ghost use Rattle.vr_log.specs.Clearing.{AreCleared, ClearsOne, IsStale};
-ghost use Rattle.vr_log.specs.LogNow.{IsOf, last_index, made};
+ghost use Rattle.vr_log.specs.Clearing.{AreCleared, ClearsOne, IsAsItWasOrNone, IsStale};
+ghost use Rattle.vr_log.specs.LogNow.{IsOf, last_index, made, no_log};
 ghost use Rattle.vr_log.specs.Reading.{HasReadCause, IsNoDamage};
 ghost use Rattle.vr_log.specs.Records.{HasFields, bytes_of};
 ghost use Rattle.vr_log.specs.Spells.{Spells};
@@ -69,6 +69,30 @@ pub fn clear_past<B: Blocks>(
         clear_block(alloc, blocks, size, generation, last, index)?;
     }
     Ok(())
+}
+
+/// Makes zeros of all blocks of a log that are there, block 1 first, and forces each of them. In each
+/// image of every moment, failing or not, block 1 is as it was, or the blocks spell none yet. What a
+/// log is then made of stands on them. `Fault` is the device's; `Memory`: there is none for the zeros
+/// of a block. `Damaged` never comes.
+pub(crate) fn clear_all<B: Blocks>(
+    alloc: Global,
+    blocks: &mut B,
+    geometry: &Geometry,
+) -> Result<(), LogReadNo>
+    requires allowed { IsAllowed geometry.now }
+    requires shape { IsOf geometry.now (B.seen blocks.old) }
+    requires settled { IsTrue B.tells → IsSettled geometry.now (B.seen blocks.old) }
+    ensures moments { IsTrue B.tells → Touches (InLog geometry.now)
+        (IsAsItWasOrNone geometry.now (B.seen blocks.old)) (B.seen blocks.old) (B.seen blocks.new) }
+    ensures stands { IsTrue B.tells → OnOk result
+        (LogStands (made geometry.now no_log) (B.seen blocks.new)) }
+    ensures shape { IsOf geometry.now (B.seen blocks.new) }
+    ensures no_damage { IfErr result IsNoDamage }
+    ensures cause { HasReadCause (B.faults blocks.old) (B.faults blocks.new) result }
+{
+    zero_block(alloc, blocks, 1, geometry.size)?;
+    clear_past(alloc, blocks, geometry, &LogContent::new(alloc, 0))
 }
 
 /// The index of the block to which the bytes after these records go.

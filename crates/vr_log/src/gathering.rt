@@ -8,7 +8,7 @@ ghost use Rattle.vr_types.specs.Image.{block_at};
 ghost use Rattle.vr_log.specs.LogBlock.{is_next, room_of};
 ghost use Rattle.vr_log.specs.LogNow.{IsOf};
 ghost use Rattle.vr_log.specs.Reading.{IsFirstFound, IsNextFound, IsGathered, IsNoDamage};
-ghost use Rattle.vr_log.specs.Reading.{HasReadCause};
+ghost use Rattle.vr_log.specs.Reading.{HasReadCause, IsYoung};
 
 use crate::read_no::LogReadNo;
 use vr_types::{Blocks, DeviceFault, Geometry, OutOfMemory, are_zeros, eight_at, four_at};
@@ -35,6 +35,7 @@ pub(crate) fn read_first<B: Blocks>(blocks: &mut B) -> Result<First, DeviceFault
     requires { 1 < (B.seen blocks.old).count × 16 ≤ (B.seen blocks.old).size }
     ensures first { IsTrue B.tells
         → IfOk result (IsFirstFound (block_at (B.seen blocks.old).cur 1)) }
+    ensures young { IfOk result IsYoung }
     ensures keeps { Keeps B.tells (B.seen blocks.old) (B.seen blocks.new) }
     ensures cause { HasCause (B.faults blocks.old) (B.faults blocks.new) result }
 {
@@ -44,13 +45,14 @@ pub(crate) fn read_first<B: Blocks>(blocks: &mut B) -> Result<First, DeviceFault
 /// What a block 1 says.
 fn first_of(block: &[u8]) -> First
     requires { 16 ≤ length block.now }
-    ensures { IsFirstFound block.now result }
+    ensures first { IsFirstFound block.now result }
+    ensures young { IsYoung result }
 {
     if are_zeros(block) {
         return First::Zeros;
     }
     let generation = eight_at(block, 0);
-    if generation == 0 || four_at(block, 8) != 0 {
+    if generation == 0 || generation >= 1 << 63 || four_at(block, 8) != 0 {
         return First::Bad;
     }
     First::Begins(generation)

@@ -68,11 +68,11 @@ pub fn each_image_has_the_log<B: Blocks>(log: &UndoLog, blocks: &B)
 {}
 
 /// A log that stands on its blocks, with all records forced and no unit live, stands after
-/// `restart` too: what each image then has is the log before. The generation is below its greatest
-/// value, at which it stands still.
+/// `restart` too: what each image then has is the log before. The next generation is one that a log
+/// may have: one that comes near the last is begun anew ([`UndoLog::renew`]).
 pub fn restarted_log_stands<B: Blocks>(log: &UndoLog, blocks: &B)
     ensures { IsTrue B.tells → LogStands log.now (B.seen blocks.now) → IsForced log.now
-        → live_in log.now.records ≡ [] → log.now.generation + 1 < 2 ^ 64
+        → live_in log.now.records ≡ [] → log.now.generation + 1 < 2 ^ 63
         → LogStands (restarted log.now) (B.seen blocks.now) }
 {}
 

@@ -6,7 +6,8 @@
 //! of the generation, or the log before while no block of this one was forced, whose units have all
 //! ended. No other block is touched. Blocks are read back as the log that they spell, and where
 //! they spell none as damaged, with the first block that is misspelled. What an earlier log left
-//! past the end is cleared, so that the log that was read back stands.
+//! past the end is cleared, so that the log that was read back stands. A log is begun anew once its
+//! generations come near their end, so each log that a crash may leave can be gone on with.
 #![tactic(auto)]
 
 mod clearing;
@@ -39,4 +40,3 @@ pub use no::LogNo;
 pub use read_no::LogReadNo;
 pub use reading::read_back;
 pub use record::{Before, EndKind, LogPlace, LogRecord};
-pub use room::has_room;

@@ -30,6 +30,13 @@ impl Live {
         Ok(Live { units })
     }
 
+    /// Forgets them all. The room stays.
+    pub(crate) fn clear(&mut self)
+        ensures { self.new ≡ record self.old { units = [] } }
+    {
+        self.units.clear();
+    }
+
     /// How many.
     pub(crate) fn len(&self) -> usize
         ensures { result ≡ length self.now.units }

@@ -23,15 +23,20 @@ ghost use Rattle.vr_log.specs.LogNow.{
   IsFullWhere,
   HasLogCause,
   HasLog,
+  HasLogOrNone,
+  no_log,
 };
+ghost use Rattle.vr_log.specs.Reading.{HasReadCause, IsNoDamage};
 ghost use Rattle.vr_log.specs.Records.{HasFields, HasLengths};
 ghost use Rattle.vr_log.specs.Standing.{InLog, LogStands};
 
+use crate::clearing::clear_all;
 use crate::content::LogContent;
 use crate::kept::{Kept, Older};
 use crate::live::Live;
 use crate::making::{new_live, new_tail, numbers_to, pass_records};
 use crate::no::LogNo;
+use crate::read_no::LogReadNo;
 use crate::record::{EndKind, LogPlace, LogRecord};
 use crate::tail::Tail;
 use crate::writing::{note_unit, put_record, record_length};
@@ -188,6 +193,50 @@ impl UndoLog {
         self.forced = 0;
         self.records = Kept::Nothing;
         self.forced_records = Snapshot::of(&self.records);
+    }
+
+    /// Begins the log anew once its units have all ended: its blocks become zeros, block 1 first, and
+    /// are forced, so that it has no generation yet, as on a volume that was just formatted. So its
+    /// generations never come to an end. In each image of every moment, whether it fails or not, the
+    /// blocks spell the log that they had, or none yet; where it fails the log is broken. `Fault` is
+    /// the device's; `Memory`: there is none for the zeros of a block; `Damaged` never comes.
+    pub fn renew<B: Blocks>(&mut self, alloc: Global, blocks: &mut B) -> Result<(), LogReadNo>
+        requires sound { self.old.broken ≡ false }
+        requires none_live { live_in self.old.records ≡ [] }
+        requires forced { IsForced self.old }
+        requires shape { IsOf self.old.geometry (B.seen blocks.old) }
+        requires stands { IsTrue B.tells → LogStands self.old (B.seen blocks.old) }
+        ensures log { OnOk result (self.new ≡ made self.old.geometry no_log) }
+        ensures shape { IsOf self.old.geometry (B.seen blocks.new) }
+        ensures stands { IsTrue B.tells → OnOk result (LogStands self.new (B.seen blocks.new)) }
+        ensures moments { IsTrue B.tells → Touches (InLog self.old.geometry)
+            (HasLogOrNone self.old) (B.seen blocks.old) (B.seen blocks.new) }
+        ensures no_damage { IfErr result IsNoDamage }
+        ensures cause { HasReadCause (B.faults blocks.old) (B.faults blocks.new) result }
+    {
+        self.broken = true;
+        blocks.force(&self.numbers)?;
+        clear_all(alloc, blocks, &self.geometry)?;
+        self.broken = false;
+        self.forget(alloc);
+        Ok(())
+    }
+
+    /// Begins the first generation in memory, on blocks that spell none.
+    fn forget(&mut self, alloc: Global)
+        requires { self.old.broken ≡ false }
+        ensures { self.new ≡ made self.old.geometry no_log }
+    {
+        self.older = Older::Made(Snapshot::of(&LogContent::new(alloc, 0)));
+        self.tail.generation = 1;
+        self.tail.index = 0;
+        self.tail.used = 0;
+        self.tail.begun = false;
+        self.bytes = 0;
+        self.forced = 0;
+        self.records = Kept::Nothing;
+        self.forced_records = Snapshot::of(&self.records);
+        self.live.clear();
     }
 
     /// Whether the unit is live: it has a before-image and no end record after it.

@@ -16,7 +16,7 @@ use vr_types::{Geometry, OutOfMemory};
 /// Whether the log has room for these records and the ends of their live units, which `undo_log`
 /// wants. A log that was written by `append` and `end_record` alone has it. Fails only if memory
 /// runs out for the live units.
-pub fn has_room(
+pub(crate) fn has_room(
     alloc: Global,
     geometry: &Geometry,
     content: &LogContent,

@@ -2,6 +2,7 @@
 ghost use Rattle.std.specs.Prelude.{◌≡◌, ◌≤◌, false, length, All, IfOk};
 ghost use Rattle.vr_types.specs.Geometry.{IsAllowed};
 ghost use Rattle.vr_types.specs.LogSpace.{log_size};
+ghost use Rattle.vr_log.specs.Live.{used_by};
 ghost use Rattle.vr_log.specs.LogNow.{IsOf};
 ghost use Rattle.vr_log.specs.Records.{HasFields, bytes_of};
 
@@ -13,12 +14,12 @@ use crate::untold::Untold;
 use std::alloc::Global;
 use vr_device::{BlockDevice, direct};
 use vr_log::{
-    LogContent, LogNo, LogPlace, LogReadNo, LogRecord, UndoLog, clear_past, has_room, read_back,
-    undo_log,
+    LogContent, LogNo, LogPlace, LogReadNo, LogRecord, UndoLog, clear_past, read_back, undo_log,
 };
 use vr_types::{Blocks, DeviceFault, Geometry};
 
-/// A call of the log: `read`, `clear`, `open`, `append RECORD`, `end DECK NUMBER KIND`, `force`, `restart`.
+/// A call of the log: `read`, `clear`, `open`, `append RECORD`, `end DECK NUMBER KIND`, `force`, `restart`,
+/// `renew`.
 pub fn call(alloc: Global, desk: &mut Desk, verb: &str, rest: &str, out: &mut String) -> Answer {
     let geometry = desk.geometry()?;
     let device = desk.take()?;
@@ -56,6 +57,7 @@ fn ask<B: Blocks>(
         "end" => end(blocks, geometry, log, rest, out),
         "force" => force(blocks, geometry, log, out),
         "restart" => restart(blocks, geometry, log, out),
+        "renew" => renew(alloc, blocks, geometry, log, out),
         _ => Err(Stop::Line),
     }
 }
@@ -139,11 +141,8 @@ fn open_with(
 ) -> Answer
     requires allowed { IsAllowed geometry }
     requires fields { All HasFields content.now.records }
-    requires size { length (bytes_of content.now.records) ≤ log_size geometry }
+    requires room { used_by content.now.records ≤ log_size geometry }
 {
-    if !has_room(alloc, &geometry, content)? {
-        return say(out, "no room");
-    }
     let new = undo_log(alloc, &geometry, content)?;
     let live = new.live();
     keep(geometry, log, new);
@@ -299,5 +298,32 @@ fn restart<B: Blocks>(
             say(out, "ok")
         }
         Err(fault) => say_fault(out, fault),
+    }
+}
+
+/// Forces the log and begins it anew, where no unit is live.
+fn renew<B: Blocks>(
+    alloc: Global,
+    blocks: &mut B,
+    geometry: Geometry,
+    log: &mut Option<OpenLog>,
+    out: &mut String,
+) -> Answer
+    requires untold { B.tells ≡ false }
+    requires shape { IsOf geometry (B.seen blocks.old) }
+{
+    let mut open = taken(geometry, log)?;
+    if open.live() > 0 {
+        return Err(Stop::Line);
+    }
+    if let Err(fault) = open.force(blocks) {
+        return say_fault(out, fault);
+    }
+    match open.renew(alloc, blocks) {
+        Ok(()) => {
+            keep(geometry, log, open);
+            say(out, "ok")
+        }
+        Err(no) => say_no(out, no),
     }
 }

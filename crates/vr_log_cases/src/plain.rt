@@ -131,6 +131,42 @@ fn records_end(bytes: &[u8]) -> usize {
     end
 }
 
+/// Whether one of the records is of the unit, which is given by its bytes.
+fn has_unit(bytes: &[u8], unit: &[u8]) -> bool {
+    let mut at = 0usize;
+    for _ in 0..bytes.len() {
+        let length = record_length(bytes.get(at..).unwrap_or(&[]));
+        if length == 0 {
+            return false;
+        }
+        if slice(bytes, at.saturating_add(1), 8) == unit {
+            return true;
+        }
+        at = at.saturating_add(length);
+    }
+    false
+}
+
+/// The bytes in use: those of the records, and 9 for the end of each unit whose last record is a
+/// before-image.
+fn used_by(bytes: &[u8]) -> usize {
+    let mut used = bytes.len();
+    let mut at = 0usize;
+    for _ in 0..bytes.len() {
+        let length = record_length(bytes.get(at..).unwrap_or(&[]));
+        if length == 0 {
+            return used;
+        }
+        let end = at.saturating_add(length);
+        let unit = slice(bytes, at.saturating_add(1), 8);
+        if bytes.get(at) == Some(&1) && !has_unit(bytes.get(end..).unwrap_or(&[]), unit) {
+            used = used.saturating_add(9);
+        }
+        at = end;
+    }
+    used
+}
+
 /// What the blocks spell. `into` gets the bytes of the generation.
 pub fn find(blocks: Blocks<'_>, into: &mut Vec<u8>) -> Result<Found, Stop> {
     let first = slice(blocks.bytes, blocks.size, blocks.size);
@@ -138,15 +174,17 @@ pub fn find(blocks: Blocks<'_>, into: &mut Vec<u8>) -> Result<Found, Stop> {
     if are_zeros(first) {
         return Ok(found_of(0, 0, 0));
     }
-    if generation == 0 || number_at(first, 8, 4) != 0 {
+    if generation == 0 || generation >= 1 << 63 || number_at(first, 8, 4) != 0 {
         return Ok(found_of(0, 0, 1));
     }
     let wrong = gather(blocks, generation, into)?;
     let end = records_end(into);
-    if is_cut(into.get(end..).unwrap_or(&[])) {
-        return Ok(found_of(generation, end, wrong));
-    }
     let room = blocks.size.saturating_sub(16).max(1);
+    if is_cut(into.get(end..).unwrap_or(&[])) {
+        let crowded = used_by(slice(into, 0, end)) > room.saturating_mul(blocks.log);
+        let shown = if wrong == 0 && crowded { 1 } else { wrong };
+        return Ok(found_of(generation, end, shown));
+    }
     let block = (end / room).saturating_add(1) as u64;
     Ok(found_of(generation, end, block))
 }

@@ -1,6 +1,6 @@
 -- A key-sequenced part whose first area is written without records: it is in order in blocks of its
 -- own, whatever a crash leaves, and no place of it has an item.
-use Rattle.std.proofs.Common.{◌≡◌, ◌<◌, ℕ, zero, suc, Bool, true, false, List, []}
+use Rattle.std.proofs.Common.{◌≡◌, ◌<◌, ◌+◌, ℕ, zero, suc, Bool, true, false, List, []}
 use Rattle.std.proofs.Common.{◌∷◌, length, map, replicate, All, Option, Some, None, IfSome, inl}
 use Rattle.std.proofs.Common.{refl, sym, ap, subst, ◌∙◌, arith, IsTrue}
 use Rattle.std.specs.Prelude.{cond, filter}
@@ -23,7 +23,7 @@ use Rattle.vr_seqset.proofs.CallerLemmas.{record_is}
 use Rattle.vr_space.specs.Areas.{ChainKeepsRoom, EachAfter, IsChainAtRest, IsChainOn}
 use Rattle.vr_space.specs.Areas.{IsFollowed, IsLinked, IsQuietArea, KeyedChain}
 use Rattle.vr_space.specs.Areas.{Links, area_of, areas_after, areas_way, chain_way}
-use Rattle.vr_space.specs.Areas.{end_of, head_in, is_upto}
+use Rattle.vr_space.specs.Areas.{end_of, head_in, intervals_in, intervals_over, is_upto}
 use Rattle.vr_space.specs.Keyed.{EachMayLeave, HoldsRange, IsKept, IsKeyedSound, IsOwned}
 use Rattle.vr_space.specs.Keyed.{KeepsRoom, Keyed, entries_of, entry_above, items_of, key_of}
 use Rattle.vr_space.specs.Keyed.{last_high, length_of, lengths_of, low_in, low_of, placed, range_of}
@@ -194,6 +194,14 @@ module _ (part : KeyedChain) (now : Seen) (first : IsFirstArea (area_of part par
       part.first ∷ after_next [] (areas_after part now.cur k) next)
       (sym (none-next area (head_in part now.cur part.first) first.has.head))
 
+  -- with one interval
+  one-interval : IsChainOn part now → 1 ≡ intervals_in part now.cur
+  one-interval on =
+      ap (λ (entries : List Entry). length entries + 0)
+      (sym (one-entry area (head_in part now.cur part.first) first.has.head))
+      ∙ ap (intervals_over part now.cur)
+      (one-area (area_count part.geometry) (omega (arith, on.part_is.first)))
+
   pub first-knows : IsChainOn part now
       → Knows (KeyedShape part) (known_first (KeyedShape part)) now
   first-knows on = record {
@@ -205,6 +213,7 @@ module _ (part : KeyedChain) (now : Seen) (first : IsFirstArea (area_of part par
             (sym (ends area (head_in part now.cur part.first) first.has.head));
       },
       All-nil (IsChainMet part now.cur),
+      one-interval on,
     );
   }
 

@@ -1,7 +1,7 @@
 -- A part of any kind as it is attached. The rules are this project's own.
 use Rattle.std.specs.Prelude.{◌≡◌, ℕ, [], None}
 use Rattle.vr_types.specs.Image.{Image}
-use Rattle.vr_space.specs.Areas.{KnowsAreas}
+use Rattle.vr_space.specs.Areas.{KnowsAreas, intervals_in}
 use Rattle.vr_space.specs.Known.{Known}
 use Rattle.vr_space.specs.Part.{KeyedShape, NumberedShape, Shape}
 use Rattle.vr_space.specs.Numbered.{KnowsChain}
@@ -10,12 +10,12 @@ use Rattle.vr_attach.specs.Linked.{IsLinkedShown}
 use Rattle.vr_attach.specs.declared.part_no.PartNo2.{PartNo2}
 use Rattle.vr_attach.specs.declared.part_no.PartNo2.TheVariants.{Damaged, Fault, Memory}
 
--- What a part keeps in memory as it is attached: of a keyed one its areas, and where each ends; of
--- another its chain, and where its last item ends.
+-- What a part keeps in memory as it is attached: of a keyed one its areas, where each ends, and how
+-- many intervals their heads lead to; of another its chain, and where its last item ends.
 abbrev pub IsAttachedWith : Shape → Known → Image → Type 0
 IsAttachedWith (KeyedShape part) known image =
     (known.split ≡ None) × (known.met ≡ []) × KnowsAreas part known.areas known.ends image
-    × (known.move ≡ None)
+    × (known.move ≡ None) × (known.used ≡ intervals_in part image)
 IsAttachedWith (NumberedShape part) known image =
     (known.split ≡ None) × (known.met ≡ []) × KnowsChain part known image × (known.move ≡ None)
 

@@ -14,7 +14,8 @@ abbrev pub IsFirst : Shape → Seen → Type 0
 IsFirst (KeyedShape part) now = IsFirstArea (area_of part part.first) now
 IsFirst (NumberedShape part) now = IsFirstRoster part now
 
--- what it keeps in memory: that area alone, whose ranges go up to the greatest key
+-- what it keeps in memory: that area alone, whose ranges go up to the greatest key, and whose head
+-- leads to one interval
 abbrev pub known_first : Shape → Known
 known_first (KeyedShape part) = record {
   split = None;
@@ -22,7 +23,7 @@ known_first (KeyedShape part) = record {
   met = [];
   areas = part.first ∷ [];
   ends = replicate part.key 255 ∷ [];
-  used = 0;
+  used = 1;
   tail = None;
 }
 -- or no interval of which is used

@@ -203,6 +203,7 @@ pub catalog-then : (geometry : Geometry) (images : List BeforeImage) (now old : 
 catalog-then geometry images now old block rule same shown = record {
   block_is = shown.block_is;
   rule_is = shown.rule_is;
+  stands = subst (Stands (catalog_shape geometry)) same shown.stands;
   damaged = λ content stands. shown.damaged content
       (subst (λ (image : Image). StandsFor (catalog_shape geometry) image content) (sym same)
       stands);
@@ -252,6 +253,7 @@ module _ (geometry : Geometry) (images : List BeforeImage) (old : Seen)
       (λ block rule shown. AtAreas (record {
         entries = entries;
         are = entries-then;
+        stands = stands;
         shown = shown;
       })) unserved-then answer
 

@@ -69,6 +69,9 @@ attached-stays (KeyedShape part) owners known a b stays sound left attached = (
       (owns-none (KeyedShape part) owners known attached.3)
       (attached-knows (KeyedShape part) known a attached)).blocks.0,
   attached.3,
+  (knows-stays a b (KeyedShape part) owners known stays sound left
+      (owns-none (KeyedShape part) owners known attached.3)
+      (attached-knows (KeyedShape part) known a attached)).blocks.2,
 )
 attached-stays (NumberedShape part) owners known a b stays sound left attached = (
   attached.0,

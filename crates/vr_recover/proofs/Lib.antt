@@ -3,6 +3,7 @@ pub mod Wholes
 pub mod Settled
 pub mod PuttingBack
 pub mod BackingOut
+pub mod BeginningAgain
 pub mod KeptLengths
 pub mod PartsBack
 pub mod Opening

@@ -78,6 +78,7 @@ module _ (geometry : Geometry) (images : List BeforeImage) (now : Seen)
       (λ none. Misspelled (record {
         block_is = none.block_is;
         rule_is = none.rule_is;
+        stands = stands;
         damaged = λ content there is. none.damaged
             (subst (IsCatalog geometry) (sym (back-as content there)) is);
       }))

@@ -33,7 +33,7 @@ use Rattle.vr_mount.proofs.CallerLemmas.{image-same}
 use Rattle.vr_part.specs.Any.{known_any, shape_any}
 use Rattle.vr_part.specs.declared.any.AnyPart.{AnyPart}
 use Rattle.vr_space.specs.Known.{Known}
-use Rattle.vr_space.specs.Part.{IsOn, OwnsChain, Shape, StandsFor}
+use Rattle.vr_space.specs.Part.{IsOn, OwnsChain, Shape, Stands, StandsFor}
 use Rattle.vr_space.specs.Part.{held_by, owned_count, part_no}
 use Rattle.vr_space.proofs.CallerLemmas.{fewer-room, rest-sound}
 use Rattle.vr_undo.proofs.CallerLemmas.{stands-entries}
@@ -56,7 +56,7 @@ use Rattle.vr_recover.specs.declared.open_no.OpenNo.TheVariants.{Damaged, Versio
 use Rattle.vr_recover.specs.declared.open_no.OpenNo.TheVariants.{Memory}
 use Rattle.vr_recover.specs.declared.open_no.Unserved.{Unserved}
 use Rattle.vr_recover.specs.Images.{CannotGoBack, catalog_by}
-use Rattle.vr_recover.specs.Unserved.{ByCatalog, ByLog, IsUnservedOf}
+use Rattle.vr_recover.specs.Unserved.{IsUnservedOf}
 use Rattle.vr_recover.proofs.Adding.{part-at}
 use Rattle.vr_recover.proofs.Agreeing.{volume-here}
 use Rattle.vr_recover.proofs.Attaching.{entry-then}
@@ -123,16 +123,19 @@ module _ (a b : Seen) (count : b.count ≡ a.count) (size : b.size ≡ a.size) (
     past-before geometry images block rule (InCatalog shown) = InCatalog (record {
       block_is = shown.block_is;
       rule_is = shown.rule_is;
+      stands = subst (Stands (catalog_shape geometry)) cur shown.stands;
       damaged = λ one stands. shown.damaged one (stands-then geometry one stands);
     })
     past-before geometry images block rule (InArea shown) = InArea (record {
       block_is = shown.block_is;
       rule_is = shown.rule_is;
+      stands = subst (Stands (catalog_shape geometry)) cur shown.stands;
       damaged = λ one stands. shown.damaged one (stands-then geometry one stands);
     })
     past-before geometry images block rule (Twice shown) = Twice (record {
       block_is = shown.block_is;
       rule_is = shown.rule_is;
+      stands = subst (Stands (catalog_shape geometry)) cur shown.stands;
       damaged = λ one stands. shown.damaged one (stands-then geometry one stands);
     })
     past-before geometry images block rule (InImages shown) = InImages (record {
@@ -157,20 +160,17 @@ module _ (a b : Seen) (count : b.count ≡ a.count) (size : b.size ≡ a.size) (
 
     has-before : (geometry : Geometry) (block : ℕ) (cause : Unserved)
         → IsUnservedOf geometry b block cause → IsUnservedOf geometry a block cause
-    has-before geometry block cause (ByLog has) = ByLog (record {
-      content = has.content;
-      spelled = subst (λ (i : Image). Spells geometry i has.content) cur has.spelled;
-      block_is = has.block_is;
-      is = has.is;
-    })
-    has-before geometry block cause (ByCatalog log spelled has) = ByCatalog log
-        (subst (λ (i : Image). Spells geometry i log) cur spelled) (record {
-          content = has.content;
-          stands = stands-before geometry has.content has.stands;
-          rules = has.rules;
-          block_is = has.block_is;
-          is = has.is;
-        })
+    has-before geometry block cause has = record {
+      log = has.log;
+      spelled = subst (λ (i : Image). Spells geometry i has.log) cur has.spelled;
+      catalog = record {
+        content = has.catalog.content;
+        stands = stands-before geometry has.catalog.content has.catalog.stands;
+        rules = has.catalog.rules;
+        block_is = has.catalog.block_is;
+        is = has.catalog.is;
+      };
+    }
 
     header-before : (number : ℕ) (geometry : Geometry)
         → IsHeaderOf b.count b.size number (block_at b.cur 0) geometry
@@ -446,7 +446,7 @@ module _ (geometry : Geometry) (content : LogContent) (entries : List CatEntry)
   laid-of = shapes-lay geometry entries (map shape_any parts) planned.may.distinct shapes-of
 
   pub handed-out : (log : LogNow) (now : Seen) → IsOf geometry now → log.geometry ≡ geometry
-      → log.broken ≡ false → IsForced log → log.records ≡ [] → log.generation < 2 ^ 63 + 1
+      → log.broken ≡ false → IsForced log → log.records ≡ [] → log.generation ≤ 2 ^ 62
       → All HasNoSplit parts → IsHandedOut geometry entries parts log owners now
   handed-out log now of is sound forced records low split = record {
     allowed = allowed;

@@ -32,39 +32,23 @@ use Rattle.vr_space.specs.Part.{IsOn, IsPlaceOf, Shape, Stands, StandsFor, part_
 use Rattle.vr_volume.specs.PutBack.{image_in, images_of, length_in, length_of}
 use Rattle.vr_volume.specs.Volume.{Recovers}
 use Rattle.vr_recover.specs.Found.{AreEntriesOf, AtAreas, AtCatalog, AtImages, AtPart}
-use Rattle.vr_recover.specs.Found.{AllStand, AreItsPlaces, IsBackNo, IsLogNo, MayAdd}
+use Rattle.vr_recover.specs.Found.{AllStand, AreItsPlaces, IsBackNo, MayAdd}
 use Rattle.vr_recover.specs.Found.{IsMountShown, Misspelled, ShowsBoth, ShowsOnly}
 use Rattle.vr_recover.specs.Images.{CannotGoBack, HasRoomOf, MayGoBack, catalog_by}
 use Rattle.vr_recover.specs.Opening.{InArea, InCatalog, InImages, InLog, InPart, IsDamaged, IsLogShown, PastLog}
 use Rattle.vr_recover.specs.Opening.{IsEntryShown, IsRefused, IsShownOf, IsShownPast, OfCatalog, OfEntry, Twice}
 use Rattle.vr_recover.specs.Opening.{AreLaid, shapes_laid}
-use Rattle.vr_recover.specs.Unserved.{ByCatalog, ByLog, IsCatalogUnserved, IsLogUnserved}
+use Rattle.vr_recover.specs.Unserved.{IsCatalogUnserved}
 use Rattle.vr_recover.specs.Unserved.{IsUnserved, IsUnservedOf}
 use Rattle.vr_recover.specs.Undone.{FitsPart, IsCovered}
 use Rattle.vr_recover.specs.declared.open_no.OpenNo.{OpenNo}
 use Rattle.vr_recover.specs.declared.open_no.OpenNo.TheVariants as nos
 use Rattle.vr_recover.specs.declared.open_no.OpenNo.TheVariants.{Damaged, Version, Read, Write, Memory}
 use Rattle.vr_recover.specs.declared.open_no.Unserved.{Unserved}
-use Rattle.vr_recover.proofs.Attaching.{shows-both}
 use Rattle.vr_recover.proofs.Agreeing.{goes-back, has-rooms, mount-none, no-volume}
 use Rattle.vr_recover.proofs.Numbering.{on-of}
 use Rattle.vr_recover.proofs.Shapes.{are-laid}
 use Rattle.vr_recover.proofs.Settled.{with-all}
-
--- ---- a log that isn't served
-
-pub log-shown : (geometry : Geometry) (now : Seen) (content : LogContent)
-    → Spells geometry now.cur content → (answer : OpenNo)
-    → ShowsBoth (λ block rule. ⊥) (IsLogNo geometry content) answer
-    → ShowsBoth (IsLogShown geometry now) (IsLogUnserved geometry now) answer
-log-shown geometry now content spelled = shows-both (λ block rule. ⊥) (IsLogShown geometry now)
-    (IsLogNo geometry content) (IsLogUnserved geometry now) (λ block rule none. absurd none)
-    (λ block cause no. record {
-      content = content;
-      spelled = spelled;
-      block_is = no.0;
-      is = no.1;
-    })
 
 -- ---- two lists of the parts that are laid
 
@@ -132,13 +116,12 @@ module _ (number : ℕ) (geometry : Geometry) (now : Seen) (allowed : IsAllowed 
   unserved-of block cause has = record { geometry = geometry; header = header-of; has = has }
 
   pub log-refused : 8 ≤ length (block_at now.cur 1) → (answer : OpenNo)
-      → ShowsBoth (IsLogShown geometry now) (IsLogUnserved geometry now) answer
-      → IsRefused number now answer
+      → ShowsOnly (IsLogShown geometry now) answer → IsRefused number now answer
   log-refused long (Damaged block rule) shown = damaged-of block rule
       (λ recovered is. damaged_none geometry now.cur is.log block long is.stands.log_is
       shown.damaged) (InLog shown)
   log-refused long (Version found) shown = absurd shown
-  log-refused long (nos.Unserved block cause) shown = unserved-of block cause (ByLog shown)
+  log-refused long (nos.Unserved block cause) shown = absurd shown
   log-refused long Read shown = tt
   log-refused long Write shown = tt
   log-refused long Memory shown = tt
@@ -183,12 +166,14 @@ module _ (number : ℕ) (geometry : Geometry) (now : Seen) (allowed : IsAllowed 
         (λ past. InArea (record {
           block_is = shown.shown.0;
           rule_is = past.0;
+          stands = shown.stands;
           damaged = λ one stands on. past.1 (subst (AreOn geometry)
               (entries-as shown.entries shown.are.entries_are one stands) on);
         }))
         (λ twice. Twice (record {
           block_is = shown.shown.0;
           rule_is = twice.0;
+          stands = shown.stands;
           damaged = λ one stands apart. twice.1
               (subst (λ (es : List CatEntry). AreApart (shape_in geometry es))
               (entries-as shown.entries shown.are.entries_are one stands) apart);
@@ -206,7 +191,8 @@ module _ (number : ℕ) (geometry : Geometry) (now : Seen) (allowed : IsAllowed 
         past-of block rule (none-of block rule shown) (shown-as block rule shown)
     mount-refused (Version found) shown = absurd shown
     mount-refused (nos.Unserved block cause) shown =
-        unserved-of block cause (ByCatalog content spelled shown)
+        unserved-of block cause
+        (record { log = content; spelled = spelled; catalog = shown })
     mount-refused Read shown = tt
     mount-refused Write shown = tt
     mount-refused Memory shown = tt

@@ -268,6 +268,7 @@ attached-knows (KeyedShape part) known now attached = record {
     attached.2,
     subst (λ (met : List Met). All (IsChainMet part now.cur) met) (sym attached.1)
         (All-nil (IsChainMet part now.cur)),
+    attached.4,
   );
 }
 attached-knows (NumberedShape part) known now attached =

@@ -50,7 +50,7 @@ use Rattle.vr_recover.specs.declared.open_no.OpenNo.TheVariants as nos
 use Rattle.vr_recover.specs.declared.open_no.OpenNo.TheVariants.{Damaged, Version, Read, Write}
 use Rattle.vr_recover.specs.declared.open_no.OpenNo.TheVariants.{Memory}
 use Rattle.vr_recover.specs.declared.open_no.Unserved.{Unserved}
-use Rattle.vr_recover.specs.Unserved.{IsEntryCause, IsLogCause, IsPlain, IsServedCluster}
+use Rattle.vr_recover.specs.Unserved.{IsEntryCause, IsPlain, IsServedCluster}
 
 -- an answer that says of the blocks what P does where they are damaged, and Q where they aren't
 -- served
@@ -74,10 +74,6 @@ pub record IsLogFound (geometry : Geometry) (content : LogContent) : Type 0 wher
   pub size : length (log_bytes content.records) ≤ log_size geometry
   pub young : content.generation < 2 ^ 63
   pub room : used_by content.records ≤ log_size geometry
-
--- a log that isn't served by what it says
-abbrev pub IsLogNo : Geometry → LogContent → ℕ → Unserved → Type 0
-IsLogNo geometry content block cause = (block ≡ 1) × IsLogCause geometry content cause
 
 -- ---- the parts
 
@@ -227,11 +223,13 @@ pub record AreEntries (geometry : Geometry) (images : List BeforeImage) (now : S
   pub entries_are : AreEntriesOf geometry images now.cur entries
   pub distinct : IsDistinct nat_eq (0 ∷ parts_in entries)
 
--- entries of the catalog that lay a part in an area that isn't there, or in one twice
+-- entries of the catalog, whose blocks stand, that lay a part in an area that isn't there, or in one
+-- twice
 pub record IsAreaOf (geometry : Geometry) (images : List BeforeImage) (now : Seen)
     (block rule : ℕ) : Type 0 where
   pub entries : List CatEntry
   pub are : AreEntries geometry images now entries
+  pub stands : Stands (catalog_shape geometry) now.cur
   pub shown : IsAreaNo geometry entries block rule
 
 -- the part of an entry of the catalog, where each is on blocks of the volume

@@ -1,6 +1,6 @@
 -- What is found on the blocks of a volume as it is opened, and why one is not opened. The rules are
 -- this project's own.
-use Rattle.std.specs.Prelude.{◌≡◌, ◌≢◌, ◌⊎◌, ◌<◌, ◌+◌, ◌^◌, ℕ, false, List, [], ◌∷◌, All, None}
+use Rattle.std.specs.Prelude.{◌≡◌, ◌≢◌, ◌⊎◌, ◌<◌, ◌≤◌, ◌+◌, ◌^◌, ℕ, false, List, [], ◌∷◌, All, None}
 use Rattle.std.specs.Prelude.{Some}
 use Rattle.std.specs.Prelude.{Option, length, map, nat_eq, slice_get, slice_index_or}
 use Rattle.std.specs.List.{IsDistinct, filter_map}
@@ -126,31 +126,36 @@ pub data IsPartShown (geometry : Geometry) (images : List BeforeImage) (now : Se
       → IsEntryShown geometry (entries_in (catalog_by images content)) now block rule
       → IsPartShown geometry images now block rule
 
--- what the catalog's blocks stand for, once these before-images are put back in it, breaks a rule
+-- whatever the catalog's blocks stand for, once these before-images are put back in it, breaks a rule
 -- that all catalogs keep
 abbrev pub IsNoneOf : Geometry → List BeforeImage → Seen → (Content → Type 0) → Type 0
 IsNoneOf geometry images now Keeps = (content : Content)
     → StandsFor (catalog_shape geometry) now.cur content → Keeps (catalog_by images content) → ⊥
 
--- rules 17 and 18 are shown as 17, at the head of the catalog: what it has isn't a catalog
+-- rules 17 and 18 are shown as 17, at the head of the catalog, whose blocks stand: what it has isn't
+-- a catalog
 pub record IsCatalogShown (geometry : Geometry) (images : List BeforeImage) (now : Seen)
     (block rule : ℕ) : Type 0 where
   pub block_is : block ≡ head_block geometry 0
   pub rule_is : rule ≡ 17
+  pub stands : Stands (catalog_shape geometry) now.cur
   pub damaged : IsNoneOf geometry images now (IsCatalog geometry)
 
--- rule 3 at the head of the catalog, which names an area that the volume hasn't
+-- rule 3 at the head of the catalog, whose blocks stand, and which names an area that the volume
+-- hasn't
 pub record IsAreaShown (geometry : Geometry) (images : List BeforeImage) (now : Seen)
     (block rule : ℕ) : Type 0 where
   pub block_is : block ≡ head_block geometry 0
   pub rule_is : rule ≡ 3
+  pub stands : Stands (catalog_shape geometry) now.cur
   pub damaged : IsNoneOf geometry images now (λ content. AreOn geometry (entries_in content))
 
--- rule 4 at the head of the catalog, which names an area twice
+-- rule 4 at the head of the catalog, whose blocks stand, and which names an area twice
 pub record IsTwiceShown (geometry : Geometry) (images : List BeforeImage) (now : Seen)
     (block rule : ℕ) : Type 0 where
   pub block_is : block ≡ head_block geometry 0
   pub rule_is : rule ≡ 4
+  pub stands : Stands (catalog_shape geometry) now.cur
   pub damaged : IsNoneOf geometry images now (λ content. AreApart (shape_by geometry content))
 
 -- the shapes of the parts that these entries lay, in their order, the catalog's own first
@@ -287,7 +292,7 @@ pub record IsHandedOut (geometry : Geometry) (entries : List CatEntry) (parts : 
   pub sound : log.broken ≡ false
   pub forced : IsForced log
   pub records : log.records ≡ []
-  pub generation : log.generation < 2 ^ 63 + 1
+  pub generation : log.generation ≤ 2 ^ 62
   pub distinct : IsDistinct nat_eq (0 ∷ parts_in entries)
   pub clusters : All IsServedCluster entries
   pub shapes : AreShapesOf geometry entries (map shape_any parts)

@@ -1,10 +1,9 @@
 -- What a volume has for which it is not opened, though it may be one. The limits are this project's
 -- own.
-use Rattle.std.specs.Prelude.{◌≡◌, ◌<◌, ◌≤◌, ◌+◌, ◌^◌, ℕ, List, All, IfSome}
+use Rattle.std.specs.Prelude.{◌≡◌, ◌≤◌, ◌+◌, ℕ, List, All, IfSome}
 use Rattle.vr_types.specs.Content.{Content}
 use Rattle.vr_types.specs.Geometry.{head_block}
 use Rattle.vr_types.specs.Image.{block_at}
-use Rattle.vr_types.specs.LogSpace.{log_size}
 use Rattle.vr_types.specs.Seen.{Seen}
 use Rattle.vr_types.specs.declared.geometry.Geometry.{Geometry}
 use Rattle.vr_space.specs.Part.{StandsFor}
@@ -16,13 +15,11 @@ use Rattle.vr_attach.specs.CatalogRules.{IsCatalog}
 use Rattle.vr_attach.specs.Laid.{catalog_shape}
 use Rattle.vr_history.specs.State.{BeforeImage}
 use Rattle.vr_log.specs.Content.{Content as LogContent}
-use Rattle.vr_log.specs.Live.{used_by}
 use Rattle.vr_log.specs.Spells.{Spells}
 use Rattle.vr_mount.specs.Header.{IsHeaderOf}
 use Rattle.vr_volume.specs.PutBack.{images_of}
 use Rattle.vr_recover.specs.Images.{catalog_by}
 use Rattle.vr_recover.specs.declared.open_no.Unserved.{Unserved}
-use Rattle.vr_recover.specs.declared.open_no.Unserved.TheVariants.{LogAtItsEnd, LogWithoutRoom}
 use Rattle.vr_recover.specs.declared.open_no.Unserved.TheVariants.{OtherKind, LongRecord}
 
 -- ---- what is served
@@ -38,27 +35,10 @@ IsPlain geometry entry = IfSome (cluster_definition entry.entry_kind entry)
 
 -- ---- what isn't
 
--- of a log by what it says
-abbrev pub IsLogCause : Geometry → LogContent → Unserved → Type 0
-IsLogCause geometry content LogAtItsEnd = 2 ^ 63 ≤ content.generation
-IsLogCause geometry content LogWithoutRoom = log_size geometry < used_by content.records
-IsLogCause geometry content OtherKind = ⊥
-IsLogCause geometry content LongRecord = ⊥
-
 -- of a catalog by its entries
 abbrev pub IsEntryCause : Geometry → List CatEntry → Unserved → Type 0
-IsEntryCause geometry entries LogAtItsEnd = ⊥
-IsEntryCause geometry entries LogWithoutRoom = ⊥
 IsEntryCause geometry entries OtherKind = All IsServedCluster entries → ⊥
 IsEntryCause geometry entries LongRecord = All (IsPlain geometry) entries → ⊥
-
--- The log says so, and is shown at its first block.
-pub record IsLogUnserved (geometry : Geometry) (now : Seen) (block : ℕ) (cause : Unserved) : Type 0
-  where
-    pub content : LogContent
-    pub spelled : Spells geometry now.cur content
-    pub block_is : block ≡ 1
-    pub is : IsLogCause geometry content cause
 
 -- The catalog's blocks stand for a catalog with such entries, once these before-images are put back
 -- in it, and it is shown at its head.
@@ -70,13 +50,13 @@ pub record IsCatalogUnserved (geometry : Geometry) (images : List BeforeImage) (
   pub block_is : block ≡ head_block geometry 0
   pub is : IsEntryCause geometry (entries_in (catalog_by images content)) cause
 
--- what isn't served of a volume whose header is in order
-pub data IsUnservedOf (geometry : Geometry) (now : Seen) (block : ℕ) (cause : Unserved) : Type 0 where
-  ByLog : IsLogUnserved geometry now block cause → IsUnservedOf geometry now block cause
-  -- by the catalog that counts: with the before-images put back that the log has of live units
-  ByCatalog : (log : LogContent) → Spells geometry now.cur log
-      → IsCatalogUnserved geometry (images_of log.records) now block cause
-      → IsUnservedOf geometry now block cause
+-- What isn't served of a volume whose header is in order, by the catalog that counts: with the
+-- before-images put back that the log has of live units.
+pub record IsUnservedOf (geometry : Geometry) (now : Seen) (block : ℕ) (cause : Unserved) : Type 0
+  where
+    pub log : LogContent
+    pub spelled : Spells geometry now.cur log
+    pub catalog : IsCatalogUnserved geometry (images_of log.records) now block cause
 
 -- Block 0 is the header of a volume of this number, which has what isn't served.
 pub record IsUnserved (number : ℕ) (now : Seen) (block : ℕ) (cause : Unserved) : Type 0 where

@@ -1,22 +1,19 @@
 //! What opening reads first: the header and the log.
-ghost use Rattle.std.specs.Prelude.{◌≡◌, ◌≤◌, ◌<◌, ◌^◌, ℕ, All, IsTrue, IfOk, IfErr, OnOk, length};
+ghost use Rattle.std.specs.Prelude.{◌≡◌, IsTrue, IfOk, IfErr};
 ghost use Rattle.vr_types.specs.Blocks.{Keeps};
 ghost use Rattle.vr_types.specs.Geometry.{IsAllowed};
 ghost use Rattle.vr_types.specs.Image.{block_at};
-ghost use Rattle.vr_types.specs.LogSpace.{log_size};
 ghost use Rattle.vr_attach.specs.Header.{header_block};
-ghost use Rattle.vr_log.specs.Live.{used_by};
 ghost use Rattle.vr_log.specs.LogNow.{IsOf, made};
-ghost use Rattle.vr_log.specs.Records.{HasFields, bytes_of};
 ghost use Rattle.vr_log.specs.Spells.{Spells};
-ghost use Rattle.vr_recover.specs.Found.{IsLogFound, IsLogNo, ShowsBoth, ShowsOnly};
-ghost use Rattle.vr_recover.specs.OpenNo.{HasOpenCause, IsOwnNo, IsSilentNo};
+ghost use Rattle.vr_recover.specs.Found.{IsLogFound, ShowsOnly};
+ghost use Rattle.vr_recover.specs.OpenNo.{HasOpenCause, IsOwnNo};
 ghost use Rattle.vr_recover.specs.Opening.{IsLogShown, IsRefused};
-ghost use Rattle.vr_recover.specs.Unserved.{IsLogUnserved};
+ghost use Rattle.vr_recover.specs.declared.open_no.OpenNo.TheVariants.{Memory};
 
-use crate::open_no::{OpenNo, Unserved};
+use crate::open_no::OpenNo;
 use std::alloc::Global;
-use vr_log::{LogContent, LogReadNo, UndoLog, has_room, read_back, undo_log};
+use vr_log::{LogContent, LogReadNo, UndoLog, read_back, undo_log};
 use vr_mount::{HeaderNo, read_header};
 use vr_types::{Blocks, DeviceFault, Geometry};
 
@@ -64,9 +61,7 @@ fn read_log<B: Blocks>(
         → IfOk result (Spells geometry.now (B.seen blocks.old).cur) }
     ensures damaged { IsTrue B.tells
         → IfErr result (ShowsOnly (IsLogShown geometry.now (B.seen blocks.old))) }
-    ensures fields { IfOk result (λ content. All HasFields content.records) }
-    ensures size { IfOk result (λ content. length (bytes_of content.records)
-        ≤ log_size geometry.now) }
+    ensures found { IfOk result (IsLogFound geometry.now) }
     ensures keeps { Keeps B.tells (B.seen blocks.old) (B.seen blocks.new) }
     ensures cause { HasOpenCause (B.faults blocks.old) (B.faults blocks.new) result }
 {
@@ -79,48 +74,17 @@ fn read_log<B: Blocks>(
     }
 }
 
-/// What is answered of a log that isn't served: its first block.
-fn log_unserved(cause: Unserved) -> OpenNo
-    ensures { result ≡ OpenNo.Unserved 1 cause }
-{
-    OpenNo::Unserved { block: 1, cause }
-}
-
-/// Whether a log may be gone on with: it has room for the ends of its units, and 2^63 generations
-/// more.
-fn may_go_on(alloc: Global, geometry: &Geometry, content: &LogContent) -> Result<(), OpenNo>
-    requires allowed { IsAllowed geometry.now }
-    requires fields { All HasFields content.now.records }
-    requires size { length (bytes_of content.now.records) ≤ log_size geometry.now }
-    ensures found { OnOk result (IsLogFound geometry.now content.now) }
-    ensures unserved { IfErr result (ShowsBoth (λ block rule. ⊥)
-        (IsLogNo geometry.now content.now)) }
-    ensures own { IfErr result IsOwnNo }
-{
-    if content.generation() >= 1 << 63 {
-        return Err(log_unserved(Unserved::LogAtItsEnd));
-    }
-    let room = has_room(alloc, geometry, content)?;
-    if !room {
-        return Err(log_unserved(Unserved::LogWithoutRoom));
-    }
-    Ok(())
-}
-
-/// The log, to go on with.
+/// The log, to go on with. It fails only if memory runs out.
 fn begin(alloc: Global, geometry: &Geometry, content: LogContent) -> Result<Box<Begun>, OpenNo>
     requires allowed { IsAllowed geometry.now }
-    requires fields { All HasFields content.records }
-    requires size { length (bytes_of content.records) ≤ log_size geometry.now }
+    requires found { IsLogFound geometry.now content }
     ensures geometry { IfOk result (λ begun. begun.value.geometry ≡ geometry.now) }
     ensures content { IfOk result (λ begun. begun.value.content ≡ content) }
     ensures log { IfOk result (λ begun. begun.value.log ≡ made geometry.now content) }
     ensures found { IfOk result (λ begun. IsLogFound geometry.now begun.value.content) }
-    ensures unserved { IfErr result (ShowsBoth (λ block rule. ⊥)
-        (IsLogNo geometry.now content)) }
+    ensures memory { IfErr result (λ no. no ≡ Memory) }
     ensures own { IfErr result IsOwnNo }
 {
-    may_go_on(alloc, geometry, &content)?;
     let log = undo_log(alloc, geometry, &content)?;
     let begun = Begun {
         geometry: *geometry,
@@ -148,8 +112,7 @@ pub(crate) fn begin_log<B: Blocks>(
         ≡ made geometry.now begun.value.content) }
     ensures found { IfOk result (λ begun. IsLogFound geometry.now begun.value.content) }
     ensures damaged { IsTrue B.tells
-        → IfErr result (ShowsBoth (IsLogShown geometry.now (B.seen blocks.old))
-        (IsLogUnserved geometry.now (B.seen blocks.old))) }
+        → IfErr result (ShowsOnly (IsLogShown geometry.now (B.seen blocks.old))) }
     ensures keeps { Keeps B.tells (B.seen blocks.old) (B.seen blocks.new) }
     ensures cause { HasOpenCause (B.faults blocks.old) (B.faults blocks.new) result }
 {

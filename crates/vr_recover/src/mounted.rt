@@ -10,7 +10,7 @@ ghost use Rattle.vr_catalog.specs.Catalog.{parts_in};
 ghost use Rattle.vr_catalog.specs.Definition.{catalog_definition as definition_of_catalog};
 ghost use Rattle.vr_keyed.specs.Attached.{IsAttachedTo};
 ghost use Rattle.vr_part.specs.Any.{shape_any};
-ghost use Rattle.vr_space.specs.Areas.{KnowsAreas};
+ghost use Rattle.vr_space.specs.Areas.{KnowsAreas, intervals_in};
 ghost use Rattle.vr_space.specs.Part.{IsOn, KeyedShape, Stands, owned_count};
 ghost use Rattle.vr_log.specs.LogNow.{IsOf};
 ghost use Rattle.vr_mount.specs.Areas.{AreOn, catalog_part};
@@ -81,6 +81,8 @@ fn list<B: Blocks>(alloc: Global, blocks: &mut B, part: &mut Keyed) -> Result<Ve
     requires stands { IsTrue B.tells → Stands (KeyedShape part.old.part) (B.seen blocks.old).cur }
     requires knows { IsTrue B.tells
         → KnowsAreas part.old.part part.old.areas part.old.ends (B.seen blocks.old).cur }
+    requires counted { IsTrue B.tells
+        → part.old.intervals ≡ intervals_in part.old.part (B.seen blocks.old).cur }
     requires split { part.old.split ≡ None }
     requires moves { part.old.move ≡ None }
     requires met { part.old.met ≡ [] }
@@ -184,6 +186,8 @@ fn attach_own<B: Blocks>(
         (Stands (catalog_shape geometry.now) (B.seen blocks.old).cur) }
     ensures knows { IsTrue B.tells → IfOk result (λ own.
         KnowsAreas own.part own.areas own.ends (B.seen blocks.old).cur) }
+    ensures counted { IsTrue B.tells → IfOk result (λ own.
+        own.intervals ≡ intervals_in own.part (B.seen blocks.old).cur) }
     ensures damaged { IsTrue B.tells → IfErr result (ShowsOnly
         (IsCatalogPartShown geometry.now (B.seen blocks.old).cur)) }
     ensures keeps { Keeps B.tells (B.seen blocks.old) (B.seen blocks.new) }

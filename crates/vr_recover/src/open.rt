@@ -157,9 +157,10 @@ fn open_numbered<B: Blocks>(
 
 /// Opens the volume of this number, on this many blocks. It forces all blocks, reads the header, the
 /// log, the catalog and each part that the catalog lays, puts the before-images of units of recovery
-/// back that have no end, ends these units as backed out, and begins the next generation of the log
-/// (backout after a failure, DFSMStvs Planning and Operating Guide). Nothing is put before all of it
-/// is found to be in order.
+/// back that have no end, ends these units as backed out, and begins the log again: its next
+/// generation, or where it has generation 2^62 or more, anew, so that its generations never come to
+/// an end (backout after a failure, DFSMStvs Planning and Operating Guide). Nothing is put before all
+/// of it is found to be in order.
 ///
 /// `Damaged`: the blocks are those of no volume of that number: a block that breaks a rule, and the
 /// rule. `Version`: block 0 states another version, and so they are none. Nothing was put then.

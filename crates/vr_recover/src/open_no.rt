@@ -8,10 +8,6 @@ use vr_types::{DeviceFault, OutOfMemory};
 /// own.
 #[derive(Clone, Copy)]
 pub enum Unserved {
-    /// The log has reached generation 2^63, so that there is no room for those of later runs.
-    LogAtItsEnd,
-    /// The log has no room for the ends of its units of recovery.
-    LogWithoutRoom,
     /// The catalog has an entry that is no cluster: an alternate index or a path.
     OtherKind,
     /// The catalog has a cluster whose longest record has no room in an interval of its own.
@@ -30,7 +26,7 @@ pub enum OpenNo {
     /// Block 0 begins as a header, of another version.
     Version { found: u32 },
     /// The header is that of a volume of that number, which has what isn't served: the block that
-    /// has it, the first one of the log or the catalog's head.
+    /// has it, the catalog's head.
     Unserved { block: u32, cause: Unserved },
     /// A read of the device failed.
     Read,

@@ -1,5 +1,5 @@
 //! Making a volume that was found one without units of recovery.
-ghost use Rattle.std.specs.Prelude.{◌≡◌, ◌<◌, ◌≤◌, ◌+◌, ◌^◌, [], ℕ, All, IsTrue, IfErr, OnOk};
+ghost use Rattle.std.specs.Prelude.{◌≡◌, ◌≤◌, ◌^◌, [], ℕ, All, IsTrue, IfErr, OnOk};
 ghost use Rattle.std.specs.Prelude.{false, length, map};
 ghost use Rattle.vr_types.specs.Blocks.{AllForced};
 ghost use Rattle.vr_types.specs.Content.{Content};
@@ -9,7 +9,7 @@ ghost use Rattle.vr_types.specs.Moments.{Guards};
 ghost use Rattle.vr_types.specs.Regions.{Touches};
 ghost use Rattle.vr_space.specs.Owners.{Owners};
 ghost use Rattle.vr_attach.specs.Owning.{IsPastLog, owner_of};
-ghost use Rattle.vr_log.specs.LogNow.{IsForced, IsOf, made, next_generation};
+ghost use Rattle.vr_log.specs.LogNow.{IsForced, IsOf, made};
 ghost use Rattle.vr_log.specs.Records.{HasFields, bytes_of};
 ghost use Rattle.vr_log.specs.Spells.{Spells};
 ghost use Rattle.vr_log.specs.Standing.{InLog, IsSettled, LogStands};
@@ -70,8 +70,8 @@ fn clear<B: Blocks>(
     }
 }
 
-/// Puts the before-images of live units back, ends these units, and begins the next generation of
-/// the log. The log is that of the content.
+/// Puts the before-images of live units back, ends these units, and begins the log again. The log is
+/// that of the content.
 fn undo<B: Blocks>(
     alloc: Global,
     blocks: &mut B,
@@ -92,8 +92,7 @@ fn undo<B: Blocks>(
         (B.seen blocks.old)
         → Guards (B.seen blocks.old) (B.seen blocks.new)
         (KeepsAll begun.old.log.geometry number (images_of begun.old.log.records) contents) }
-    ensures undone { IsTrue B.tells → begun.old.log.generation + 1 < 2 ^ 64
-        → OnOk result ((number : ℕ) (owners : Owners)
+    ensures undone { IsTrue B.tells → OnOk result ((number : ℕ) (owners : Owners)
         (contents : ℕ → Content)
         → IsSettledBy number owners begun.old.log contents (map shape_any parts.old.items)
         (B.seen blocks.old)
@@ -107,14 +106,12 @@ fn undo<B: Blocks>(
     ensures split { All HasNoSplit parts.new.items }
     ensures areas { areas_kept parts.new.items ≡ areas_kept parts.old.items }
     ensures records { OnOk result (begun.new.log.records ≡ []) }
-    ensures generation { OnOk result
-        (begun.new.log.generation ≡ next_generation begun.old.log.generation) }
+    ensures generation { OnOk result (begun.new.log.generation ≤ 2 ^ 62) }
     ensures geometry { OnOk result (begun.new.log.geometry ≡ begun.old.log.geometry) }
     ensures sound { OnOk result (begun.new.log.broken ≡ false) }
     ensures forced { OnOk result (IsForced begun.new.log) }
     ensures shape { OnOk result (IsOf begun.new.log.geometry (B.seen blocks.new)) }
-    ensures stands { IsTrue B.tells → begun.old.log.generation + 1 < 2 ^ 64
-        → OnOk result (LogStands begun.new.log (B.seen blocks.new)) }
+    ensures stands { IsTrue B.tells → OnOk result (LogStands begun.new.log (B.seen blocks.new)) }
     ensures silent { IfErr result IsSilentNo }
     ensures cause { HasOpenCause (B.faults blocks.old) (B.faults blocks.new) result }
 {
@@ -132,7 +129,7 @@ fn undo<B: Blocks>(
 
 /// Makes a volume that was found one without units of recovery: what an earlier log left past the
 /// end of this one becomes zeros, the before-images of live units are put back, these units are
-/// ended, and the next generation of the log begins. In every image of every moment, whether it
+/// ended, and the log is begun again. In every image of every moment, whether it
 /// fails or not, the blocks recover to what they recovered to, and keep what was withdrawn. Once it is
 /// done the volume is safe by who owns the areas, and its parts have what they had, with the
 /// before-images put back.
@@ -174,7 +171,7 @@ pub(crate) fn restore<B: Blocks>(
     ensures split { OnOk result (All HasNoSplit parts.new.items) }
     ensures areas { OnOk result (areas_kept parts.new.items ≡ areas_kept parts.old.items) }
     ensures records { OnOk result (begun.new.log.records ≡ []) }
-    ensures generation { OnOk result (begun.new.log.generation < 2 ^ 63 + 1) }
+    ensures generation { OnOk result (begun.new.log.generation ≤ 2 ^ 62) }
     ensures geometry { OnOk result (begun.new.log.geometry ≡ geometry.now) }
     ensures sound { OnOk result (begun.new.log.broken ≡ false) }
     ensures forced { OnOk result (IsForced begun.new.log) }

@@ -1,5 +1,5 @@
 //! Undoing what units of recovery changed that a crash left without an end.
-ghost use Rattle.std.specs.Prelude.{◌≡◌, ◌<◌, ◌+◌, ◌^◌, [], ℕ, IsTrue, IfErr, OnOk, All, false};
+ghost use Rattle.std.specs.Prelude.{◌≡◌, ◌≤◌, ◌^◌, [], ℕ, IsTrue, IfErr, OnOk, All, false};
 ghost use Rattle.std.specs.Prelude.{map};
 ghost use Rattle.vr_types.specs.Content.{Content};
 ghost use Rattle.vr_types.specs.Moments.{Guards};
@@ -7,7 +7,7 @@ ghost use Rattle.vr_space.specs.Owners.{Owners};
 ghost use Rattle.vr_part.specs.Any.{known_any, shape_any};
 ghost use Rattle.vr_space.specs.Part.{IsOn, part_no};
 ghost use Rattle.vr_attach.specs.Owning.{IsPastLog};
-ghost use Rattle.vr_log.specs.LogNow.{IsForced, IsOf, next_generation};
+ghost use Rattle.vr_log.specs.LogNow.{IsForced, IsOf};
 ghost use Rattle.vr_log.specs.Standing.{LogStands};
 ghost use Rattle.vr_volume.specs.PutBack.{AreAlone, images_of};
 ghost use Rattle.vr_recover.specs.Recovered.{KeepsAll};
@@ -33,8 +33,7 @@ use vr_space::Kept;
 use vr_types::Blocks;
 
 /// Puts the before-images that the log has of live units back into the parts, forces that, ends
-/// each unit as backed out, and begins the next generation of the log. `records` are those of the
-/// log. In every image of every moment, whether it fails or not, the blocks recover to the records of
+/// each unit as backed out, and begins the log again. `records` are those of the log. In every image of every moment, whether it fails or not, the blocks recover to the records of
 /// what was committed, and what was withdrawn stays so; once it is done the volume is safe, with a
 /// log of no records, and whatever a crash leaves of its parts has their items.
 pub(crate) fn undo_units<B: Blocks, K: Kept>(
@@ -67,8 +66,7 @@ pub(crate) fn undo_units<B: Blocks, K: Kept>(
         → IsSettled number owners log.old contents (map shape_any parts.old) (B.seen blocks.old)
         → Guards (B.seen blocks.old) (B.seen blocks.new)
         (KeepsAll log.old.geometry number (images_of log.old.records) contents) }
-    ensures undone { IsTrue B.tells → log.old.generation + 1 < 2 ^ 64
-        → OnOk result ((number : ℕ) (owners : Owners)
+    ensures undone { IsTrue B.tells → OnOk result ((number : ℕ) (owners : Owners)
         (contents : ℕ → Content)
         → IsSettled number owners log.old contents (map shape_any parts.old) (B.seen blocks.old)
         → IsUndone number owners log.new contents (B.seen blocks.new)) }
@@ -82,17 +80,16 @@ pub(crate) fn undo_units<B: Blocks, K: Kept>(
     ensures split { All HasNoSplit parts.new }
     ensures areas { areas_kept parts.new ≡ areas_kept parts.old }
     ensures records { OnOk result (log.new.records ≡ []) }
-    ensures generation { OnOk result (log.new.generation ≡ next_generation log.old.generation) }
+    ensures generation { OnOk result (log.new.generation ≤ 2 ^ 62) }
     ensures geometry { OnOk result (log.new.geometry ≡ log.old.geometry) }
     ensures sound { OnOk result (log.new.broken ≡ false) }
     ensures forced { OnOk result (IsForced log.new) }
     ensures shape { OnOk result (IsOf log.new.geometry (B.seen blocks.new)) }
-    ensures stands { IsTrue B.tells → log.old.generation + 1 < 2 ^ 64
-        → OnOk result (LogStands log.new (B.seen blocks.new)) }
+    ensures stands { IsTrue B.tells → OnOk result (LogStands log.new (B.seen blocks.new)) }
     ensures silent { IfErr result IsSilentNo }
     ensures cause { HasOpenCause (B.faults blocks.old) (B.faults blocks.new) result }
 {
     put_back_all(alloc, blocks, count, parts, kept, log, records)?;
-    end_all(blocks, log, records)?;
+    end_all(alloc, blocks, log, records)?;
     Ok(())
 }

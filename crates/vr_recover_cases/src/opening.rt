@@ -112,8 +112,6 @@ fn say_no(out: &mut String, no: OpenNo) -> Answer {
 
 fn cause_word(cause: Unserved) -> &'static str {
     match cause {
-        Unserved::LogAtItsEnd => "LogAtItsEnd",
-        Unserved::LogWithoutRoom => "LogWithoutRoom",
         Unserved::OtherKind => "OtherKind",
         Unserved::LongRecord => "LongRecord",
     }

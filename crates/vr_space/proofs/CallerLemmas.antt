@@ -43,6 +43,10 @@ pub use Rattle.vr_space.proofs.SameEnds.{areas-kept, each-after-kept, ends-follo
 pub use Rattle.vr_space.proofs.SameEnds.{keeps-head, knows-kept, links-in-kept, links-kept}
 pub use Rattle.vr_space.proofs.SameEnds.{ways-down, ways-up}
 pub use Rattle.vr_space.proofs.EntryCounts.{entries-below, head-entries}
+pub use Rattle.vr_space.proofs.IntervalCounts.{AreOnce, OthersCount, areas-once, chain-once}
+pub use Rattle.vr_space.proofs.IntervalCounts.{head-intervals, interval_count, intervals-changed}
+pub use Rattle.vr_space.proofs.IntervalCounts.{intervals-grown, intervals-kept, intervals-most}
+pub use Rattle.vr_space.proofs.IntervalCounts.{intervals-parted, intervals-same, used-within}
 pub use Rattle.vr_space.proofs.UnderWay.{AreaStays, IsSplitBlock, StaysAt, AllStay, found-in}
 pub use Rattle.vr_space.proofs.UnderWay.{free-in}
 pub use Rattle.vr_space.proofs.UnderWay.{begun-stays, way-stays, way-puts, met-stays}

@@ -27,6 +27,7 @@ use Rattle.vr_space.specs.Split.{keyed_fits, keyed_stage, move_stage, split_in, 
 use Rattle.vr_space.specs.UnderWay.{KeyedUnderWay}
 use Rattle.vr_space.proofs.Adding.{rest-stands}
 use Rattle.vr_space.proofs.Ends.{same-ends}
+use Rattle.vr_space.proofs.IntervalCounts.{intervals-kept}
 use Rattle.vr_space.proofs.LinkedContent.{area-found}
 use Rattle.vr_space.proofs.Links.{area-each, each-after-image, each-after-less, links-each}
 use Rattle.vr_space.proofs.Links.{links-image}
@@ -177,6 +178,8 @@ module _ (a b : Seen) where
         (each-same part owners a b stays sound left) met.0,
     All-weaker (IsChainMet part a.cur) (IsChainMet part b.cur)
         (chain-met part owners a b stays sound left) known.met met.1,
+    met.2 ∙ sym (intervals-kept part a.cur b.cur (areas-stay part owners a b stays sound left)
+        (λ area inside. (area-still part owners a b stays sound left area inside).same)),
   )
   met-known (NumberedShape part) owners known stays sound left met =
       numbered-known part owners a b stays sound left known met

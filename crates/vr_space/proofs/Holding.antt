@@ -14,7 +14,7 @@ use Rattle.vr_space.specs.Keyed.{InArea}
 use Rattle.vr_space.specs.Known.{Known, areas_held, held_with}
 use Rattle.vr_space.specs.Moves.{IsPastClaim, IsPastClaimStage, MoveUnderWay, OwnsInto}
 use Rattle.vr_space.specs.Owners.{Owners}
-use Rattle.vr_space.specs.Part.{AreMet, InHeld, InPart, IsSound, IsUnderWay}
+use Rattle.vr_space.specs.Part.{InHeld, InPart, IsSound, IsUnderWay}
 use Rattle.vr_space.specs.Part.{KeepsChain, KeyedShape, Knows, MayGrow, NumberedShape, OwnsClaimed}
 use Rattle.vr_space.specs.Part.{Shape, held_by}
 use Rattle.vr_space.specs.Split.{MoveNow}

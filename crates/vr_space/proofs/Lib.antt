@@ -20,6 +20,7 @@ pub mod NumberedKnown
 pub mod UnderWay
 pub mod MovesUnderWay
 pub mod AreaPlaces
+pub mod IntervalCounts
 pub mod Searching
 pub mod NumberedRooms
 pub mod Adding

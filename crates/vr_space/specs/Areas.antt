@@ -3,7 +3,8 @@
 -- an area go on where those of the one before it end, and those of the last go up to the greatest
 -- key. What a crash may leave of a chain is this project's own rule.
 use Rattle.std.specs.Prelude.{◌≡◌, ℕ, zero, suc, ◌+◌, ◌<◌, ◌≤◌, Bool, false, List, [], ◌∷◌}
-use Rattle.std.specs.Prelude.{◌++◌, Option, Some, None, IfSome, map, replicate, if◌then◌else◌}
+use Rattle.std.specs.Prelude.{◌++◌, Option, Some, None, IfSome, length, map, replicate}
+use Rattle.std.specs.Prelude.{if◌then◌else◌}
 use Rattle.std.specs.Ordering.{is_le}
 use Rattle.vr_types.specs.Content.{Content, place_cmp}
 use Rattle.vr_types.specs.Geometry.{IsAllowed, area_count, head_block}
@@ -122,6 +123,15 @@ areas_after part image (suc k) area =
 
 abbrev pub areas_in : KeyedChain → Image → List ℕ
 areas_in part image = areas_after part image (area_count part.geometry) part.first
+
+-- how many intervals the heads of these areas lead to, and those of the chain
+abbrev pub intervals_over : KeyedChain → Image → List ℕ → ℕ
+intervals_over part image [] = 0
+intervals_over part image (area ∷ areas) =
+    length (entries_of (head_in part image area)) + intervals_over part image areas
+
+abbrev pub intervals_in : KeyedChain → Image → ℕ
+intervals_in part image = intervals_over part image (areas_in part image)
 
 -- the records of an area, and of the chain from one on
 abbrev pub content_in : KeyedChain → Image → ℕ → Content

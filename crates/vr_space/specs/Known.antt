@@ -7,8 +7,8 @@ use Rattle.vr_space.specs.Split.{AreaSplit, MoveNow}
 
 -- The split of an interval that is under way, or that of an area, and the intervals that the last
 -- two calls of `room` met, the last one first; the areas of its chain in their order, of a keyed
--- part where the ranges of each end, and of a chain of rosters how many intervals of them are used;
--- and of an entry-sequenced part where its last item ends.
+-- part where the ranges of each end; how many intervals its heads lead to, or its rosters use; and
+-- of an entry-sequenced part where its last item ends.
 pub record Known : Type 0 where
   pub split : Option AreaSplit
   pub move : Option MoveNow

@@ -14,6 +14,7 @@ pub mod Met
 pub mod Slots
 pub mod Entries
 pub mod Known
+pub mod Left
 pub mod Numbered
 pub mod Part
 pub mod Search

@@ -1,6 +1,6 @@
 -- A part of a volume on its blocks: what they stand for, which items each place may hold in the
 -- images that a crash may leave, and what a call adds to that. The rules are this project's own.
-use Rattle.std.specs.Prelude.{◌≡◌, ◌≢◌, ◌⊎◌, ◌≤◌, ◌+◌, ℕ, Bool, List, Option, Some, None, All}
+use Rattle.std.specs.Prelude.{◌≡◌, ◌≢◌, ◌⊎◌, ◌<◌, ◌≤◌, ◌+◌, ℕ, Bool, List, Option, Some, None, All}
 use Rattle.std.specs.Prelude.{◌++◌, ◌∷◌, [], Contains, filter, length, option_and_then}
 use Rattle.std.specs.Option.{option_map}
 use Rattle.vr_types.specs.Content.{Content, Item, item_at, record_of}
@@ -25,6 +25,7 @@ use Rattle.vr_space.specs.declared.room.Room.TheVariants.{Stage}
 use Rattle.vr_space.specs.Whence.{allows}
 use Rattle.vr_space.specs.Room.{Lengths, length_at}
 use Rattle.vr_space.specs.Known.{Known, areas_held}
+use Rattle.vr_space.specs.Left.{added_by, keyed_left, numbered_left}
 use Rattle.vr_space.specs.Split.{IsIntervalStage, keyed_room, keyed_stage, keyed_fits}
 use Rattle.vr_space.specs.UnderWay.{KeyedUnderWay}
 use Rattle.vr_space.specs.Moves.{IsAreaStage, IsPastClaim, MoveUnderWay, OwnsInto}
@@ -33,7 +34,7 @@ use Rattle.vr_space.specs.Owners.{Owners}
 use Rattle.vr_space.specs.Keyed.{InArea, IsValid, key_of}
 use Rattle.vr_space.specs.Areas.{ChainHasRoom, ChainKeepsRoom, ChainStandsFor, ChainStaysIn}
 use Rattle.vr_space.specs.Areas.{IsChainAtRest, IsChainOn, IsChainSound, KeyedChain, area_of}
-use Rattle.vr_space.specs.Areas.{KnowsAreas, chain_way}
+use Rattle.vr_space.specs.Areas.{KnowsAreas, chain_way, intervals_in}
 use Rattle.vr_space.specs.Rosters.{IsInArea, IsOf, Numbered}
 use Rattle.vr_space.specs.Numbered.{IsKeptLength, IsNumberPlace, IsNumberedAtRest, IsNumberedLength}
 use Rattle.vr_space.specs.Numbered.{IsNumberedOn, IsNumberedRecord, IsNumberedSound, KeepsNumbered}
@@ -254,6 +255,7 @@ OwnsClaimed (NumberedShape part) owners known = Unit {0}
 abbrev pub AreMet : Shape → Known → Image → Type 0
 AreMet (KeyedShape part) known image =
     KnowsAreas part known.areas known.ends image × All (IsChainMet part image) known.met
+    × (known.used ≡ intervals_in part image)
 AreMet (NumberedShape part) known image = KnowsChain part known image
 
 -- The blocks are as the part knows them: by its split under way, and those that it met.
@@ -305,10 +307,17 @@ abbrev pub KeepsChain : Shape → List ℕ → List ℕ → List (Option PartNo)
 KeepsChain shape areas after old new = (HoldsSame areas after × (new ≡ old))
     ⊎ HoldsMore (part_no shape) areas after old new
 
--- what a stage leaves: a split that goes on, or one interval more of a chain under rosters
-abbrev pub HasMore : Shape → Known → Known → Type 0
-HasMore (KeyedShape part) old new = (new.split ≢ old.split) ⊎ (new.move ≢ old.move)
-HasMore (NumberedShape part) old new = new.used ≡ old.used + 1
+-- how many stages a part may still do, with this many areas free on the volume
+abbrev pub left_of : Shape → Known → ℕ → ℕ
+left_of (KeyedShape part) known free = keyed_left part known free
+left_of (NumberedShape part) known free = numbered_left part known free
+
+-- What a stage leaves, where this many areas were free before it and are free now: fewer stages
+-- than before, and as many intervals more as it adds.
+pub record HasMore (shape : Shape) (kind : StageKind) (old new : Known) (free now : ℕ) : Type 0
+  where
+    pub fewer : left_of shape new now < left_of shape old free
+    pub used : new.used ≡ old.used + added_by kind
 
 -- the owners are those of as many areas as the volume has
 abbrev pub HasOwners : Shape → List (Option PartNo) → Type 0

@@ -145,6 +145,7 @@ pub trait Part {
         ensures split { (known self.new).split ≡ (known self.old).split }
         ensures moves { (known self.new).move ≡ (known self.old).move }
         ensures areas { (known self.new).areas ≡ (known self.old).areas }
+        ensures used { (known self.new).used ≡ (known self.old).used }
         ensures tail { (known self.new).tail ≡ (known self.old).tail }
         ensures put { put self.new ≡ put self.old };
 
@@ -182,12 +183,13 @@ pub trait Part {
             space.old space.new) }
         ensures chain_stays { OnErr result (held_by (shape self.old) (known self.new)
             ≡ held_by (shape self.old) (known self.old)) }
-        // A split goes on, or a chain under rosters has one interval more.
+        // Fewer stages are left, so that the caller asks only so often; what is used is counted.
         ensures more { IsTrue B.tells → HasOwners (shape self.old) space.old
             → (owners grown : Owners) → MayGrow (shape self.old) space.old owners grown
             → IsAtRest (shape self.old) owners (B.seen blocks.old)
             → OwnsClaimed (shape self.old) owners (known self.old)
-            → OnOk result (HasMore (shape self.old) (known self.old) (known self.new)) }
+            → IfOk result (λ kind. HasMore (shape self.old) kind (known self.old) (known self.new)
+            (free_count space.old) (free_count space.new)) }
         // At every moment, whether it fails or not.
         ensures adds { IsTrue B.tells → (owners grown : Owners)
             → MayGrow (shape self.old) space.old owners grown
@@ -291,7 +293,8 @@ pub trait Part {
         ensures shape { shape self.new ≡ shape self.old }
         ensures split { (known self.new).split ≡ (known self.old).split }
         ensures moves { (known self.new).move ≡ (known self.old).move }
-        ensures areas { (known self.new).areas ≡ (known self.old).areas };
+        ensures areas { (known self.new).areas ≡ (known self.old).areas }
+        ensures used { (known self.new).used ≡ (known self.old).used };
 
     /// The address that the next record of this length gets, in bytes from the start of the part
     /// (DFSMS Using Data Sets, relative byte address). None of a part that isn't entry-sequenced. It

@@ -10,7 +10,7 @@ use Rattle.vr_types.specs.Image.{Block, Image, block_at}
 use Rattle.vr_types.specs.Seen.{Seen, Left, Only}
 use Rattle.vr_types.specs.Blocks.{Keeps, Puts}
 use Rattle.vr_types.specs.declared.unit.StageKind.{StageKind}
-use Rattle.vr_types.specs.declared.unit.StageKind.TheVariants.{CiSwitch, CiClean}
+use Rattle.vr_types.specs.declared.unit.StageKind.TheVariants.{CiCopy, CiSwitch, CiClean}
 use Rattle.vr_ci_match.specs.declared.form.Form.TheVariants.{Plain}
 use Rattle.vr_ci.specs.Interval as ci
 use Rattle.vr_ci.proofs.CallerLemmas.{interval_room}
@@ -32,6 +32,8 @@ use Rattle.vr_split.specs.Switching.{IsResting, KeepsPart, IsStageDone, IsInterv
 use Rattle.vr_split.specs.Switching.{CanReplace, CanSwitch, IsSettledAt}
 use Rattle.vr_split.specs.Halves.{halves, MakesUpper, MakesLower, MakesHead, IsBusyCopy}
 use Rattle.vr_split.specs.Halves.{halved_record}
+use Rattle.vr_split.specs.Splits.{AddsEntries}
+use Rattle.vr_split.proofs.HalvedRules.{halved-count}
 use Rattle.vr_split.proofs.Ready.{head-now, old-holds, old-block, into-block, into-free, two-blocks}
 use Rattle.vr_split.proofs.Ready.{can-halve, into-in}
 use Rattle.vr_split.proofs.EachStage.{can-copy, can-switch, can-clean, clean-holds, settled-old}
@@ -132,6 +134,13 @@ module _ (part : Keyed) (tells : Bool) (told : IsTrue tells) (a m : Seen) (call 
   then-done b further = done-then part [] a m b kept-done further
 
 -- ---- the puts of the stages, after the reads
+
+-- a head that stays has as many entries
+same-count : (part : Keyed) (old new : Seen)
+    → block_at old.cur part.head ≡ block_at new.cur part.head
+    → length (entries_of (block_at old.cur part.head))
+    ≡ length (entries_of (block_at new.cur part.head))
+same-count part old new same = ap (λ (top : Block). length (entries_of top)) same
 
 -- the stage is no part of what a split left
 pub begun-at : (part : Keyed) (split : SplitNow) (image : Image) (stage : StageKind)
@@ -238,6 +247,18 @@ module _ (part : Keyed) (tells : Bool) (told : IsTrue tells) (split : SplitNow) 
         ∙ (makes begun.at (head-now part split a rests left) begun.found begun.below
         (old-holds part split a rests left begun)).idle
 
+    -- the head stays
+    pub copy-counts : (b : Seen)
+        → ((n : ℕ) → n ≢ into → n ≢ old → block_at b.cur n ≡ block_at m.cur n)
+        → AddsEntries part CiCopy a.cur b.cur
+    copy-counts b elsewhere = omega (
+      arith,
+      same-count part b m
+          (elsewhere part.head (λ same. omega (arith, same, into_is))
+          (λ same. omega (arith, same, old_is))),
+      ap (λ (image : Image). length (entries_of (block_at image part.head))) (call.content told),
+    )
+
   module _ (copied : IsCopied part split m) (top : Block) (long : length top ≡ part.size)
       (makes : MakesHead part.area (block_at a.cur part.head) split.old split.into split.cut top)
     where
@@ -277,6 +298,21 @@ module _ (part : Keyed) (tells : Bool) (told : IsTrue tells) (split : SplitNow) 
           spelled-m)
           ∙ ap (λ (image : Image). halves split.old split.into split.cut
           (entries_of (block_at image part.head))) (call.content told)
+
+      -- one more than it had
+      pub switch-counts : (b : Seen) → block_at b.cur part.head ≡ top
+          → AddsEntries part CiSwitch a.cur b.cur
+      switch-counts b now =
+          let top_m : Block = block_at m.cur part.head in
+          let more : length (halves split.old split.into split.cut (entries_of top_m))
+          ≡ length (entries_of top_m) + 1 =
+          halved-count part.area (length top_m) split.old split.into split.cut (record_in top_m)
+          (head-now part split m rest-m still).spelled.rules
+          (can-halve part split m rest-m still copied.begun) in
+          ap (λ (entries : List Entry). length entries) (switch-entries b now)
+          ∙ subst (λ (image : Image).
+          length (halves split.old split.into split.cut (entries_of (block_at image part.head)))
+          ≡ length (entries_of (block_at image part.head)) + 1) (call.content told) more
 
   module _ (switched : IsSwitched part split m) (old : ℕ)
       (old_is : old ≡ interval_block part split.old) (lower : Block)
@@ -323,3 +359,12 @@ module _ (part : Keyed) (tells : Bool) (told : IsTrue tells) (split : SplitNow) 
         ap (λ (n : ℕ). is_busy (block_at b.cur n)) (sym old_is) ∙ ap is_busy now
         ∙ (made switched.at (head-now part split m rest-m still) switched.found
         (clean-holds part [] split m (record { rests = rest-m; room = kept }) still switched)).idle
+
+    -- the head stays
+    pub clean-counts : (b : Seen) → ((n : ℕ) → n ≢ old → block_at b.cur n ≡ block_at m.cur n)
+        → AddsEntries part CiClean a.cur b.cur
+    clean-counts b elsewhere = omega (
+      arith,
+      same-count part b m (elsewhere part.head (λ same. omega (arith, same, old_is))),
+      ap (λ (image : Image). length (entries_of (block_at image part.head))) (call.content told),
+    )

@@ -335,6 +335,39 @@ more-entries old into cut (entry ∷ entries) =
     ))
     (cases_eq (slot entry) old)
 
+-- one more, where one entry has the interval
+one-more : (old into : ℕ) (cut : List ℕ) (low : Option (List ℕ)) (entries : List Entry)
+    (at : Range × Entry) → AreApart entries → entry_for low entries cut ≡ Some at
+    → slot at.1 ≡ old → length (halves old into cut entries) ≡ length entries + 1
+one-more old into cut low [] at once leads is = absurd (none-some cut low at leads)
+one-more old into cut low (entry ∷ entries) at once leads is = ⊎_elim
+    (λ here.
+    let same : slot entry ≡ old = ap slot (sym here.is_it) ∙ is in
+    omega (
+      arith,
+      ap (λ (es : List Entry). length es) (halves-both old into cut entry entries same),
+      ap (λ (es : List Entry). length es) (halves-none old into cut entries
+          (subst (λ (n : ℕ). OtherThan n entries) same once.0)),
+    ))
+    (λ on.
+    let other : slot entry ≢ old = λ here.
+    without-found (slot entry) (Some entry.high) entries cut at once.0 on.further
+    (is ∙ sym here) in
+    omega (
+      arith,
+      ap (λ (es : List Entry). length es) (halves-one old into cut entry entries other),
+      one-more old into cut (Some entry.high) entries at once.1 on.further is,
+    ))
+    (led low entry entries cut at leads)
+
+pub halved-count : (cis size old into : ℕ) (cut : List ℕ) (s : SequenceSet)
+    → KeepsRules cis size s → CanHalve cis size old into cut s
+    → length (halves old into cut s.entries) ≡ length s.entries + 1
+halved-count cis size old into cut s rules can =
+    one-more old into cut (low_in s) s.entries can.place.at
+    (are-apart s.entries can.others.single rules.numbers.once)
+    (found-above (low_in s) s.entries cut can.place.at can.place.leads).leads can.place.is_old
+
 pub halves-some : (old into : ℕ) (cut : List ℕ) (low : Option (List ℕ)) (entries : List Entry)
     (at : Range × Entry) → entry_for low entries cut ≡ Some at
     → 0 < length (halves old into cut entries)

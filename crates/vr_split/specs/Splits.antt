@@ -1,10 +1,11 @@
 -- A split of a control interval as it goes on, stage by stage. The stages are this project's own.
-use Rattle.std.specs.Prelude.{◌≡◌, false, ℕ, ◌<◌, List, Option, Some, None}
+use Rattle.std.specs.Prelude.{◌≡◌, false, ℕ, ◌+◌, ◌<◌, List, Option, Some, None, length}
 use Rattle.vr_types.specs.Image.{Image, block_at}
 use Rattle.vr_types.specs.declared.unit.StageKind.{StageKind}
 use Rattle.vr_types.specs.declared.unit.StageKind.TheVariants.{CiCopy, CiSwitch, CiClean}
 use Rattle.vr_ci_match.specs.Fault.{is_busy}
 use Rattle.vr_space.specs.Keyed.{Keyed, entries_of}
+use Rattle.vr_space.specs.Left.{added_by}
 use Rattle.vr_space.specs.Split.{SplitNow}
 use Rattle.vr_space.specs.UnderWay.{interval_block}
 use Rattle.vr_split.specs.Halves.{halves}
@@ -66,6 +67,11 @@ HasDone stage part split old new = Unit {0}
 abbrev pub HasDoneStage : Keyed → Option SplitNow → Image → Image → Type 0
 HasDoneStage part None old new = Unit {0}
 HasDoneStage part (Some split) old new = HasDone split.stage part split old new
+
+-- the head has as many entries more as the stage adds
+abbrev pub AddsEntries : Keyed → StageKind → Image → Image → Type 0
+AddsEntries part kind old new = length (entries_of (block_at new part.head))
+    ≡ length (entries_of (block_at old part.head)) + added_by kind
 
 -- both intervals are in the area
 pub record AreInArea (part : Keyed) (old into : ℕ) : Type 0 where

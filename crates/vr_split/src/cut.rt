@@ -4,9 +4,10 @@ ghost use Rattle.vr_split.specs.Cut.{IsMiddle};
 
 use crate::weights::Weights;
 
-/// How many of the places stay below the cut, for a record that is the `at`-th of them. Where it is
-/// the last of the last interval of the data set, the cut is just before it; else after the least
-/// first places that have half of the weight, and never after the last.
+/// How many of the places stay below the cut, for a record that is the `at`-th of them, in an
+/// interval that is the last of the data set, or not. Where it is the last place of the last one,
+/// the cut is just before it; else after the least first places that have half of the weight, and
+/// never after the last.
 pub fn plan_cut(items: &Weights, at: usize, last: bool) -> usize
     requires two { 2 ≤ length items.now.lengths }
     requires at { at < length items.now.lengths }

@@ -17,6 +17,7 @@ ghost use Rattle.vr_split.specs.Splits.{
   stage_again as same_stage_of,
   after_stage,
   after_fault,
+  AddsEntries,
   HasDoneStage,
 };
 
@@ -170,6 +171,8 @@ impl CiSplit {
             (AreaUnderWay self.old.part (after_stage self.old.split) (B.seen blocks.new)) }
         ensures made { IsTrue B.tells → OnOk result (HasDoneStage self.old.part self.old.split
             (B.seen blocks.old).cur (B.seen blocks.new).cur) }
+        ensures counts { IsTrue B.tells → OnOk result (AddsEntries self.old.part stage
+            (B.seen blocks.old).cur (B.seen blocks.new).cur) }
         ensures unread { IfErr result (λ fault. fault ≡ Read
             → Keeps B.tells (B.seen blocks.old) (B.seen blocks.new)) }
         ensures count { (B.seen blocks.new).count ≡ (B.seen blocks.old).count }
@@ -220,6 +223,9 @@ impl CiSplit {
         ensures way { IsTrue B.tells → OnOk result
             (AreaUnderWay self.old.part self.new.split (B.seen blocks.new)) }
         ensures made { IsTrue B.tells → OnOk result (HasDoneStage self.old.part self.old.split
+            (B.seen blocks.old).cur (B.seen blocks.new).cur) }
+        // The head has as many entries more as the stage adds.
+        ensures counts { IsTrue B.tells → IfOk result (λ kind. AddsEntries self.old.part kind
             (B.seen blocks.old).cur (B.seen blocks.new).cur) }
         // It reads before it puts.
         ensures unread { IfErr result (λ fault. fault ≡ Read

@@ -64,6 +64,8 @@ pub(crate) fn clean_interval<B: Blocks>(
         × IsStageDone part (B.seen blocks.old) (B.seen blocks.new) }
     ensures put { IsTrue B.tells → OnOk result
         (block_at (B.seen blocks.new).cur n ≡ lower.now) }
+    ensures elsewhere { IsTrue B.tells → (m : ℕ) → m ≢ n
+        → block_at (B.seen blocks.new).cur m ≡ block_at (B.seen blocks.old).cur m }
     ensures count { (B.seen blocks.new).count ≡ (B.seen blocks.old).count }
     ensures size { (B.seen blocks.new).size ≡ (B.seen blocks.old).size }
     ensures cause { HasWriteCause (B.faults blocks.old) (B.faults blocks.new) result }

@@ -12,7 +12,7 @@ ghost use Rattle.vr_space.specs.UnderWay.{IsBegun, IsCopied, IsSwitched, AreaUnd
 ghost use Rattle.vr_space.specs.UnderWay.{interval_block};
 ghost use Rattle.vr_split.specs.Switching.{KeepsPart, IsStageDone};
 ghost use Rattle.vr_split.specs.Halves.{MakesUpper, MakesLower, IsBusyCopy};
-ghost use Rattle.vr_split.specs.Splits.{split_of, after_stage, AreInArea, HasDoneStage};
+ghost use Rattle.vr_split.specs.Splits.{split_of, after_stage, AddsEntries, AreInArea, HasDoneStage};
 
 use crate::halves::write_busy;
 use crate::making::{make_head, make_lower, make_upper};
@@ -87,6 +87,8 @@ pub(crate) fn copy<B: Blocks>(
         (IsCopied layout.now (split_of split.now stages.CiSwitch) (B.seen blocks.new)) }
     ensures made { IsTrue B.tells → OnOk result (HasDoneStage layout.now
         (Some (split_of split.now stages.CiCopy)) (B.seen blocks.old).cur (B.seen blocks.new).cur) }
+    ensures counts { IsTrue B.tells → OnOk result (AddsEntries layout.now stages.CiCopy
+        (B.seen blocks.old).cur (B.seen blocks.new).cur) }
     ensures unread { IfErr result (λ fault. fault ≡ Read
         → Keeps B.tells (B.seen blocks.old) (B.seen blocks.new)) }
     ensures count { (B.seen blocks.new).count ≡ (B.seen blocks.old).count }
@@ -125,6 +127,8 @@ pub(crate) fn switch<B: Blocks>(
         (IsSwitched layout.now (split_of split.now stages.CiClean) (B.seen blocks.new)) }
     ensures made { IsTrue B.tells → OnOk result (HasDoneStage layout.now
         (Some (split_of split.now stages.CiSwitch))
+        (B.seen blocks.old).cur (B.seen blocks.new).cur) }
+    ensures counts { IsTrue B.tells → OnOk result (AddsEntries layout.now stages.CiSwitch
         (B.seen blocks.old).cur (B.seen blocks.new).cur) }
     ensures unread { IfErr result (λ fault. fault ≡ Read
         → Keeps B.tells (B.seen blocks.old) (B.seen blocks.new)) }
@@ -184,6 +188,8 @@ pub(crate) fn clean<B: Blocks>(
     ensures made { IsTrue B.tells → OnOk result (HasDoneStage layout.now
         (Some (split_of split.now stages.CiClean))
         (B.seen blocks.old).cur (B.seen blocks.new).cur) }
+    ensures counts { IsTrue B.tells → OnOk result (AddsEntries layout.now stages.CiClean
+        (B.seen blocks.old).cur (B.seen blocks.new).cur) }
     ensures unread { IfErr result (λ fault. fault ≡ Read
         → Keeps B.tells (B.seen blocks.old) (B.seen blocks.new)) }
     ensures count { (B.seen blocks.new).count ≡ (B.seen blocks.old).count }
@@ -223,6 +229,8 @@ pub(crate) fn do_stage<B: Blocks>(
         (after_stage (Some (split_of split.now stage))) (B.seen blocks.new)) }
     ensures made { IsTrue B.tells → OnOk result (HasDoneStage layout.now
         (Some (split_of split.now stage)) (B.seen blocks.old).cur (B.seen blocks.new).cur) }
+    ensures counts { IsTrue B.tells → OnOk result (AddsEntries layout.now stage
+        (B.seen blocks.old).cur (B.seen blocks.new).cur) }
     ensures unread { IfErr result (λ fault. fault ≡ Read
         → Keeps B.tells (B.seen blocks.old) (B.seen blocks.new)) }
     ensures count { (B.seen blocks.new).count ≡ (B.seen blocks.old).count }

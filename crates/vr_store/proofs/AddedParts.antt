@@ -23,7 +23,8 @@ use Rattle.vr_space.specs.Split.{MoveNow}
 use Rattle.vr_attach.specs.Laid.{shape_by_kind}
 use Rattle.vr_history.specs.State.{BeforeImage}
 use Rattle.vr_undo.specs.Records.{befores_of}
-use Rattle.vr_store.specs.Store.{IsFitImage, IsOldOf, IsPartSet, IsSet, OwnsItsChain, PartNow}
+use Rattle.vr_store.specs.Store.{HasLength, IsFitImage, IsOldOf, IsPartSet, IsSet, OwnsItsChain}
+use Rattle.vr_store.specs.Store.{PartNow}
 use Rattle.vr_store.specs.Store.{StoreNow, has_number, part_among, shape_among}
 use Rattle.vr_store.proofs.NewAreas.{claimed, given}
 use Rattle.vr_store.proofs.PlacedParts.{number_of}
@@ -141,6 +142,7 @@ module _ (added : PartNow) where
                 is.place;
             old = subst (λ (found : Option Shape).
                 IfSome found (λ shape. IsOldOf shape image.place image.old)) same is.old;
+            long = subst (λ (found : Option Shape). IfSome found HasLength) same is.long;
           }
 
   pub fits-more : (parts : List PartNow) (images : List BeforeImage)

@@ -23,7 +23,7 @@ use Rattle.vr_undo.specs.Records.{with_image, without_last_by}
 use Rattle.vr_undo.specs.declared.record.KeptRecord.{KeptRecord}
 use Rattle.vr_store.specs.Change.{IsBefore, log_with}
 use Rattle.vr_store.specs.Parts.{but_split}
-use Rattle.vr_store.specs.Store.{IsFitImage, IsOldOf, PartNow, part_among, shape_among}
+use Rattle.vr_store.specs.Store.{HasLength, IsFitImage, IsOldOf, PartNow, part_among, shape_among}
 use Rattle.vr_store.proofs.PlacedParts.{shapes-same}
 
 -- ---- by the parts
@@ -45,6 +45,7 @@ fit-parts new old same image is =
           (sym shapes) is.place;
       old = subst (λ (found : Option Shape).
           IfSome found (λ shape. IsOldOf shape image.place image.old)) (sym shapes) is.old;
+      long = subst (λ (found : Option Shape). IfSome found HasLength) (sym shapes) is.long;
     }
 
 pub fits-parts : (new old : List PartNow) → map but_split new ≡ map but_split old
@@ -68,13 +69,15 @@ pub fit-new : (parts : List PartNow) (unit : UnitOfRecovery) (part : PartNo) (pl
     (old : Option (Bor (List ℕ))) → part_among parts part.0 ≢ None
     → IfSome (shape_among parts part.0) (λ shape. IsPlaceOf shape place)
     → IfSome (shape_among parts part.0) (λ shape. IsGiven shape place old)
+    → IfSome (shape_among parts part.0) HasLength
     → IsFitImage parts (image_of unit (before_of part place (option_copied old)))
-fit-new parts unit part place old there at item = record {
+fit-new parts unit part place old there at item long = record {
   part = there;
   place = at;
   old = if-some (λ (shape : Shape). IsGiven shape place old)
       (λ (shape : Shape). IsOldOf shape place (option_map Standing (option_copied old)))
       (λ shape. given-old shape place old) (shape_among parts part.0) item;
+  long = long;
 }
 
 pub fits-kept : (parts : List PartNow) (unit : UnitOfRecovery) (image : BeforeImage)

@@ -31,4 +31,5 @@ pub mod EntryParts
 pub mod EntryAreas
 pub mod ChangedEntry
 pub mod Idle
+pub mod StagesLeft
 pub mod CallerLemmas

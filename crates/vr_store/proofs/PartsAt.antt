@@ -77,32 +77,34 @@ abbrev pub part-of : PartNo → Shape → Known → PartNow
 part-of number shape known =
     record { number = number; shape = shape; known = known }
 
--- a part by its splits and its areas alone
-abbrev part-met : PartNo → Shape → Option AreaSplit → Option MoveNow → List ℕ → PartNow
-part-met number shape split move areas = part-of number shape (record {
+-- a part by its splits, its areas and the intervals that it uses alone
+abbrev part-met : PartNo → Shape → Option AreaSplit → Option MoveNow → List ℕ → ℕ → PartNow
+part-met number shape split move areas used = part-of number shape (record {
   split = split;
   move = move;
   met = [];
   areas = areas;
   ends = [];
-  used = 0;
+  used = used;
   tail = None;
 })
 
 -- and by its split of an interval alone
 abbrev pub part-split : PartNo → Shape → Option AreaSplit → PartNow
-part-split number shape split = part-met number shape split None []
+part-split number shape split = part-met number shape split None [] 0
 
--- A part that a call left with its shape, its splits under way and its areas is the same but for
--- what it met.
+-- A part that a call left with its shape, its splits under way, its areas and how many intervals
+-- they use is the same but for what it met.
 pub same-met : (number : PartNo) (shape now : Shape) (known later : Known) → now ≡ shape
     → later.split ≡ known.split → later.move ≡ known.move → later.areas ≡ known.areas
+    → later.used ≡ known.used
     → but_met (part-of number now later) ≡ but_met (part-of number shape known)
-same-met number shape now known later shapes splits moves areas =
-    ap (λ (s : Shape). part-met number s later.split later.move later.areas) shapes
-    ∙ ap (λ (s : Option AreaSplit). part-met number shape s later.move later.areas) splits
-    ∙ ap (λ (m : Option MoveNow). part-met number shape known.split m later.areas) moves
-    ∙ ap (part-met number shape known.split known.move) areas
+same-met number shape now known later shapes splits moves areas used =
+    ap (λ (s : Shape). part-met number s later.split later.move later.areas later.used) shapes
+    ∙ ap (λ (s : Option AreaSplit). part-met number shape s later.move later.areas later.used) splits
+    ∙ ap (λ (m : Option MoveNow). part-met number shape known.split m later.areas later.used) moves
+    ∙ ap (λ (held : List ℕ). part-met number shape known.split known.move held later.used) areas
+    ∙ ap (part-met number shape known.split known.move known.areas) used
 
 -- a part that a call left as it was
 pub laid-same : {P : Type 0} (shape : P → Shape) (known : P → Known)

@@ -269,26 +269,37 @@ stage-takes-none (NumberedShape numbered) part kind old new stage first after =
     absurd (true≢false (sym first
     ∙ ap (λ (one : StageKind). is_stage (Stage one)) stage))
 
--- So the one that is done leaves the owners of areas.
+-- the one that is done is such a stage
+pub split-first : (store : StoreNow) (image : Image) (number : ℕ) (place : List ℕ) (n : ℕ)
+    (kind : StageKind) → part_among store.parts number ≢ None
+    → IsSplitDue store image number place n
+    → IsRoomAt store image number place n (Stage kind) → is_stage (Stage kind) ≡ true
+split-first store image number place n kind some due room =
+    by_part (part_among store.parts number) some due.room room
+  where
+    by_part : (found : Option PartNow) → found ≢ None
+        → IfSome found (λ (one : PartNow). Stage due.kind
+        ≡ room_by one.shape one.known image store.space store.undo number place n)
+        → IfSome found (λ (one : PartNow). Stage kind
+        ≡ room_by one.shape one.known image store.space store.undo number place n)
+        → is_stage (Stage kind) ≡ true
+    by_part None some first second = absurd (some refl)
+    by_part (Some one) some first second =
+        ap is_stage (second ∙ sym first) ∙ due.first
+
+-- So it leaves the owners of areas.
 pub split-takes-none : (store : StoreNow) (image : Image) (number : ℕ) (place : List ℕ) (n : ℕ)
     (part : PartNo) (kind : StageKind) (new : List (Option PartNo))
     → part_among store.parts number ≢ None → IsSplitDue store image number place n
     → IsRoomAt store image number place n (Stage kind)
     → IfSome (shape_among store.parts number) (λ (shape : Shape). IsStageOf shape kind)
     → OwnersAfter part kind store.space new → new ≡ store.space
-split-takes-none store image number place n part kind new some due room stage after =
-    by_part (part_among store.parts number) some due.room room stage
+split-takes-none store image number place n part kind new laid due room stage after =
+    by_part (part_among store.parts number) laid stage
   where
-    same-kind : (one : StageKind) → Stage due.kind ≡ Stage one → is_stage (Stage one) ≡ true
-    same-kind one same = sym (ap is_stage same) ∙ due.first
-
     by_part : (found : Option PartNow) → found ≢ None
-        → IfSome found (λ (one : PartNow). Stage due.kind
-        ≡ room_by one.shape one.known image store.space store.undo number place n)
-        → IfSome found (λ (one : PartNow). Stage kind
-        ≡ room_by one.shape one.known image store.space store.undo number place n)
         → IfSome (option_map (λ (one : PartNow). one.shape) found)
         (λ (shape : Shape). IsStageOf shape kind) → new ≡ store.space
-    by_part None some first second stage = absurd (some refl)
-    by_part (Some one) some first second stage = stage-takes-none one.shape part kind store.space
-        new stage (same-kind kind (first ∙ sym second)) after
+    by_part None some stage = absurd (some refl)
+    by_part (Some one) some stage = stage-takes-none one.shape part kind store.space new stage
+        (split-first store image number place n kind laid due room) after

@@ -6,7 +6,7 @@ use Rattle.vr_types.specs.Image.{Image}
 use Rattle.vr_types.specs.declared.unit.Unit.{Unit as UnitOfRecovery}
 use Rattle.vr_types.specs.declared.unit.PartNo.{PartNo}
 use Rattle.vr_types.specs.declared.unit.StageKind.{StageKind}
-use Rattle.vr_types.specs.declared.unit.StageKind.TheVariants.{CaClaim, Extend}
+use Rattle.vr_types.specs.declared.unit.StageKind.TheVariants.{CaClaim, CiClean, CiSwitch, Extend}
 use Rattle.vr_types.specs.declared.geometry.Geometry.{Geometry}
 use Rattle.vr_types.specs.Content.{item_at, record_of}
 use Rattle.vr_space.specs.Owners.{Owners}
@@ -67,6 +67,12 @@ pub record IsSplitDue (store : StoreNow) (image : Image) (number : ℕ) (place :
 abbrev pub IsDueAtLast : StoreNow → Image → UnitOfRecovery → ℕ → Type 0
 IsDueAtLast store image unit n =
     OnLast store unit (λ last. IsSplitDue store image last.part last.place n)
+
+-- The stage that the answer tells of: it names the part where an interval was split in two, and is
+-- None of any other stage, which uses as many intervals as the one that cleans up.
+abbrev pub stage_told : Option PartNo → StageKind
+stage_told (Some part) = CiSwitch
+stage_told None = CiClean
 
 -- no stage of a split is left at a place
 abbrev pub HasNoStage : StoreNow → Image → ℕ → List ℕ → Type 0

@@ -1,5 +1,6 @@
 pub mod Store
 pub mod Parts
+pub mod Left
 pub mod Room
 pub mod Next
 pub mod Cause

@@ -1,6 +1,7 @@
 -- The parts of a volume by their numbers, and what a call that works on one of them leaves of the
 -- others. The rules are this project's own.
 use Rattle.std.specs.Prelude.{◌≡◌, ◌≢◌, ℕ, cond, List, [], ◌∷◌, map, None, IfSome}
+use Rattle.vr_types.specs.declared.unit.StageKind.{StageKind}
 use Rattle.vr_space.specs.Part.{HasMore}
 use Rattle.vr_store.specs.Store.{PartNow, has_number, part_among}
 
@@ -10,7 +11,8 @@ with_part number after [] = []
 with_part number after (part ∷ parts) =
     cond (has_number number part) (after ∷ parts) (part ∷ with_part number after parts)
 
--- a part by its splits under way and its areas alone, and but for all that it keeps of its blocks
+-- a part by its splits under way, its areas and how many intervals they use alone, and but for all
+-- that it keeps of its blocks
 abbrev pub but_met : PartNow → PartNow
 but_met part = record part {
   known = record {
@@ -19,7 +21,7 @@ but_met part = record part {
     met = [];
     areas = part.known.areas;
     ends = [];
-    used = 0;
+    used = part.known.used;
     tail = None;
   };
 }
@@ -42,14 +44,15 @@ abbrev pub OthersStay : ℕ → List PartNow → List PartNow → Type 0
 OthersStay number old new = (other : ℕ) → other ≢ number
     → part_among new other ≡ part_among old other
 
--- a split of the part of this number goes on, or its chain under rosters has one interval more
-abbrev pub HasMoreAt : ℕ → List PartNow → List PartNow → Type 0
-HasMoreAt number old new = IfSome (part_among old number) (λ (before : PartNow).
+-- What a stage of the part of this number leaves, where this many areas were free before it and
+-- are free now: fewer stages than before, and as many intervals more as it adds.
+abbrev pub HasMoreAt : ℕ → StageKind → List PartNow → List PartNow → ℕ → ℕ → Type 0
+HasMoreAt number kind old new free now = IfSome (part_among old number) (λ (before : PartNow).
     IfSome (part_among new number) (λ (after : PartNow).
-    HasMore before.shape before.known after.known))
+    HasMore before.shape kind before.known after.known free now))
 
--- Of the part of this number alone there is something new: what it keeps beside its splits and its
--- areas,
+-- Of the part of this number alone there is something new: what it keeps beside its splits, its
+-- areas and how many intervals they use,
 pub record OnlyMet (number : ℕ) (old new : List PartNow) : Type 0 where
   pub parts : map but_met new ≡ map but_met old
   pub others : OthersStay number old new

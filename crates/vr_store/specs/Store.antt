@@ -14,7 +14,8 @@ use Rattle.vr_types.specs.declared.unit.PartNo.{PartNo}
 use Rattle.vr_types.specs.declared.unit.Unit.{Unit as UnitOfRecovery}
 use Rattle.vr_space.specs.Known.{Known}
 use Rattle.vr_space.specs.Owners.{Owners}
-use Rattle.vr_space.specs.Part.{IsOn, IsPlaceOf, IsRecordOf, OwnsChain, Shape, left_by, part_no}
+use Rattle.vr_space.specs.Part.{IsLengthOf, IsOn, IsPlaceOf, IsRecordOf, OwnsChain, Shape, left_by}
+use Rattle.vr_space.specs.Part.{part_no}
 use Rattle.vr_attach.specs.Owning.{owner_of}
 use Rattle.vr_log.specs.Live.{live_in}
 use Rattle.vr_log.specs.LogNow.{IsOf, LogNow}
@@ -113,11 +114,17 @@ IsOldOf shape place None = Unit {0}
 IsOldOf shape place (Some (Standing bytes)) = IsRecordOf shape place bytes
 IsOldOf shape place (Some (Withdrawn n)) = ⊥
 
--- A before-image is of a place of one of the parts, and its record, if it has one, may stand there.
+-- there is a length that a record of the part may have
+abbrev pub HasLength : Shape → Type 0
+HasLength shape = (n : ℕ) × IsLengthOf shape n
+
+-- A before-image is of a place of one of the parts, in which some record may stand, and its record,
+-- if it has one, may stand there.
 pub record IsFitImage (parts : List PartNow) (image : BeforeImage) : Type 0 where
   pub part : part_among parts image.part ≢ None
   pub place : IfSome (shape_among parts image.part) (λ shape. IsPlaceOf shape image.place)
   pub old : IfSome (shape_among parts image.part) (λ shape. IsOldOf shape image.place image.old)
+  pub long : IfSome (shape_among parts image.part) HasLength
 
 -- The numbers of the parts differ, and each changed block is one of the device. Once no unit is
 -- live the log has no record, and what units may put back is fit for the parts. Each area of the

@@ -105,6 +105,7 @@ fn put_at<B: Blocks, P: Part>(
     ensures split { OnOk result ((P.known part.new).split ≡ (P.known part.old).split) }
     ensures moves { OnOk result ((P.known part.new).move ≡ (P.known part.old).move) }
     ensures areas { OnOk result ((P.known part.new).areas ≡ (P.known part.old).areas) }
+    ensures used { OnOk result ((P.known part.new).used ≡ (P.known part.old).used) }
     ensures full { prepared.now.logged ≡ false
         → IsFullWhere log.old (need_of (live_in log.old.records) prepared.now.rec) result }
     ensures never_full { prepared.now.logged ≡ true → IfErr result (λ no. IsFullNo no → ⊥) }
@@ -220,6 +221,7 @@ fn set_at<B: Blocks, P: Part>(
     ensures split { OnOk result ((P.known part.new).split ≡ (P.known part.old).split) }
     ensures moves { OnOk result ((P.known part.new).move ≡ (P.known part.old).move) }
     ensures areas { OnOk result ((P.known part.new).areas ≡ (P.known part.old).areas) }
+    ensures used { OnOk result ((P.known part.new).used ≡ (P.known part.old).used) }
     ensures full { prepared.now.logged ≡ false
         → IsFullWhere log.old (need_of (live_in log.old.records) prepared.now.rec) result }
     ensures never_full { prepared.now.logged ≡ true → IfErr result (λ no. IsFullNo no → ⊥) }

@@ -1,5 +1,5 @@
 //! The blocks that units of recovery changed and that were not forced since.
-ghost use Rattle.std.specs.Prelude.{◌≡◌, ◌<◌, ◌∷◌, ◌++◌, ℕ, [], All, IfOk, IsTrue, OnErr, OnOk};
+ghost use Rattle.std.specs.Prelude.{◌≡◌, ◌≢◌, ◌<◌, ◌∷◌, ◌++◌, ℕ, [], All, IfOk, IsTrue, OnErr, OnOk};
 ghost use Rattle.std.specs.Prelude.{false, map};
 ghost use Rattle.std.specs.List.{Contains, position};
 ghost use Rattle.vr_types.specs.Locks.{same_unit};
@@ -159,7 +159,8 @@ pub(crate) fn forget(changed: &mut Vec<UnitBlocks>, unit: Unit)
 
 /// Whether none of the blocks of a unit is left.
 pub(crate) fn is_none(changed: &Vec<UnitBlocks>, unit: Unit) -> bool
-    ensures { IsTrue result → blocks_of unit (map changed_by changed.now.items) ≡ [] }
+    ensures none { IsTrue result → blocks_of unit (map changed_by changed.now.items) ≡ [] }
+    ensures some { result ≡ false → blocks_of unit (map changed_by changed.now.items) ≢ [] }
 {
     match place_of(changed, unit) {
         Some(at) => changed[at].blocks.as_slice().is_empty(),

@@ -62,7 +62,7 @@ impl<P: Part> Store<P> {
             (IsEntryReady self.old place.now bytes.now (B.seen blocks.old)) }
         ensures defined { IsTrue B.tells → OnOk result ((volume : ℕ) (old new : State)
             → IsBegun volume self.old unit place.now bytes.now old new (B.seen blocks.old)
-            → self.old.log.generation + 1 < 2 ^ 64
+            → self.old.log.generation + 1 < 2 ^ 63
             → IsStored volume self.new new (B.seen blocks.new)) }
         ensures moments { IsTrue B.tells → (volume : ℕ) (old new : State)
             → IsBegun volume self.old unit place.now bytes.now old new (B.seen blocks.old)
@@ -207,7 +207,7 @@ impl<P: Start + Drop> Store<P> {
         ensures defined { IsTrue B.tells → OnOk result ((volume : ℕ) (old new : State)
             → IsDefining volume self.old unit place.now bytes.now part area definition.now old new
             (B.seen blocks.old)
-            → self.old.log.generation + 1 < 2 ^ 64
+            → self.old.log.generation + 1 < 2 ^ 63
             → IsStored volume self.new new (B.seen blocks.new)) }
         // At every moment, whether it fails or not.
         ensures moments { IsTrue B.tells → (volume : ℕ) (old new : State)
@@ -296,7 +296,7 @@ impl<P: Start + Drop> Store<P> {
         ensures defined { IsTrue B.tells → OnOk result ((volume : ℕ) (old new : State)
             → IsDefining volume self.old unit place.now bytes.now part area definition.now old new
             (B.seen blocks.old)
-            → self.old.log.generation + 1 < 2 ^ 64
+            → self.old.log.generation + 1 < 2 ^ 63
             → IsStored volume self.new new (B.seen blocks.new)) }
         // At every moment, whether it fails or not.
         ensures moments { IsTrue B.tells → (volume : ℕ) (old new : State)

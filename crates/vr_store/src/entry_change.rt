@@ -66,7 +66,7 @@ impl<P: Part> Store<P> {
             (old new : State)
             → IsChangingEntry volume self.old unit place.now before.now (given bytes.entry) gone old
             new (B.seen blocks.old)
-            → self.old.log.generation + 1 < 2 ^ 64
+            → self.old.log.generation + 1 < 2 ^ 63
             → IsStored volume (store_left gone self.new) new (B.seen blocks.new)) }
         ensures moments { IsTrue B.tells → (volume : ℕ) (gone : Option PartNumber)
             (old new : State)
@@ -160,7 +160,7 @@ impl<P: Part + Drop> Store<P> {
         ensures done { IsTrue B.tells → OnOk result ((volume : ℕ) (old new : State)
             → IsChangingEntry volume self.old unit place.now before.now (given bytes.entry) gone old
             new (B.seen blocks.old)
-            → self.old.log.generation + 1 < 2 ^ 64
+            → self.old.log.generation + 1 < 2 ^ 63
             → IsStored volume self.new new (B.seen blocks.new)) }
         // At every moment, whether it fails or not.
         ensures moments { IsTrue B.tells → (volume : ℕ) (old new : State)

@@ -1,13 +1,17 @@
 //! The last before-image of a unit of recovery in a store: the stages of a split that come before it,
 //! and that it is put back.
 ghost use Rattle.std.specs.Prelude.{◌≡◌, ◌≢◌, ℕ, None, Some, IsTrue, IfErr, IfOk, IfSome, OnErr};
-ghost use Rattle.std.specs.Prelude.{List, OnOk, Option, is_some, option_map};
+ghost use Rattle.std.specs.Prelude.{◌<◌, List, OnOk, Option, is_some, option_map};
 ghost use Rattle.vr_types.specs.Blocks.{Keeps};
 ghost use Rattle.vr_types.specs.Content.{Standing};
 ghost use Rattle.vr_types.specs.Faults.{HasCause};
 ghost use Rattle.vr_types.specs.Moments.{Guards};
+ghost use Rattle.vr_types.specs.Space.{free_count};
 ghost use Rattle.vr_types.specs.declared.fault.DeviceFault.TheVariants.{Read, Write};
+ghost use Rattle.vr_types.specs.declared.unit.Unit.{Unit as UnitOfRecovery};
+ghost use Rattle.vr_types.specs.declared.unit.StageKind.TheVariants.{Extend};
 ghost use Rattle.vr_space.specs.Known.{HasMet};
+ghost use Rattle.vr_space.specs.Left.{added_by};
 ghost use Rattle.vr_space.specs.Part.{IsLengthOf, IsPlaceOf};
 ghost use Rattle.vr_history.specs.State.{State};
 ghost use Rattle.vr_undo.specs.Records.{image_of};
@@ -16,10 +20,11 @@ ghost use Rattle.vr_volume.specs.Safe.{IsSafeImage};
 ghost use Rattle.vr_volume.specs.Steps.{IsChangeOf, IsPutBack};
 ghost use Rattle.vr_store.specs.LastImage.{HasAdvanced, HasNoStage, IsBackIn, IsDueAtLast};
 ghost use Rattle.vr_store.specs.LastImage.{IsMetBy, OnLast, last_claimed};
-ghost use Rattle.vr_store.specs.LastImage.{is_stage as is_a_stage, last_of_unit};
+ghost use Rattle.vr_store.specs.LastImage.{is_stage as is_a_stage, last_of_unit, stage_told};
+ghost use Rattle.vr_store.specs.Left.{left_for};
 ghost use Rattle.vr_store.specs.Change.{IsSettable};
 ghost use Rattle.vr_store.specs.PutBack.{IsTaken, IsTakenFrom, back_at};
-ghost use Rattle.vr_store.specs.Parts.{HasMoreAt, OnlyMet};
+ghost use Rattle.vr_store.specs.Parts.{HasMoreAt, OnlyMet, OnlySplit};
 ghost use Rattle.vr_store.specs.Store.{IsOldOf, IsSet, IsStored, Stands, left_among, owners_of};
 ghost use Rattle.vr_store.specs.Store.{part_among};
 ghost use Rattle.vr_store.specs.Store.{shape_among};
@@ -43,7 +48,9 @@ fn is_stage(room: Room) -> bool
 }
 
 /// The part of a stage by which an interval of it is split in two.
-fn split_in(part: PartNo, kind: StageKind) -> Option<PartNo> {
+fn split_in(part: PartNo, kind: StageKind) -> Option<PartNo>
+    ensures { kind ≢ Extend → added_by (stage_told result) ≡ added_by kind }
+{
     match kind {
         StageKind::CiSwitch => Some(part),
         _ => None,
@@ -87,6 +94,8 @@ impl<P: Part> Store<P> {
             IsMetBy due self.new (B.seen blocks.new).cur last.part last.place length)) }
         ensures met { OnOk result (OnLast self.old unit (λ last.
             IfSome (part_among self.new.parts last.part) (λ part. HasMet part.known last.place))) }
+        ensures parts { OnLast self.old unit (λ last.
+            OnlyMet last.part self.old.parts self.new.parts) }
         ensures shapes { (number : ℕ)
             → shape_among self.new.parts number ≡ shape_among self.old.parts number }
         ensures set { IsSet self.new (B.seen blocks.new) }
@@ -140,9 +149,15 @@ impl<P: Part> Store<P> {
             self.new.space))) }
         // it is none that takes an area.
         ensures claims_none { IsTrue B.tells → self.new.space ≡ self.old.space }
-        // A split goes on, or a chain under rosters has one interval more.
-        ensures more { IsTrue B.tells → OnOk result (OnLast self.old unit (λ last.
-            HasMoreAt last.part self.old.parts self.new.parts)) }
+        // Fewer stages are left, and what is used is counted: one interval more where one was split.
+        ensures more { IsTrue B.tells → IfOk result (λ split. OnLast self.old unit (λ last.
+            HasMoreAt last.part (stage_told split) self.old.parts self.new.parts
+            (free_count self.old.space) (free_count self.new.space))) }
+        // Each unit waits for less.
+        ensures nearer { IsTrue B.tells → OnOk result ((waits : UnitOfRecovery)
+            → left_for waits self.new < left_for waits self.old) }
+        ensures parts { OnLast self.old unit (λ last.
+            OnlySplit last.part self.old.parts self.new.parts) }
         ensures shapes { (number : ℕ)
             → shape_among self.new.parts number ≡ shape_among self.old.parts number }
         ensures set { IsSet self.new (B.seen blocks.new) }
@@ -157,7 +172,8 @@ impl<P: Part> Store<P> {
             (committed_by state)) }
         // It reads before it puts.
         ensures unread { IfErr result (λ fault. fault ≡ Read
-            → (IsTrue B.tells → (volume : ℕ) (state : State)
+            → Keeps B.tells (B.seen blocks.old) (B.seen blocks.new)
+            × (IsTrue B.tells → (volume : ℕ) (state : State)
             → IsStored volume self.old state (B.seen blocks.old)
             → IsStored volume self.new state (B.seen blocks.new))) }
         ensures rest { self.new
@@ -261,7 +277,11 @@ impl<P: Part> Store<P> {
             → Guards (B.seen blocks.old) (B.seen blocks.new)
             (IsSafeImage self.old.log.geometry volume (owners_of self.old) self.old.log
             (committed_by old)) }
+        // The unit waits for less, though its blocks may have to be forced then.
+        ensures nearer { left_for unit self.new < left_for unit self.old }
         ensures set { IsSet self.new (B.seen blocks.new) }
+        ensures parts { OnLast self.old unit (λ last.
+            OnlyMet last.part self.old.parts self.new.parts) }
         ensures shapes { (number : ℕ)
             → shape_among self.new.parts number ≡ shape_among self.old.parts number }
         ensures rest { self.new ≡ record self.old {

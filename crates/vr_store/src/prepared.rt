@@ -10,7 +10,8 @@ ghost use Rattle.vr_undo.specs.Records.{before_of};
 ghost use Rattle.vr_undo.specs.declared.before.Before.{Before};
 ghost use Rattle.vr_undo.specs.declared.record.KeptRecord.{KeptRecord};
 ghost use Rattle.vr_store.specs.Change.{IsKeptFor, IsPrepared, with_kept};
-ghost use Rattle.vr_store.specs.Store.{IsSet, IsStored, blocks_of, part_among, shape_among};
+ghost use Rattle.vr_store.specs.Store.{HasLength, IsSet, IsStored, blocks_of, part_among};
+ghost use Rattle.vr_store.specs.Store.{shape_among};
 
 use crate::changed::make_room;
 use crate::store::Store;
@@ -71,6 +72,7 @@ impl<P: Part> Store<P> {
             (λ shape. IsPlaceOf shape place.now) }
         requires item { IfSome (shape_among self.old.parts part.0)
             (λ shape. IsGiven shape place.now old) }
+        requires length { IfSome (shape_among self.old.parts part.0) HasLength }
         ensures prepared { IfOk result (λ prepared. IsPrepared prepared unit
             (before_of part place.now (option_copied old.entry)) self.old.undo) }
         ensures undo { OnOk result (self.new.undo ≡ with_kept unit

@@ -97,6 +97,7 @@ fn set_back<B: Blocks, P: Part>(
     ensures split { (P.known part.new).split ≡ (P.known part.old).split }
     ensures moves { (P.known part.new).move ≡ (P.known part.old).move }
     ensures areas { (P.known part.new).areas ≡ (P.known part.old).areas }
+    ensures used { (P.known part.new).used ≡ (P.known part.old).used }
     // Where the place is met, no read is made of it.
     ensures reads { HasMet (P.known part.old) place.now → IfErr result (λ fault. fault ≡ Write) }
     ensures cause { HasCause (B.faults blocks.old) (B.faults blocks.new) result }

@@ -112,7 +112,8 @@ impl<P: Part> Store<P> {
 
     /// Whether none of the blocks that a unit changed is left to be forced.
     pub fn is_forced(&self, unit: Unit) -> bool
-        ensures { IsTrue result → blocks_of unit self.now.changed ≡ [] }
+        ensures forced { IsTrue result → blocks_of unit self.now.changed ≡ [] }
+        ensures left { result ≡ false → blocks_of unit self.now.changed ≢ [] }
     {
         is_none(&self.changed, unit)
     }

@@ -1,9 +1,11 @@
 //! Room for a record of a store, and the stages that come before it.
-ghost use Rattle.std.specs.Prelude.{◌≡◌, ◌≢◌, ℕ, None, IsTrue, IfErr, IfOk, IfSome, OnErr, OnOk, map};
+ghost use Rattle.std.specs.Prelude.{◌≡◌, ◌≢◌, ◌<◌, ℕ, None, IsTrue, IfErr, IfOk, IfSome, OnErr, OnOk, map};
 ghost use Rattle.vr_types.specs.Blocks.{Keeps};
 ghost use Rattle.vr_types.specs.Faults.{HasCause};
 ghost use Rattle.vr_types.specs.Moments.{Guards};
+ghost use Rattle.vr_types.specs.Space.{free_count};
 ghost use Rattle.vr_types.specs.declared.fault.DeviceFault.TheVariants.{Read};
+ghost use Rattle.vr_types.specs.declared.unit.Unit.{Unit as UnitOfRecovery};
 ghost use Rattle.vr_space.specs.Known.{HasMet};
 ghost use Rattle.vr_space.specs.Part.{IsLengthOf, IsPlaceOf, IsStageOf, OwnersAfter};
 ghost use Rattle.vr_space.specs.declared.room.Room.TheVariants as answers;
@@ -11,6 +13,7 @@ ghost use Rattle.vr_attach.specs.Owning.{claimed_by, owner_of};
 ghost use Rattle.vr_history.specs.State.{State};
 ghost use Rattle.vr_volume.specs.Committed.{committed_by};
 ghost use Rattle.vr_volume.specs.Safe.{IsSafeImage};
+ghost use Rattle.vr_store.specs.Left.{left_for, parts_left};
 ghost use Rattle.vr_store.specs.Parts.{HasMoreAt, OnlyMet, OnlySplit};
 ghost use Rattle.vr_store.specs.Room.{IsDueAt, IsRoomAt};
 ghost use Rattle.vr_store.specs.Store.{IsSet, IsStored, Stands, part_among, part_now, shape_among};
@@ -131,9 +134,14 @@ pub(crate) fn advance_at<B: Blocks, P: Part>(
         changed.now.items space.old) state (B.seen blocks.old)
         → IsStored volume (store_of P.shape P.known log.now undo.now parts.new.items
         changed.now.items space.new) state (B.seen blocks.new))) }
-    ensures more { IsTrue B.tells → OnOk result
-        (HasMoreAt number.0 (map (part_now P.shape P.known) parts.old.items)
-        (map (part_now P.shape P.known) parts.new.items)) }
+    ensures more { IsTrue B.tells → IfOk result (λ kind.
+        HasMoreAt number.0 kind (map (part_now P.shape P.known) parts.old.items)
+        (map (part_now P.shape P.known) parts.new.items) (free_count space.old)
+        (free_count space.new)) }
+    // All parts together have fewer stages left.
+    ensures fewer { IsTrue B.tells → OnOk result
+        (parts_left (free_count space.new) (map (part_now P.shape P.known) parts.new.items)
+        < parts_left (free_count space.old) (map (part_now P.shape P.known) parts.old.items)) }
     ensures parts { OnlySplit number.0 (map (part_now P.shape P.known) parts.old.items)
         (map (part_now P.shape P.known) parts.new.items) }
     ensures cause { HasCause (B.faults blocks.old) (B.faults blocks.new) result }
@@ -237,9 +245,13 @@ impl<P: Part> Store<P> {
             × (IsTrue B.tells → (volume : ℕ) (state : State)
             → IsStored volume self.old state (B.seen blocks.old)
             → IsStored volume self.new state (B.seen blocks.new))) }
-        // A split goes on, or a chain under rosters has one interval more.
-        ensures more { IsTrue B.tells → OnOk result
-            (HasMoreAt number.0 self.old.parts self.new.parts) }
+        // Fewer stages are left, and what is used is counted.
+        ensures more { IsTrue B.tells → IfOk result (λ kind.
+            HasMoreAt number.0 kind self.old.parts self.new.parts (free_count self.old.space)
+            (free_count self.new.space)) }
+        // Each unit waits for less.
+        ensures nearer { IsTrue B.tells → OnOk result ((waits : UnitOfRecovery)
+            → left_for waits self.new < left_for waits self.old) }
         ensures parts { OnlySplit number.0 self.old.parts self.new.parts }
         ensures rest { self.new
             ≡ record self.old { parts = self.new.parts; space = self.new.space } }

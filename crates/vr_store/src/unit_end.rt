@@ -1,6 +1,6 @@
 //! The end of a unit of recovery in a store: the blocks that it changed are forced, and then its end
 //! is logged.
-ghost use Rattle.std.specs.Prelude.{◌≡◌, ◌<◌, ◌+◌, ◌^◌, ℕ, List, [], IsTrue, OnOk, OnErr, All};
+ghost use Rattle.std.specs.Prelude.{◌≡◌, ◌≢◌, ◌<◌, ◌+◌, ◌^◌, ℕ, List, [], IsTrue, OnOk, OnErr, All};
 ghost use Rattle.std.specs.Prelude.{false, filter, map};
 ghost use Rattle.vr_types.specs.Blocks.{Keeps};
 ghost use Rattle.vr_types.specs.Faults.{HasWriteCause};
@@ -19,6 +19,7 @@ ghost use Rattle.vr_volume.specs.Committed.{IsCurrent, KeepsNoneIf, committed_by
 ghost use Rattle.vr_volume.specs.EndedLog.{IsEndedLog};
 ghost use Rattle.vr_volume.specs.Safe.{IsSafeImage};
 ghost use Rattle.vr_volume.specs.Steps.{IsEndedIn};
+ghost use Rattle.vr_store.specs.Left.{left_for};
 ghost use Rattle.vr_store.specs.Store.{ChangedBy, IsSet, IsStored, Stands, blocks_of, changed_by};
 ghost use Rattle.vr_store.specs.Store.{owners_of};
 
@@ -52,6 +53,9 @@ impl<P: Part> Store<P> {
             (IsSafeImage self.old.log.geometry volume (owners_of self.old) self.old.log
             (committed_by state)) }
         ensures same { OnErr result (self.new ≡ self.old) }
+        // Where there are such blocks the unit waits for less.
+        ensures nearer { blocks_of unit self.old.changed ≢ []
+            → OnOk result (left_for unit self.new < left_for unit self.old) }
         ensures rest { self.new ≡ record self.old { changed = self.new.changed } }
         ensures keeps { Keeps B.tells (B.seen blocks.old) (B.seen blocks.new) }
         ensures cause { HasWriteCause (B.faults blocks.old) (B.faults blocks.new) result }
@@ -74,7 +78,7 @@ impl<P: Part> Store<P> {
         ensures ended { IsTrue B.tells → OnOk result ((volume : ℕ) (old new : State)
             → IsStored volume self.old old (B.seen blocks.old)
             → IsCurrent old.numbers unit → KeepsNoneIf kind old unit → IsEndedIn unit old new
-            → self.old.log.generation + 1 < 2 ^ 64
+            → self.old.log.generation + 1 < 2 ^ 63
             → IsStored volume self.new new (B.seen blocks.new)) }
         // At every moment, whether it fails or not.
         ensures moments { IsTrue B.tells → (volume : ℕ) (state : State)

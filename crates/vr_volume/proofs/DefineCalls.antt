@@ -217,7 +217,7 @@ module _ (geometry : Geometry) (number : ℕ) (owners : Owners) (log : LogNow)
             -- the volume is at rest once the end is there,
             volume-defined : (last after-end : LogNow) → IsLogged more (End unit Committed) last
                 → IsEndForced more unit Committed last → LogStands last b
-                → need ≡ need_of (live_in log.records) rec → log.generation + 1 < 2 ^ 64
+                → need ≡ need_of (live_in log.records) rec → log.generation + 1 < 2 ^ 63
                 → more.generation ≡ log.generation → IsIdle last after-end → IsLive last after-end
                 → IsVolumeAtRest geometry number owners after-end images new b
             volume-defined last after-end last-logged end stands needs below still idle live =
@@ -239,7 +239,7 @@ module _ (geometry : Geometry) (number : ℕ) (owners : Owners) (log : LogNow)
             -- Once it is there the volume, the catalog and the new part are at rest by the new state.
             pub all-defined : (last after-end : LogNow) → IsLogged more (End unit Committed) last
                 → IsEndForced more unit Committed last → LogStands last b
-                → need ≡ need_of (live_in log.records) rec → log.generation + 1 < 2 ^ 64
+                → need ≡ need_of (live_in log.records) rec → log.generation + 1 < 2 ^ 63
                 → more.generation ≡ log.generation → IsIdle last after-end → IsLive last after-end
                 → (met : Known) → Left m m.cur → m.count ≡ a.count → m.size ≡ a.size
                 → HasKeptRoom catalog kept m → Knows catalog met m → met.move ≡ known.move

@@ -512,13 +512,13 @@ module _ (geometry : Geometry) (number : ℕ) (owners : Owners) (log : LogNow)
                   by records befores part =
                       put_back part (kept_by records befores) (new.contents part)
 
-              rests-begun : new.logged ≡ [] → log.generation + 1 < 2 ^ 64
+              rests-begun : new.logged ≡ [] → log.generation + 1 < 2 ^ 63
                   → more.generation ≡ log.generation
                   → IsVolumeAtRest geometry number owners (restarted last) images new b
               rests-begun empty below still =
                   let next : LogStands (restarted last) b =
                   restarted_stands last b stands end.forced (none-on empty)
-                  (subst (λ (n : ℕ). n + 1 < 2 ^ 64) (sym (end.generation ∙ still)) below) in
+                  (subst (λ (n : ℕ). n + 1 < 2 ^ 63) (sym (end.generation ∙ still)) below) in
                   record {
                     safe = safe-restarted geometry number owners last (committed_by new) b safe-new
                         end.forced (none-on empty) (same-none (left-on empty))
@@ -536,7 +536,7 @@ module _ (geometry : Geometry) (number : ℕ) (owners : Owners) (log : LogNow)
                   }
 
               -- Once the unit has ended the volume rests by the new state.
-              pub rests-defined : (after : LogNow) → log.generation + 1 < 2 ^ 64
+              pub rests-defined : (after : LogNow) → log.generation + 1 < 2 ^ 63
                   → more.generation ≡ log.generation → IsIdle last after → IsLive last after
                   → IsVolumeAtRest geometry number owners after images new b
               rests-defined after below still idle live = by_logged new.logged refl

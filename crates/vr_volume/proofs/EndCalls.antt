@@ -123,12 +123,12 @@ module _ (log mid after : LogNow) (unit : UnitOfRecovery) (kind : EndKind)
       })
       (live-or mid after idle live)
 
-  pub stands-on : (now : Seen) → LogStands mid now → log.generation + 1 < 2 ^ 64
+  pub stands-on : (now : Seen) → LogStands mid now → log.generation + 1 < 2 ^ 63
       → LogStands after now
   stands-on now stands below = ⊎_elim
       (λ none. subst (λ (l : LogNow). LogStands l now) (sym none.1)
       (restarted_stands mid now stands end.forced none.0
-      (subst (λ (n : ℕ). n + 1 < 2 ^ 64) (sym end.generation) below)))
+      (subst (λ (n : ℕ). n + 1 < 2 ^ 63) (sym end.generation) below)))
       (λ some. subst (λ (l : LogNow). LogStands l now) (sym some.1) stands)
       (live-or mid after idle live)
 
@@ -221,12 +221,12 @@ module _ (geometry : Geometry) (number : ℕ) (owners : Owners) (log : LogNow)
         by : List LogRecord → List BeforeImage → ℕ → Content
         by records befores part = put_back part (kept_by records befores) (new.contents part)
 
-    rests-begun : new.logged ≡ [] → log.generation + 1 < 2 ^ 64
+    rests-begun : new.logged ≡ [] → log.generation + 1 < 2 ^ 63
         → IsVolumeAtRest geometry number owners (restarted mid) others new b
     rests-begun empty below =
         let next : LogStands (restarted mid) b =
         restarted_stands mid b stands end.forced (none-on empty)
-        (subst (λ (n : ℕ). n + 1 < 2 ^ 64) (sym end.generation) below) in
+        (subst (λ (n : ℕ). n + 1 < 2 ^ 63) (sym end.generation) below) in
         record {
           safe = safe-restarted geometry number owners mid (committed_by new) b safe-new end.forced
               (none-on empty) (same-none (left-on empty)) (end.geometry ∙ rest.safe.shape) next;
@@ -241,7 +241,7 @@ module _ (geometry : Geometry) (number : ℕ) (owners : Owners) (log : LogNow)
 
     -- Once the unit has ended the volume rests by the new state.
     pub rests-after : (after : LogNow) → is_in unit (live_in log.records) ≡ true
-        → log.generation + 1 < 2 ^ 64 → IsIdle mid after → IsLive mid after
+        → log.generation + 1 < 2 ^ 63 → IsIdle mid after → IsLive mid after
         → IsVolumeAtRest geometry number owners after others new b
     rests-after after there below idle live = by_logged new.logged refl
       where

@@ -138,7 +138,7 @@ module _ {geometry : Geometry} {number : ℕ} {owners : Owners} {log : LogNow}
           -- Once it is there the volume and the catalog are at rest by the new state.
           pub all-changed : (last after-end : LogNow) → IsLogged more (End unit Committed) last
               → IsEndForced more unit Committed last → LogStands last b
-              → log.generation + 1 < 2 ^ 64 → more.generation ≡ log.generation
+              → log.generation + 1 < 2 ^ 63 → more.generation ≡ log.generation
               → IsIdle last after-end → (later : Known) → Left m m.cur → m.count ≡ a.count
               → m.size ≡ a.size → HasKeptRoom catalog kept m → Knows catalog later m
               → later.move ≡ known.move

@@ -301,12 +301,12 @@ module _ {geometry : Geometry} {number : ℕ} {owners : Owners} {log : LogNow}
             none-on : live_in last.records ≡ []
             none-on = ap live_in (end.records ∙ over-are) ∙ none-after unit place before
 
-            rests-begun : log.generation + 1 < 2 ^ 64 → more.generation ≡ log.generation
+            rests-begun : log.generation + 1 < 2 ^ 63 → more.generation ≡ log.generation
                 → IsVolumeAtRest geometry number owners (restarted last) [] new b
             rests-begun below still =
                 let next : LogStands (restarted last) b =
                 restarted_stands last b stands end.forced none-on
-                (subst (λ (n : ℕ). n + 1 < 2 ^ 64) (sym (end.generation ∙ still)) below) in
+                (subst (λ (n : ℕ). n + 1 < 2 ^ 63) (sym (end.generation ∙ still)) below) in
                 record {
                   safe = safe-restarted geometry number owners last (committed_by new) b safe-new
                       end.forced none-on
@@ -322,7 +322,7 @@ module _ {geometry : Geometry} {number : ℕ} {owners : Owners} {log : LogNow}
                 }
 
             -- Once the unit has ended the volume rests by the new state.
-            pub rests-changed : (after : LogNow) → log.generation + 1 < 2 ^ 64
+            pub rests-changed : (after : LogNow) → log.generation + 1 < 2 ^ 63
                 → more.generation ≡ log.generation → IsIdle last after
                 → IsVolumeAtRest geometry number owners after [] new b
             rests-changed after below still idle =

@@ -53,7 +53,8 @@ module _ (geometry : Geometry) (number : ℕ) (owners : Owners) (log : LogNow)
       (λ (records : List LogRecord). IsSafeBy geometry owners records (committed records) now)
       (take_all (length log.records) log.records (omega arith)) (safe.by_log last last-is)
 
-  by-none : IsSafeBy geometry owners [] (committed []) now
+  -- without records
+  pub by-none : IsSafeBy geometry owners [] (committed []) now
   by-none = subst (λ (contents : ℕ → Content). IsSafeBy geometry owners [] contents now) (sym same)
       (by-images [] (sym (no-images log.records none-live)))
     where

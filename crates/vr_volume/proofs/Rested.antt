@@ -82,6 +82,7 @@ module _ (log : LogNow) (forced : IsForced log) (a b : Seen) (stands : LogStands
     allowed = stands.allowed;
     shape = record { count = count ∙ stands.shape.count; size = size ∙ stands.shape.size };
     some = stands.some;
+    below = stands.below;
     fields = stands.fields;
     fits = stands.fits;
     forced = stands.forced;

@@ -145,6 +145,7 @@ pub fn set_again<B: Blocks, P: Part, K: Kept>(
     ensures split { (P.known part.new).split ≡ (P.known part.old).split }
     ensures moves { (P.known part.new).move ≡ (P.known part.old).move }
     ensures areas { (P.known part.new).areas ≡ (P.known part.old).areas }
+    ensures used { (P.known part.new).used ≡ (P.known part.old).used }
 {
     let _ = log;
     set_free(blocks, part, kept, place, bytes)?;

@@ -118,6 +118,7 @@ pub fn set_free<B: Blocks, P: Part, K: Kept>(
     ensures split { (P.known part.new).split ≡ (P.known part.old).split }
     ensures moves { (P.known part.new).move ≡ (P.known part.old).move }
     ensures areas { (P.known part.new).areas ≡ (P.known part.old).areas }
+    ensures used { (P.known part.new).used ≡ (P.known part.old).used }
 {
     part.set(blocks, kept, place, bytes)
 }
@@ -219,15 +220,16 @@ pub fn do_stage<B: Blocks, P: Part, K: Kept>(
         (B.seen blocks.old)
         → IsPartAtRest log.geometry (owner_of log.geometry space.new) images state other known
         (B.seen blocks.new)) }
-    // A split of a volume at rest goes on, or a chain under rosters has one interval more.
-    ensures more { IsTrue B.tells → OnOk result ((number : ℕ) (log : LogNow)
+    // On a volume at rest fewer stages are left, and what is used is counted.
+    ensures more { IsTrue B.tells → IfOk result (λ kind. (number : ℕ) (log : LogNow)
         (images : List BeforeImage) (state : State)
         → IsVolumeAtRest log.geometry number (owner_of log.geometry space.old) log images state
         (B.seen blocks.old)
         → IsPartAtRest log.geometry (owner_of log.geometry space.old) images state
         (P.shape part.old) (P.known part.old) (B.seen blocks.old)
         → length_of space.old ≡ area_count log.geometry
-        → HasMore (P.shape part.old) (P.known part.old) (P.known part.new)) }
+        → HasMore (P.shape part.old) kind (P.known part.old) (P.known part.new)
+        (free_count space.old) (free_count space.new)) }
     // What has to be forced for the places of another part stays.
     ensures others_due { IsTrue B.tells → OnOk result ((number : ℕ) (log : LogNow)
         (images : List BeforeImage) (state : State) (other : Shape) (known : Known)

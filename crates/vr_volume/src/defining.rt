@@ -136,7 +136,7 @@ pub fn define<B: Blocks, P: Part, K: Kept>(
         → IsStarted shape owners known (B.seen blocks.old)
         → IsDefinedIn unit place.now bytes.now (need_of (live_in log.old.records) rec.now) old new
         → K.kept kept.now (part_no (P.shape catalog.old)) ≡ lengths_kept images 0
-        → log.old.generation + 1 < 2 ^ 64
+        → log.old.generation + 1 < 2 ^ 63
         → IsVolumeAtRest log.old.geometry number owners log.new images new (B.seen blocks.new)
         × IsPartAtRest log.old.geometry owners images new (P.shape catalog.old)
         (P.known catalog.new) (B.seen blocks.new)
@@ -165,7 +165,7 @@ pub fn define<B: Blocks, P: Part, K: Kept>(
     ensures log { OnOk result (IsEndedLog (with_record log.old rec.now) unit Committed log.new) }
     ensures geometry { OnOk result (log.new.geometry ≡ log.old.geometry) }
     ensures sound { OnOk result (log.new.broken ≡ false) }
-    ensures stands { IsTrue B.tells → log.old.generation + 1 < 2 ^ 64
+    ensures stands { IsTrue B.tells → log.old.generation + 1 < 2 ^ 63
         → OnOk result (LogStands log.new (B.seen blocks.new)) }
     // What it may answer: that the log is full exactly where it is, and then nothing is done; a
     // fault of a write only where there was one.
@@ -180,6 +180,7 @@ pub fn define<B: Blocks, P: Part, K: Kept>(
     ensures split { OnOk result ((P.known catalog.new).split ≡ (P.known catalog.old).split) }
     ensures moves { OnOk result ((P.known catalog.new).move ≡ (P.known catalog.old).move) }
     ensures areas { OnOk result ((P.known catalog.new).areas ≡ (P.known catalog.old).areas) }
+    ensures used { OnOk result ((P.known catalog.new).used ≡ (P.known catalog.old).used) }
 {
     change(blocks, log, catalog, kept, rec, place, Some(bytes))?;
     force_blocks(blocks, catalog.put_blocks())?;

@@ -107,7 +107,7 @@ pub fn change_entry<B: Blocks, P: Part>(
         → CanChangeEntry log.old.geometry log.old unit place.now before.now (given bytes.entry)
         gone old
         → IsEntryChanged unit place.now (given bytes.entry) gone old new
-        → log.old.generation + 1 < 2 ^ 64
+        → log.old.generation + 1 < 2 ^ 63
         → IsVolumeAtRest log.old.geometry number owners log.new [] new (B.seen blocks.new)
         × IsPartAtRest log.old.geometry owners [] new (P.shape catalog.old)
         (P.known catalog.new) (B.seen blocks.new)) }
@@ -138,7 +138,7 @@ pub fn change_entry<B: Blocks, P: Part>(
     ensures begun { OnOk result (log.new.records ≡ []) }
     ensures geometry { OnOk result (log.new.geometry ≡ log.old.geometry) }
     ensures sound { OnOk result (log.new.broken ≡ false) }
-    ensures stands { IsTrue B.tells → log.old.generation + 1 < 2 ^ 64
+    ensures stands { IsTrue B.tells → log.old.generation + 1 < 2 ^ 63
         → OnOk result (LogStands log.new (B.seen blocks.new)) }
     // What it may answer: that the log is full exactly where it is, and then nothing is done; a
     // fault of a write only where there was one.
@@ -153,6 +153,7 @@ pub fn change_entry<B: Blocks, P: Part>(
     ensures split { OnOk result ((P.known catalog.new).split ≡ (P.known catalog.old).split) }
     ensures moves { OnOk result ((P.known catalog.new).move ≡ (P.known catalog.old).move) }
     ensures areas { OnOk result ((P.known catalog.new).areas ≡ (P.known catalog.old).areas) }
+    ensures used { OnOk result ((P.known catalog.new).used ≡ (P.known catalog.old).used) }
 {
     let kept = KeptEntry {
         place,

@@ -137,7 +137,7 @@ pub fn restart_log<B: Blocks>(blocks: &B, log: &mut UndoLog)
     requires forced { IsForced log.old }
     ensures safe { IsTrue B.tells → (number : ℕ) (owners : Owners)
         (committed : List Rec → ℕ → Content)
-        → log.old.generation + 1 < 2 ^ 64 → LogStands log.old (B.seen blocks.now)
+        → log.old.generation + 1 < 2 ^ 63 → LogStands log.old (B.seen blocks.now)
         → IsSafe log.old.geometry number owners log.old committed (B.seen blocks.now)
         → committed [] ≡ committed log.old.records
         → IsSafe log.old.geometry number owners log.new committed (B.seen blocks.now)

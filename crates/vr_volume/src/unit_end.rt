@@ -94,7 +94,7 @@ pub fn end_unit<B: Blocks>(
         → IsVolumeAtRest geometry number owners log.old (images_in undo.old) old (B.seen blocks.old)
         → IsCurrent old.numbers unit → IsFirmFor geometry log.old old unit (B.seen blocks.old)
         → KeepsNoneIf kind old unit → IsEndedIn unit old new
-        → log.old.generation + 1 < 2 ^ 64
+        → log.old.generation + 1 < 2 ^ 63
         → IsVolumeAtRest geometry number owners log.new (images_in undo.new) new
         (B.seen blocks.new)) }
     ensures others { IsTrue B.tells → OnOk result ((geometry : Geometry) (number : ℕ)
@@ -105,7 +105,7 @@ pub fn end_unit<B: Blocks>(
         → IsPartAtRest geometry owners (images_in undo.old) old shape known (B.seen blocks.old)
         → IsPartAtRest geometry owners (images_in undo.new) new shape known (B.seen blocks.new)) }
     ensures log { OnOk result (IsEndedLog log.old unit kind log.new) }
-    ensures stands { IsTrue B.tells → log.old.generation + 1 < 2 ^ 64
+    ensures stands { IsTrue B.tells → log.old.generation + 1 < 2 ^ 63
         → OnOk result (LogStands log.new (B.seen blocks.new)) }
     ensures shape { OnOk result (IsOf log.new.geometry (B.seen blocks.new)) }
     ensures kept { OnErr result (undo.new ≡ undo.old) }

@@ -150,6 +150,7 @@ pub fn change<B: Blocks, P: Part, K: Kept>(
     ensures split { OnOk result ((P.known part.new).split ≡ (P.known part.old).split) }
     ensures moves { OnOk result ((P.known part.new).move ≡ (P.known part.old).move) }
     ensures areas { OnOk result ((P.known part.new).areas ≡ (P.known part.old).areas) }
+    ensures used { OnOk result ((P.known part.new).used ≡ (P.known part.old).used) }
     ensures stands { IsTrue B.tells → OnOk result (LogStands log.new (B.seen blocks.new)) }
     // A volume that was at rest is so by the state after the change, and so is the part.
     ensures at_rest { IsTrue B.tells → OnOk result ((number : ℕ) (owners : Owners) (old new : State)

@@ -1,6 +1,6 @@
 //! What the latch of a volume guards while the decks of a step run.
-ghost use Rattle.std.specs.Prelude.{◌≡◌, ◌==◌, ℕ, List, Option, Contains, IfSome, Some, false};
-ghost use Rattle.std.specs.Prelude.{None, []};
+ghost use Rattle.std.specs.Prelude.{◌≡◌, ◌==◌, ℕ, List, Option, Contains, IfOk, IfSome, Some};
+ghost use Rattle.std.specs.Prelude.{None, [], false};
 ghost use Rattle.atomic_table.specs.Seated.{TableId};
 ghost use Rattle.vr_ledger.specs.Entries.{HasGrown};
 ghost use Rattle.vr_trace.specs.Laws.{deck_entries};
@@ -90,7 +90,7 @@ impl<V: Served, N: Names<V>> Latched<V, N> {
     }
 
     /// One event of a request of the turn's deck, whose last stamp is `last`: whether the request was
-    /// answered.
+    /// answered. Where it wasn't, it waits for fewer steps than before.
     pub fn answer(
         &mut self,
         turn: &mut Turn,
@@ -102,8 +102,10 @@ impl<V: Served, N: Names<V>> Latched<V, N> {
         requires deck { (turn.old.deck == 0) ≡ false }
         requires named { Contains N.decks turn.old.deck }
         requires may_ask { MayAsk request.now turn.old.entries }
-        ensures { HasTaken (V.number self.old.volume) line request.now (is_done result) last.old
-            last.new turn.old turn.new }
+        ensures taken { HasTaken (V.number self.old.volume) line request.now (is_done result)
+            last.old last.new turn.old turn.new }
+        ensures nearer { IfOk result (λ done. done ≡ false
+            → V.nears self.old.volume self.new.volume turn.old.deck) }
     {
         self.tell(turn);
         self.event(turn, last, line, request)
@@ -123,8 +125,10 @@ impl<V: Served, N: Names<V>> Latched<V, N> {
         requires may_ask { MayAsk request.now turn.old.entries }
         requires told { turn.old.entries
             ≡ deck_entries turn.old.deck (V.entries self.old.volume) }
-        ensures { HasTaken (V.number self.old.volume) line request.now (is_done result) last.old
-            last.new turn.old turn.new }
+        ensures taken { HasTaken (V.number self.old.volume) line request.now (is_done result)
+            last.old last.new turn.old turn.new }
+        ensures nearer { IfOk result (λ done. done ≡ false
+            → V.nears self.old.volume self.new.volume turn.old.deck) }
     {
         let before = self.volume.history().last();
         let answer = self.volume.answer(turn.deck(), line, request, *last);

@@ -1,5 +1,5 @@
 //! A volume, as the thread of a deck sees it.
-ghost use Rattle.std.specs.Prelude.{◌≡◌, ◌==◌, ℕ, List, OnErr, false};
+ghost use Rattle.std.specs.Prelude.{◌≡◌, ◌==◌, ℕ, IfOk, List, OnErr, false};
 ghost use Rattle.vr_history.specs.declared.entry.Entry.{Entry};
 ghost use Rattle.vr_trace.specs.Laws.{deck_entries};
 ghost use Rattle.vr_worker.specs.Asked.{HasEntered, MayAsk, is_done};
@@ -19,6 +19,9 @@ pub trait Served: Drop {
     /// The second is a later state of the first.
     ghost follows: { Self → Self → Type 0 };
 
+    /// In the second a request of this deck waits for fewer steps than in the first.
+    ghost nears: { Self → Self → ℕ → Type 0 };
+
     ghost stays: { (volume : Self) → Self.follows volume volume };
 
     ghost goes_on: { (a b c : Self) → Self.follows a b → Self.follows b c → Self.follows a c };
@@ -32,9 +35,9 @@ pub trait Served: Drop {
         ensures { result.now.entries ≡ entries self.now };
 
     /// One event of a request of a deck, whose last stamp is `after`: whether the request was answered.
-    /// Where it wasn't, a stage of it was done, and the deck asks it again. Where no stamps are left, or
-    /// no unit of recovery of the deck (`Stamps`), or memory runs out (`Memory`, which may come at any
-    /// time), nothing is entered.
+    /// Where it wasn't, a stage was done, so that it waits for less, and the deck asks it again. Where no
+    /// stamps are left, or no unit of recovery of the deck (`Stamps`), or memory runs out (`Memory`,
+    /// which may come at any time), nothing is entered.
     fn answer(
         &mut self,
         deck: u32,
@@ -48,5 +51,6 @@ pub trait Served: Drop {
         ensures follows { follows self.old self.new }
         ensures entered { HasEntered (number self.old) deck line request.now after (is_done result)
             (entries self.old) (entries self.new) }
-        ensures failed { OnErr result (entries self.new ≡ entries self.old) };
+        ensures failed { OnErr result (entries self.new ≡ entries self.old) }
+        ensures nearer { IfOk result (λ done. done ≡ false → nears self.old self.new deck) };
 }

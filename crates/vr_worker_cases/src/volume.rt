@@ -39,6 +39,8 @@ impl Served for PlainVolume {
 
     ghost follows = { λ before after. Always before after };
 
+    ghost nears = { λ before after deck. Always before after };
+
     ghost stays = { λ volume. tt };
 
     ghost goes_on = { λ one two three first second. tt };

@@ -1,4 +1,5 @@
-use Rattle.std.proofs.Common.{List, Option, Some, ap, arith, length, refl, subst}
+use Rattle.std.proofs.Common.{◌<◌, ◌^◌, List, Option, Some, ap, arith, length, refl, rules, subst}
+use Rattle.std.proofs.Common.{ℕ}
 use Rattle.std.proofs.Common.{◌∙◌}
 use Rattle.std.proofs.lemmas.List.{length-set}
 use Rattle.vr_types.specs.declared.unit.PartNo.{PartNo}
@@ -9,8 +10,8 @@ use Rattle.vr_space.specs.Areas.{KeyedChain, head_of}
 use Rattle.vr_space.specs.Keyed.{Keyed}
 use Rattle.vr_attach.specs.Areas.{AreasNow}
 use Rattle.vr_attach.proofs.Stepping.{IsCalled, IsRead, as-bad, as-called, as-read, as-whole}
-use Rattle.vr_attach.proofs.Stepping.{ends-greatest, next-there, step-bad, step-on, step-over}
-use Rattle.vr_attach.proofs.Stepping.{step-twice, still-marked, still-open}
+use Rattle.vr_attach.proofs.Stepping.{ends-greatest, few-added, next-there, step-bad, step-on}
+use Rattle.vr_attach.proofs.Stepping.{step-over, step-twice, still-marked, still-open}
 use Rattle.vr_attach.proofs.walk.step.Goals as goal
 use Rattle.vr_attach.proofs.walk.step.Given as over
 
@@ -43,6 +44,22 @@ add_area-requires-clause-low g c =
     (as-read now area c.area-layout.result c.areas-count.result c.last_end.result called
     c.in_ok-next.field-0 c.walk_area.new.top c.in-Ok.next c.in-Ok.is c.in_ok-next.ensures.good
     c.in_ok-next.ensures.next).good.goes.begins
+
+pub add_area-requires-clause-few : goal.add_area-requires-clause-few
+add_area-requires-clause-few g c =
+    let now = c.args.areas.now in
+    let called = as-called now c.args.area c.layout.result.now c.layout-2.result.now
+    c.area-layout.result c.areas-count.result c.last_end.result c.layout.ensures
+    c.area-layout.ensures.layout c.layout-2.ensures
+    (c.areas-count.ensures
+    ∙ ap (λ (part : KeyedChain). area_count part.geometry) c.behind-areas.view_is)
+    c.last_end.ensures in
+    few-added now c.args.area c.walk_area.new.top c.in-Ok.next
+    (as-read now c.args.area c.area-layout.result c.areas-count.result c.last_end.result called
+    c.in_ok-next.field-0 c.walk_area.new.top c.in-Ok.next c.in-Ok.is c.in_ok-next.ensures.good
+    c.in_ok-next.ensures.next) c.args.taken.now c.requires.ready
+    c.requires.on.part_is.allowed.most_intervals
+    (subst (λ (n : ℕ). n < 2 ^ 32) called.count_is (search rules))
 
 module _ (g : over.Over) (c : goal.In_default g) where
   called-end : IsCalled c.args.areas.now c.args.area c.area-layout.result c.areas-count.result
@@ -101,6 +118,7 @@ returns-in-Ok-take_next-clause-ready g c =
     (ap (λ (all : List (Option PartNo)). length all) c.in-Ok-take_next.ensures.taken
     ∙ length-set c.args.taken.now c.in-Some.next
     (Some (part_no (KeyedShape c.add_area.new.areas.part))))
+    c.requires.on.part_is.allowed.most_intervals
 
 pub returns-in-Ok-take_next-clause-marked : goal.returns-in-Ok-take_next-clause-marked
 returns-in-Ok-take_next-clause-marked g c before marks =

@@ -8,7 +8,8 @@ use Rattle.vr_attach.specs.Linked.{IsLinkedDamagedAt}
 use Rattle.vr_attach.specs.Marked.{IsTakenIn}
 use Rattle.vr_attach.specs.Walked.{AreMarkedTo, EndsGreatest, IsOpen, IsWalkedBy, IsWalkedOver}
 use Rattle.vr_attach.specs.declared.damage.Damage.{Damage}
-use Rattle.vr_attach.proofs.Stepping.{over-knows, over-marked, over-stands, over-whole}
+use Rattle.vr_attach.proofs.Stepping.{over-counted, over-knows, over-marked, over-stands}
+use Rattle.vr_attach.proofs.Stepping.{over-whole}
 use Rattle.vr_attach.proofs.Stepping.{start-marked}
 use Rattle.vr_attach.proofs.Stepping.{start-open, start-walk, walked-by}
 use Rattle.vr_attach.proofs.walk.walk_chain.Goals as goal
@@ -115,6 +116,11 @@ returns-in-Ok-None-clause-whole g c none =
 pub returns-in-Ok-None-clause-knows : goal.returns-in-Ok-None-clause-knows
 returns-in-Ok-None-clause-knows g c told none =
     over-knows c.args.areas.now.part c.step.new.areas (part-is g c)
+    (g.B.Blocks.seen c.args.blocks.now).cur (walked-over g c told)
+
+pub returns-in-Ok-None-clause-counted : goal.returns-in-Ok-None-clause-counted
+returns-in-Ok-None-clause-counted g c told none =
+    over-counted c.args.areas.now.part c.step.new.areas (part-is g c)
     (g.B.Blocks.seen c.args.blocks.now).cur (walked-over g c told)
 
 pub returns-in-Ok-None-clause-found : goal.returns-in-Ok-None-clause-found

@@ -5,7 +5,7 @@ use Rattle.vr_types.proofs.CallerLemmas.{cur-put, keeps-puts, keeps-then-puts}
 use Rattle.vr_space.specs.Areas.{area_of}
 use Rattle.vr_space.specs.Keyed.{Keyed}
 use Rattle.vr_space.specs.UnderWay.{interval_block}
-use Rattle.vr_casplit.proofs.Elsewhere.{put-knows, put-leaves, puts-at}
+use Rattle.vr_casplit.proofs.Elsewhere.{put-counts, put-knows, put-leaves, puts-at}
 use Rattle.vr_casplit.proofs.copy.copy_entry.Goals as goal
 
 pub returns-in_err-read_block-clause-puts : goal.returns-in_err-read_block-clause-puts
@@ -64,4 +64,11 @@ returns-clause-knows g c = λ told owners kept areas ends.
     let n : ℕ = interval_block (area_of c.args.layout.now c.args.into) c.args.to in
     put-knows g.B.Blocks.tells told c.args.layout.now c.args.into n c.read_block.new.out owners
     kept areas ends _ _ (omega arith, omega arith) (returns-clause-puts g c)
+    (g.met.B.Blocks.cur_may c.args.blocks.now told)
+
+pub returns-clause-counts : goal.returns-clause-counts
+returns-clause-counts g c = λ told owners kept.
+    let n : ℕ = interval_block (area_of c.args.layout.now c.args.into) c.args.to in
+    put-counts g.B.Blocks.tells told c.args.layout.now c.args.into n c.read_block.new.out owners
+    kept _ _ (omega arith, omega arith) (returns-clause-puts g c)
     (g.met.B.Blocks.cur_may c.args.blocks.now told)

@@ -3,7 +3,7 @@ use Rattle.std.proofs.lemmas.Result.{on_ok_weaker}
 use Rattle.vr_types.proofs.CallerLemmas.{puts-then-keeps}
 use Rattle.vr_space.specs.Areas.{area_of, head_of}
 use Rattle.vr_space.specs.Keyed.{Keyed}
-use Rattle.vr_casplit.proofs.Elsewhere.{put-knows, put-leaves, puts-at}
+use Rattle.vr_casplit.proofs.Elsewhere.{put-counts, put-knows, put-leaves, puts-at}
 use Rattle.vr_casplit.proofs.Listing.{forced-head, forced-interval, lists-of, lists-there}
 use Rattle.vr_casplit.proofs.link.link_area.Goals as goal
 
@@ -29,6 +29,14 @@ returns-in_err-put-clause-knows g c = λ told owners kept areas ends.
     let head : ℕ = head_of c.args.layout.now c.args.into in
     put-knows g.B.Blocks.tells told c.args.layout.now c.args.into head c.write_upper.new.out owners
     kept areas ends _ _ (omega arith, omega arith)
+    (returns-in_err-put-clause-puts g c)
+    (g.met.B.Blocks.cur_may c.args.blocks.now told)
+
+pub returns-in_err-put-clause-counts : goal.returns-in_err-put-clause-counts
+returns-in_err-put-clause-counts g c = λ told owners kept.
+    let head : ℕ = head_of c.args.layout.now c.args.into in
+    put-counts g.B.Blocks.tells told c.args.layout.now c.args.into head c.write_upper.new.out owners
+    kept _ _ (omega arith, omega arith)
     (returns-in_err-put-clause-puts g c)
     (g.met.B.Blocks.cur_may c.args.blocks.now told)
 
@@ -116,5 +124,13 @@ returns-clause-knows g c = λ told owners kept areas ends.
     let head : ℕ = head_of c.args.layout.now c.args.into in
     put-knows g.B.Blocks.tells told c.args.layout.now c.args.into head c.write_upper.new.out owners
     kept areas ends _ _ (omega arith, omega arith)
+    (returns-clause-puts g c)
+    (g.met.B.Blocks.cur_may c.args.blocks.now told)
+
+pub returns-clause-counts : goal.returns-clause-counts
+returns-clause-counts g c = λ told owners kept.
+    let head : ℕ = head_of c.args.layout.now c.args.into in
+    put-counts g.B.Blocks.tells told c.args.layout.now c.args.into head c.write_upper.new.out owners
+    kept _ _ (omega arith, omega arith)
     (returns-clause-puts g c)
     (g.met.B.Blocks.cur_may c.args.blocks.now told)

@@ -71,7 +71,8 @@ returns-clause-done g c told cut =
     (omega (arith, way.entries, way.ready.1)) (done _ (c.copy_entry.ensures.read told))
     (done _ (c.copy_entry.ensures.done told))))
     (λ owners kept areas ends grows knows.
-    c.copy_entry.ensures.knows told owners kept areas ends grows knows))
+    c.copy_entry.ensures.knows told owners kept areas ends grows knows)
+    (c.copy_entry.ensures.counts told))
 
 pub returns-clause-unread : goal.returns-clause-unread
 returns-clause-unread g c = IfErr-weaker c.copy_entry.result _ _

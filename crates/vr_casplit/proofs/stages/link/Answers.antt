@@ -81,4 +81,5 @@ returns-clause-done g c told cut =
       ap (λ (top : Block). length (entries_of top)) (c.in_ok-read_head.ensures.read told),
     )))))
     (λ owners kept areas ends grows knows.
-    c.link_area.ensures.knows told owners kept areas ends grows knows))
+    c.link_area.ensures.knows told owners kept areas ends grows knows)
+    (c.link_area.ensures.counts told))

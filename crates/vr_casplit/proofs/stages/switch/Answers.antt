@@ -81,4 +81,5 @@ returns-clause-done g c told =
     (λ owners kept grows. done _ (c.switch_head.ensures.rests told owners kept grows))
     (λ owners kept grows. tt)
     (λ owners kept areas ends grows knows.
-    done _ (c.switch_head.ensures.knows told owners kept areas ends grows knows)))
+    done _ (c.switch_head.ensures.knows told owners kept areas ends grows knows))
+    (λ owners kept grows. done _ (c.switch_head.ensures.counts told owners kept grows)))

@@ -6,12 +6,13 @@ use Rattle.vr_types.specs.Image.{Block}
 use Rattle.vr_types.specs.Seen.{Left, Only, Seen}
 use Rattle.vr_seqset.specs.Reading.{record_in}
 use Rattle.vr_space.specs.Areas.{KeyedChain, KnowsAreas, area_of, areas_in, head_in, head_of}
+use Rattle.vr_space.specs.Areas.{intervals_in}
 use Rattle.vr_space.specs.Keyed.{Keyed, entries_of}
 use Rattle.vr_space.specs.Owners.{Owners}
 use Rattle.vr_space.specs.Room.{Lengths}
 use Rattle.vr_space.specs.Moves.{IsLower, IsMoved, cut_of, with_area, with_end}
 use Rattle.vr_casplit.specs.Growing.{IsGrowing, LeavesRecords, LeavesRest}
-use Rattle.vr_casplit.proofs.Switched.{switch-knows, switch-leaves, switch-rests}
+use Rattle.vr_casplit.proofs.Switched.{switch-counts, switch-knows, switch-leaves, switch-rests}
 use Rattle.vr_casplit.proofs.Switching.{CanSwitch}
 use Rattle.vr_casplit.proofs.switch.switch_head.Given as over
 use Rattle.vr_casplit.proofs.switch.switch_head.Goals as goal
@@ -119,6 +120,11 @@ module _ (g : over.Over) (c : After-settle g) (told : IsTrue g.B.Blocks.tells) w
           (switch-knows g.B.Blocks.tells told part owners c.args.area c.args.into c.args.stay a b
           lower can call then-left only areas ends knows)) only-now
 
+      counts-same : OnOk c.settle.result (intervals_in part b.cur ≡ intervals_in part a.cur)
+      counts-same = on_ok_weaker c.settle.result
+          (switch-counts g.B.Blocks.tells told part owners c.args.area c.args.into c.args.stay a b
+          lower can call then-left) only-now
+
 pub returns-clause-leaves : goal.returns-clause-leaves
 returns-clause-leaves g c told owners kept growing = leaves g c told owners kept growing
 
@@ -128,3 +134,6 @@ returns-clause-rests g c told owners kept growing = rests g c told owners kept g
 pub returns-clause-knows : goal.returns-clause-knows
 returns-clause-knows g c told owners kept areas ends growing knows =
     knows-more g c told owners kept growing areas ends knows
+
+pub returns-clause-counts : goal.returns-clause-counts
+returns-clause-counts g c told owners kept growing = counts-same g c told owners kept growing

@@ -41,7 +41,8 @@ returns-in-Ok-NoSpace-clause-fits g c =
     let same = met-shapes c.args.part.0 old new c.ask_room.ensures.parts in
     c.crowded.ensures.fits new c.args.part.0
     (ready-same old new same c.args.part.0 c.args.case.now.request.now c.args.place c.args.old
-    c.requires.at c.requires.new_fits c.requires.old_fits c.in-Ok-NoSpace.ensures.met)
+    c.requires.at c.requires.new_fits c.requires.old_fits c.in-Ok-NoSpace.ensures.met
+    c.args.length c.requires.size)
 
 pub returns-in-Ok-Ready-clause-fits : goal.returns-in-Ok-Ready-clause-fits
 returns-in-Ok-Ready-clause-fits g c =
@@ -50,7 +51,8 @@ returns-in-Ok-Ready-clause-fits g c =
     let same = met-shapes c.args.part.0 old new c.ask_room.ensures.parts in
     c.ready.ensures.fits new c.args.part.0
     (ready-same old new same c.args.part.0 c.args.case.now.request.now c.args.place c.args.old
-    c.requires.at c.requires.new_fits c.requires.old_fits c.in-Ok-Ready.ensures.met)
+    c.requires.at c.requires.new_fits c.requires.old_fits c.in-Ok-Ready.ensures.met c.args.length
+    c.requires.size)
 
 pub returns-in-Ok-Ready-clause-opens : goal.returns-in-Ok-Ready-clause-opens
 returns-in-Ok-Ready-clause-opens g c told =

@@ -1,4 +1,4 @@
-use Rattle.std.proofs.Common.{◌∙◌, List, arith, inr, subst, sym}
+use Rattle.std.proofs.Common.{◌∙◌, List, Ok, ap, arith, inr, subst, sym}
 use Rattle.std.specs.Option.{option_copied}
 use Rattle.vr_history.specs.declared.entry.Entry.{Entry}
 use Rattle.vr_trace.specs.Shown.{Shown}
@@ -10,6 +10,7 @@ use Rattle.vr_job.specs.Going.{went-then}
 use Rattle.vr_job.specs.Serving.{shown_of}
 use Rattle.vr_job.proofs.ChangeShown.{change-refused, change-shown, ready-there}
 use Rattle.vr_job.proofs.DefineShown.{none-defined, ready-shown}
+use Rattle.vr_job.proofs.GoingOn.{less-then}
 use Rattle.vr_job.proofs.changing.change.Goals as goal
 
 pub returns-in_err-make_ready-clause-refused : goal.returns-in_err-make_ready-clause-refused
@@ -78,6 +79,9 @@ returns-clause-changed g c = record {
   event = c.in_ok-event.event;
   answer_is = c.changed_of.ensures;
   come = c.in_ok-event.ensures.come;
+  nearer = λ told again. less-then g.B.Blocks.tells g.B.Blocks.seen g.B.Blocks.faults
+      c.args.volume.now c.make_ready.new.volume c.change_event.new.volume
+      c.make_ready.ensures.stays (c.in_ok-event.ensures.nearer told (ap Ok again));
   cause = c.in_ok-event.ensures.cause;
 }
 

@@ -32,8 +32,9 @@ returns g c =
           c.requires.may come c.change_entry.ensures.cause B.tells held
           (g.met.B.Blocks.cur_may old.blocks)
           (λ told n block. g.met.B.Blocks.sized new.blocks n block told)
-          (g.met.B.Blocks.cur_may new.blocks);
+          (g.met.B.Blocks.cur_may new.blocks) c.change_entry.ensures.splits;
       come = come;
+      nearer = c.change_entry.ensures.nearer;
       cause = c.change_entry.ensures.cause;
       entered_on = changed-entered B.seen B.faults c.args.after c.args.line c.args.entry.now
           (option_copied c.args.to) c.change_entry.result old new c.requires.entry altered

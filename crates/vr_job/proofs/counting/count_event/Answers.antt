@@ -13,7 +13,7 @@ returns g c =
       went = count-went B.seen B.faults c.args.after c.args.line c.count.result old new
           c.count.ensures.entered c.count.ensures.cause c.requires.going
           c.requires.serving.whole c.count.ensures.whole c.count.ensures.number B.tells
-          c.count.ensures.held c.count.ensures.moments
+          c.count.ensures.held c.count.ensures.moments (λ told. c.count.ensures.splits)
           (λ told n block. g.met.B.Blocks.sized new.blocks n block told)
           (g.met.B.Blocks.cur_may new.blocks);
       entered = c.count.ensures.entered;

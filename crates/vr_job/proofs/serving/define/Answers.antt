@@ -1,4 +1,4 @@
-use Rattle.std.proofs.Common.{◌∙◌, List, arith, inr, subst, sym}
+use Rattle.std.proofs.Common.{◌∙◌, List, Ok, ap, arith, inr, subst, sym}
 use Rattle.vr_history.specs.declared.entry.Entry.{Entry}
 use Rattle.vr_trace.specs.Shown.{Shown}
 use Rattle.vr_ams_define.specs.Answers.{IsShownAfter}
@@ -9,6 +9,7 @@ use Rattle.vr_job.specs.Going.{went-then}
 use Rattle.vr_job.specs.Serving.{shown_of}
 use Rattle.vr_job.proofs.DefineShown.{come-refused, come-shown, none-defined, ready-cluster}
 use Rattle.vr_job.proofs.DefineShown.{ready-shown}
+use Rattle.vr_job.proofs.GoingOn.{less-then}
 use Rattle.vr_job.proofs.serving.define.Goals as goal
 
 pub returns-in_err-make_ready-clause-refused : goal.returns-in_err-make_ready-clause-refused
@@ -77,6 +78,9 @@ returns-clause-answered g c = record {
   answer_is = c.answer_of.ensures;
   come = c.in_ok-event.ensures.come;
   no_room = c.in_ok-event.ensures.no_room;
+  nearer = λ told again. less-then g.B.Blocks.tells g.B.Blocks.seen g.B.Blocks.faults
+      c.args.volume.now c.make_ready.new.volume c.define_event.new.volume
+      c.make_ready.ensures.stays (c.in_ok-event.ensures.nearer told (ap Ok again));
   cause = c.in_ok-event.ensures.cause;
 }
 

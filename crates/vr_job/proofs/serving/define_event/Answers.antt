@@ -23,9 +23,10 @@ returns g c =
           c.define.result old new cluster c.requires.may come c.define.ensures.cause B.tells held
           (g.met.B.Blocks.cur_may old.blocks)
           (λ told n block. g.met.B.Blocks.sized new.blocks n block told)
-          (g.met.B.Blocks.cur_may new.blocks);
+          (g.met.B.Blocks.cur_may new.blocks) c.define.ensures.splits;
       come = come;
       no_room = c.define.ensures.no_room;
+      nearer = c.define.ensures.nearer;
       cause = c.define.ensures.cause;
       entered = defined-entered B.seen B.faults c.args.after c.args.line c.args.entry.now
           c.define.result old new cluster c.requires.may come;

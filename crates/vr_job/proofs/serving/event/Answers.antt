@@ -4,7 +4,7 @@ use Rattle.vr_event.specs.Acting.{MayAct}
 use Rattle.vr_event.specs.Volume.{IsHeld}
 use Rattle.vr_worker.specs.Asked.{HasEntered}
 use Rattle.vr_job.proofs.Entering.{event-entered}
-use Rattle.vr_job.proofs.GoingOn.{event-on, event-run, made-in}
+use Rattle.vr_job.proofs.GoingOn.{event-nearer, event-on, event-run, made-in}
 use Rattle.vr_job.proofs.Undoing.{event-shows, may-act}
 use Rattle.vr_job.proofs.serving.event.Goals as goal
 
@@ -48,7 +48,7 @@ returns-clause-went g c =
           c.act-act.ensures.stopped (λ n block. g.met.B.Blocks.sized new.blocks n block told)
           (g.met.B.Blocks.cur_may new.blocks told)
           (c.act-act.ensures.lacks told opening run.held (may opening run.held))
-          c.act-act.ensures.whole
+          (c.act-act.ensures.splits told) c.act-act.ensures.whole
           (c.act-act.ensures.held told opening run.held (may opening run.held));
     }
   where
@@ -70,3 +70,8 @@ returns-clause-entered g c =
     (made-in B.seen B.faults old new c.act-act.result c.args.after c.args.unit c.args.line
     c.args.request c.act-act.ensures.acted)
     c.requires.may_ask)
+
+pub returns-clause-nearer : goal.returns-clause-nearer
+returns-clause-nearer g c =
+    event-nearer g.B.Blocks.tells c.args.volume.now c.act-act.new.self c.act-act.result c.args.unit
+    c.requires.current c.act-act.ensures.nearer c.is_done.result c.is_done.ensures

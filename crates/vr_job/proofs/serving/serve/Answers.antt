@@ -3,6 +3,7 @@ use Rattle.vr_store.proofs.CallerLemmas.{on-err}
 use Rattle.vr_worker.specs.Asked.{HasEntered}
 use Rattle.vr_job.specs.Going.{went-then}
 use Rattle.vr_job.proofs.Entering.{err-undone, none-entered}
+use Rattle.vr_job.proofs.GoingOn.{nearer-then}
 use Rattle.vr_job.proofs.serving.serve.Goals as goal
 
 pub returns-in_err-make_ready-clause-entered : goal.returns-in_err-make_ready-clause-entered
@@ -39,3 +40,9 @@ returns-clause-follows g c =
     let B = g.B.Blocks in
     inr (went-then B.tells B.seen B.faults c.args.volume.now c.make_ready.new.volume
     c.event-done.new.volume c.make_ready.ensures.stays.went c.event-done.ensures.went)
+
+pub returns-clause-nearer : goal.returns-clause-nearer
+returns-clause-nearer g c =
+    let B = g.B.Blocks in
+    λ not. nearer-then B.tells B.seen B.faults c.args.volume.now c.make_ready.new.volume
+    c.event-done.new.volume c.args.deck c.make_ready.ensures.stays (c.event-done.ensures.nearer not)

@@ -1,14 +1,17 @@
 use Rattle.std.proofs.Common.{◌≡◌, Some, inl, inr, sym, subst, rules}
-use Rattle.std.proofs.lemmas.Result.{IfOk-weaker, IfErr-weaker}
+use Rattle.std.proofs.lemmas.Result.{IfOk-weaker, IfErr-weaker, on_ok_weaker}
+use Rattle.vr_types.specs.Image.{Image}
+use Rattle.vr_types.specs.declared.unit.StageKind.{StageKind}
 use Rattle.vr_types.specs.declared.unit.StageKind.TheVariants.{CiCopy}
 use Rattle.vr_types.proofs.CallerLemmas.{keeps-then}
 use Rattle.vr_space.specs.AreaCalls.{area_part}
 use Rattle.vr_space.specs.Keyed.{Keyed, IsKeyedAtRest, KeepsRoom}
 use Rattle.vr_space.proofs.CallerLemmas.{rest-here-keeps, room-here-keeps}
-use Rattle.vr_split.specs.Splits.{stage_now}
+use Rattle.vr_split.specs.Splits.{AddsEntries, stage_now}
 use Rattle.vr_split.specs.Switching.{KeepsPart, IsStageDone}
 use Rattle.vr_keyed.proofs.Adding.{on-ok-from}
-use Rattle.vr_keyed.proofs.Advancing.{part-after, part-kept, done-after}
+use Rattle.vr_keyed.proofs.Advancing.{after-copy, part-after, part-kept, done-after}
+use Rattle.vr_keyed.proofs.Changing.{ok-and}
 use Rattle.vr_keyed.proofs.advance.begin_at.Goals as goal
 
 pub returns-in_err-begin_split-clause-keeps : goal.returns-in_err-begin_split-clause-keeps
@@ -67,6 +70,28 @@ returns-clause-done g c told =
     c.begin_split.ensures.keeps (c.requires.rests told) (c.requires.room told)
     (subst (λ (p : Keyed). IsStageDone p b after) c.begin_split.ensures.part done))
     (c.go_on.ensures.done told)
+
+pub returns-clause-begun : goal.returns-clause-begun
+returns-clause-begun g c told = on_ok_weaker c.go_on.result
+    (after-copy c.begin_split.new.split.split c.go_on.new.split.split
+    (c.in_ok-begin_split.ensures.copy (search rules)))
+    c.go_on.ensures.next
+
+pub returns-clause-adds : goal.returns-clause-adds
+returns-clause-adds g c told =
+    let part = c.args.layout.now in
+    let b = g.B.Blocks.seen c.begin_split.new.blocks in
+    let after = g.B.Blocks.seen c.go_on.new.blocks in
+    let copy : stage_now c.begin_split.new.split.split ≡ Some CiCopy =
+    c.in_ok-begin_split.ensures.copy (search rules) in
+    IfOk-weaker c.go_on.result _ _
+    (λ kind both.
+    let is : kind ≡ CiCopy = cc (copy, both.0) in
+    subst (λ (image : Image). AddsEntries part CiCopy image after.cur)
+    (c.begin_split.ensures.keeps.content told)
+    (subst (λ (one : StageKind). AddsEntries part one b.cur after.cur) is
+    (subst (λ (p : Keyed). AddsEntries p kind b.cur after.cur) c.begin_split.ensures.part both.1)))
+    (ok-and c.go_on.result _ _ c.go_on.ensures.stage (c.go_on.ensures.adds told))
 
 pub returns-clause-leaves : goal.returns-clause-leaves
 returns-clause-leaves g c = inl c.go_on.ensures.none

@@ -1,4 +1,4 @@
-use Rattle.std.proofs.Common.{◌≡◌, ◌≢◌, ◌⊎◌, inl, inr, ◌≤◌, ℕ, IsTrue, List, [], Option}
+use Rattle.std.proofs.Common.{◌≡◌, ◌⊎◌, ◌≤◌, ℕ, IsTrue, List, [], Option}
 use Rattle.std.proofs.Common.{Some, None, All, refl, sym, ap, subst, ◌∙◌, arith, length, rules}
 use Rattle.std.specs.Prelude.{Contains, IsSome}
 use Rattle.std.proofs.lemmas.Result.{IfOk-weaker, on_ok_weaker}
@@ -8,20 +8,25 @@ use Rattle.vr_types.specs.Seen.{Left}
 use Rattle.vr_types.specs.Space.{free_count}
 use Rattle.vr_types.specs.declared.fault.DeviceFault.TheVariants.{Read}
 use Rattle.vr_types.specs.declared.unit.PartNo.{PartNo}
-use Rattle.vr_types.specs.declared.unit.StageKind.TheVariants.{CaClaim}
+use Rattle.vr_types.specs.declared.unit.StageKind.{StageKind}
+use Rattle.vr_types.specs.declared.unit.StageKind.TheVariants.{CaClaim, CiCopy}
 use Rattle.vr_types.proofs.CallerLemmas.{keeps-then as then-keeps}
 use Rattle.vr_space.specs.AreaCalls.{area_part}
 use Rattle.vr_space.specs.Areas.{ChainKeepsRoom, area_for, area_of, areas_in, head_in}
+use Rattle.vr_space.specs.Areas.{intervals_in}
 use Rattle.vr_space.specs.Keyed.{IsHead, IsKeyedAtRest, KeepsRoom, Keyed, entries_of}
 use Rattle.vr_space.specs.Known.{Known, held_with}
+use Rattle.vr_space.specs.Left.{area_intervals}
 use Rattle.vr_space.specs.Met.{Met}
 use Rattle.vr_space.specs.Moves.{MoveUnderWay}
-use Rattle.vr_space.specs.Part.{KeepsChain, KeyedShape, Knows, Shape, part_no}
+use Rattle.vr_space.specs.Part.{HasMore, KeepsChain, KeyedShape, Knows, Shape, part_no}
 use Rattle.vr_space.specs.Room.{Lengths}
 use Rattle.vr_space.specs.Split.{AreaSplit, MoveNow, SplitNow, free_interval}
 use Rattle.vr_space.specs.UnderWay.{AreaUnderWay}
-use Rattle.vr_space.proofs.CallerLemmas.{ComesTo, rest-here, resting-stands, room-here}
+use Rattle.vr_space.proofs.CallerLemmas.{ComesTo, head-intervals, rest-here, resting-stands}
+use Rattle.vr_space.proofs.CallerLemmas.{room-here}
 use Rattle.vr_attach.specs.Areas.{AreasNow}
+use Rattle.vr_split.specs.Splits.{AddsEntries}
 use Rattle.vr_split.specs.Switching.{IsStageDone, KeepsPart}
 use Rattle.vr_keyed.specs.Advance.{IsDue}
 use Rattle.vr_keyed.specs.Begin.{AreFew, IsWhole}
@@ -35,11 +40,12 @@ use Rattle.vr_keyed.specs.declared.begin.Beginning.TheVariants.{Area, Interval}
 use Rattle.vr_keyed.proofs.Adding.{if-err-both, on-ok-both}
 use Rattle.vr_keyed.proofs.NewSplits.{few-found, free-at, whole-at}
 use Rattle.vr_keyed.proofs.Aside.{takes-aside}
-use Rattle.vr_keyed.proofs.Changing.{claim-stage, copy-due, copy-stage, new-due, split-begun}
+use Rattle.vr_keyed.proofs.Changing.{claim-stage, copy-due, copy-stage, new-due, ok-and}
 use Rattle.vr_keyed.proofs.Known.{IsPlaced, area-comes, area-inside, area-known}
 use Rattle.vr_keyed.proofs.Known.{leaves-mine, met-at, none-or-left, placed-at}
-use Rattle.vr_keyed.proofs.Lifted.{stage-done, stage-keeps}
-use Rattle.vr_keyed.proofs.Moved.{held-past, moved-first}
+use Rattle.vr_keyed.proofs.Left.{claiming-fewer, copy-fewer}
+use Rattle.vr_keyed.proofs.Lifted.{stage-counts, stage-done, stage-keeps}
+use Rattle.vr_keyed.proofs.Moved.{held-past}
 use Rattle.vr_keyed.proofs.ReadThen.{IsBetween, between, done-begun, done-read, done-then}
 use Rattle.vr_keyed.proofs.ReadThen.{keeps-begun, keeps-read, keeps-then, knows-failed}
 use Rattle.vr_keyed.proofs.ReadThen.{knows-then, quiet-then, room-then}
@@ -484,15 +490,22 @@ returns-clause-done g c told =
     (known_by chain (split_at area next) c.splits.inside.whole.move new) b d)
     (still ∙ sym c.requires.still)
     (stage-done chain.part area b d now.quiet now.left inside kept keeps chain.areas chain.ends
-    split next c.splits.inside.whole.move old new
+    chain.intervals chain.intervals split next c.splits.inside.whole.move old new
     (subst (λ (one : Option MoveNow). Knows (KeyedShape chain.part) (known_by chain split one old)
     b) (c.requires.still ∙ sym still) now.knows)
     (subst (λ (one : Keyed). IsStageDone one b d) placed.layout_is both.0.0)
     (subst (λ (one : Keyed). AreaUnderWay one next d) placed.layout_is both.0.1)
-    still both.1)))
+    still both.1.0
+    (omega (
+      arith,
+      now.knows.blocks.2,
+      stage-counts chain.part area b d now.quiet now.left inside kept keeps CiCopy
+          (subst (λ (one : Keyed). AddsEntries one CiCopy b.cur d.cur) placed.layout_is both.1.1),
+    )))))
     (on-ok-both c.begin_at.result _ _
     (on-ok-both c.begin_at.result _ _ (c.begin_at.ensures.done told) (c.begin_at.ensures.way told))
-    (c.begin_at.ensures.forgets told))
+    (on-ok-both c.begin_at.result _ _ (c.begin_at.ensures.forgets told)
+    (c.begin_at.ensures.adds told)))
 
 pub returns-clause-mine : goal.returns-clause-mine
 returns-clause-mine g c =
@@ -548,8 +561,14 @@ returns-clause-unread g c =
     ))
     c.begin_at.ensures.split c.begin_at.ensures.unread
 
-pub returns-then-not-takes_least-clause-further : goal.returns-then-not-takes_least-clause-further
-returns-then-not-takes_least-clause-further g c told aside =
+pub move_on-requires-clause-counted : goal.move_on-requires-clause-counted
+move_on-requires-clause-counted g c told =
+    let chain : AreasNow = c.args.areas.now in
+    (c.requires.knows told).blocks.2
+    ∙ ap (intervals_in chain.part) (sym (c.find_beginning.ensures.keeps.content told))
+
+pub returns-then-not-takes_least-clause-more : goal.returns-then-not-takes_least-clause-more
+returns-then-not-takes_least-clause-more g c told aside =
     let chain : AreasNow = c.args.areas.now in
     let a = g.B.Blocks.seen c.args.blocks.now in
     let quiet = c.requires.rests told in
@@ -561,33 +580,97 @@ returns-then-not-takes_least-clause-further g c told aside =
     (c.in-Some-Area.is ∙ ap Some (rw c.in-Some-Area.is at c.in-Some-Area.field-0-is))
     c.in_ok-begins.ensures.few in
     let some : 1 ≤ free_count c.args.space.now = omega (arith, few.0, c.free.ensures) in
-    inl (λ same. takes-aside chain a.cur c.args.space.now (c.requires.knows told).blocks.0
+    absurd (takes-aside chain a.cur c.args.space.now (c.requires.knows told).blocks.0
     (resting-stands chain.part quiet.0 a quiet.1 left).1.chain aside some
     (c.takes_least.ensures.has c.if-not-takes_least.true))
 
-pub returns-in-Some-Area-clause-further : goal.returns-in-Some-Area-clause-further
-returns-in-Some-Area-clause-further g c told aside =
+pub returns-in-Some-Area-clause-more : goal.returns-in-Some-Area-clause-more
+returns-in-Some-Area-clause-more g c told aside =
     let chain : AreasNow = c.args.areas.now in
     let tells = g.B.Blocks.tells in
     let a = g.B.Blocks.seen c.args.blocks.now in
     let b = g.B.Blocks.seen c.find_beginning.new.blocks in
+    let place = c.args.place.now in
     let all : PartNo → Lengths = g.K.Kept.kept c.args.kept.now in
     let kept : Lengths = all (part_no (KeyedShape chain.part)) in
     let call : Keeps tells a b = c.find_beginning.ensures.keeps in
+    let quiet = c.requires.rests told in
+    let left : Left a a.cur = g.met.B.Blocks.cur_may c.args.blocks.now told in
     let room : ChainKeepsRoom chain.part kept b =
-    room-then chain.part tells told a b call (c.requires.rests told) kept (c.requires.room told) in
-    let next : Option MoveNow = c.move_on.new.whole.move in
-    on_ok_weaker c.move_on.result
-    (λ goes. inr (subst (λ (one : Option MoveNow). next ≢ one) (sym c.requires.still)
-    (moved-first c.area_of-area.result c.in-Some-Area.entries c.in-Some-Area.stay
-    c.begin.new.self.move next c.begin.ensures.begun goes)))
-    (c.move_on.ensures.next told kept room)
-
-pub returns-clause-further : goal.returns-clause-further
-returns-clause-further g c told aside =
+    room-then chain.part tells told a b call quiet kept (c.requires.room told) in
     let area : ℕ = c.area_of-area.result in
+    let placed : IsPlaced chain place area c.area-layout.result =
+    placed-at chain c.as_slice.result.now place area c.area-layout.result c.layout.result.now
+    c.as_slice.ensures c.area_of-area.ensures.area c.area-layout.ensures.layout c.layout.ensures in
+    let comes : ComesTo chain.part a.cur place area =
+    area-comes chain a.cur (c.requires.knows told).blocks.0 place area placed.area_is
+    (resting-stands chain.part quiet.0 a quiet.1 left) in
+    let at : List ℕ = c.as_slice-2.result.now in
+    let whole : IsWhole (area_of chain.part area) (head_in chain.part a.cur area) at c.free.result
+    c.in-Some-Area.entries c.in-Some-Area.stay =
+    whole-at chain.part area c.area-layout.result placed.layout_is a.cur at c.free.result
+    c.in_ok-begins.begins c.in-Some-Area.entries c.in-Some-Area.stay
+    (c.in-Some-Area.is ∙ ap Some (rw c.in-Some-Area.is at c.in-Some-Area.field-0-is))
+    (c.in_ok-begins.ensures.begins told) in
+    let few : c.in-Some-Area.entries ≤ area_intervals chain.part =
+    subst (λ (n : ℕ). n ≤ area_intervals chain.part) (sym whole.count)
+    (head-intervals chain.part area (head_in chain.part a.cur area) comes.linked.stands.head) in
+    let areas : List ℕ = chain.areas in
+    let after : AreasNow = c.move_on.new.areas in
+    let next : Option MoveNow = c.move_on.new.whole.move in
+    let owners : List (Option PartNo) = c.args.space.now in
+    let taken : List (Option PartNo) = c.move_on.new.space in
+    let old : List Met = mets c.args.slots.now in
+    let new : List Met = mets c.move_on.new.slots in
+    let split : Option AreaSplit =
+    split_at c.splits.inside.area c.splits.inside.interval.split in
+    let none : split ≡ None =
+    ap (λ (one : Splitting). one.split) c.splits.view_is ∙ c.requires.none in
+    IfOk-weaker c.move_on.result _ _
+    (λ kind does.
+    let keeps : KeepsChain (KeyedShape chain.part) areas (held_with after.areas next) owners taken =
+    subst (λ (one : List ℕ). KeepsChain (KeyedShape chain.part) one (held_with after.areas next)
+    owners taken) (ap (held_now areas) c.begin.ensures.begun)
+    (subst (λ (one : List ℕ). KeepsChain (KeyedShape chain.part)
+    (held_now areas c.begin.new.self.move) one owners taken) (held-past after.areas next does.1.1)
+    does.1.0) in
+    subst (λ (one : Option AreaSplit). HasMore (KeyedShape chain.part) kind
+    (known_by chain one c.args.splits.now.move old) (known_by after split next new)
+    (free_count owners) (free_count taken)) (none ∙ sym c.requires.none)
+    (subst (λ (one : Option MoveNow). HasMore (KeyedShape chain.part) kind
+    (known_by chain split one old) (known_by after split next new) (free_count owners)
+    (free_count taken)) (sym c.requires.still)
+    (claiming-fewer chain after split c.begin.new.self.move next area c.in-Some-Area.entries
+    c.in-Some-Area.stay kind owners taken old new none c.begin.ensures.begun few does.0.0 does.0.1.0
+    c.move_on.ensures.counted keeps does.0.1.1)))
+    (ok-and c.move_on.result _ _
+    (ok-and c.move_on.result _ _ c.move_on.ensures.stage
+    (ok-and c.move_on.result _ _ (c.move_on.ensures.next told kept room) c.move_on.ensures.claimed))
+    (ok-and c.move_on.result _ _ c.move_on.ensures.chain c.move_on.ensures.past))
+
+pub returns-clause-more : goal.returns-clause-more
+returns-clause-more g c told aside =
+    let chain : AreasNow = c.args.areas.now in
+    let area : ℕ = c.area_of-area.result in
+    let free : ℕ = free_count c.args.space.now in
     let next : Option SplitNow = c.begin_at.new.split.split in
-    on_ok_weaker c.begin_at.result
-    (λ some. inl (subst (λ (one : Option AreaSplit). split_at area next ≢ one)
-    (sym c.requires.none) (split-begun area next some)))
-    (c.begin_at.ensures.begun told)
+    let move : Option MoveNow = c.splits.inside.whole.move in
+    let old : List Met = mets c.args.slots.now in
+    let new : List Met = mets c.begin_at.new.slots in
+    let still : move ≡ None =
+    ap (λ (one : Splitting). one.move) c.splits.view_is ∙ c.requires.still in
+    IfOk-weaker c.begin_at.result _ _
+    (λ kind both.
+    subst (λ (one : StageKind). HasMore (KeyedShape chain.part) one
+    (known_in chain c.args.splits.now old) (known_by chain (split_at area next) move new) free free)
+    (sym both.0)
+    (subst (λ (one : Option MoveNow). HasMore (KeyedShape chain.part) CiCopy
+    (known_in chain c.args.splits.now old) (known_by chain (split_at area next) one new) free free)
+    (sym still)
+    (subst (λ (one : Option AreaSplit). HasMore (KeyedShape chain.part) CiCopy
+    (known_by chain one c.args.splits.now.move old) (known_by chain (split_at area next) None new)
+    free free) (sym c.requires.none)
+    (subst (λ (one : Option MoveNow). HasMore (KeyedShape chain.part) CiCopy
+    (known_by chain None one old) (known_by chain (split_at area next) None new) free free)
+    (sym c.requires.still) (copy-fewer chain area free next old new both.1)))))
+    (ok-and c.begin_at.result _ _ c.begin_at.ensures.stage (c.begin_at.ensures.begun told))

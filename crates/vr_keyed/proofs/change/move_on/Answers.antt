@@ -8,7 +8,7 @@ use Rattle.vr_attach.specs.Areas.{AreasNow}
 use Rattle.vr_keyed.specs.Owned.{known_by}
 use Rattle.vr_keyed.proofs.Growing.{EndsSplit, HasStepped, ends-split, knows-ended, knows-on}
 use Rattle.vr_keyed.proofs.Growing.{moves-keep, step-done, stepped}
-use Rattle.vr_keyed.proofs.Moved.{chain-left, moved-on, owners-left, past-left}
+use Rattle.vr_keyed.proofs.Moved.{chain-left, claims-left, moved-on, owners-left, past-left}
 use Rattle.vr_keyed.proofs.change.move_on.Goals as goal
 use Rattle.vr_keyed.proofs.change.move_on.Goals.{else-eq-via-else-eq}
 use Rattle.vr_keyed.proofs.change.move_on.Goals.{else-eq-via-then-eq+else-insert}
@@ -35,10 +35,11 @@ returns-then-insert-clause-done g c told kept room =
     let step : IfSome move (λ now. HasStepped chain.part now next c.step.new.self.cut a b) =
     stepped chain.part c.args.whole.now.part c.requires.part move next c.step.new.self.cut a b
     (c.in_ok-stage.ensures.rests told) (c.in_ok-stage.ensures.way told)
-    (c.in_ok-stage.ensures.knows told) in
+    (c.in_ok-stage.ensures.knows told) (c.in_ok-stage.ensures.counts told) in
     let ended : EndsSplit chain c.areas-area.result.0 c.areas-area.result.1 c.cut.result.now b =
     ends-split chain move next c.step.new.self.cut a b c.requires.under_way
     (c.requires.rests told) (c.requires.way told) kept room step (c.requires.knows told)
+    (c.requires.counted told)
     c.in_ok-stage.stage c.in_ok-stage.ensures.stage (search rules)
     (g.met.B.Blocks.cur_may c.step.new.blocks told) c.areas-area.result.0 c.areas-area.result.1
     c.areas-area.ensures.are c.cut.result.now c.cut.ensures.cut in
@@ -66,6 +67,17 @@ returns-else-eq-clause-chain g c =
     (ap (λ (one : AreasNow). one.areas) same) c.args.space.now c.step.new.space
     c.in_ok-stage.ensures.owners c.in_ok-stage.ensures.next
 
+pub returns-else-eq-clause-claimed : goal.returns-else-eq-clause-claimed
+returns-else-eq-clause-claimed g c = claims-left c.args.areas.now.part c.args.whole.now.part
+    c.requires.part c.args.whole.now.move c.requires.under_way c.args.space.now c.step.new.space
+    c.in_ok-stage.ensures.owners
+
+pub returns-else-eq-clause-counted : goal.returns-else-eq-clause-counted
+returns-else-eq-clause-counted g c = ap (λ (one : AreasNow). one.intervals) (elim c.else-eq.branch [
+  | else-eq-via-then-eq+else-insert w ↦ w.areas-is ∙ w.insert.ensures.none w.if-insert.false
+  | else-eq-via-else-eq w ↦ w.areas-is
+])
+
 pub returns-else-eq-clause-past : goal.returns-else-eq-clause-past
 returns-else-eq-clause-past g c = past-left c.args.whole.now.part c.args.whole.now.move
     c.step.new.self.move c.requires.under_way c.requires.stage c.args.space.now c.step.new.space
@@ -87,7 +99,7 @@ returns-else-eq-clause-done g c told kept room =
     let step : IfSome move (λ now. HasStepped chain.part now next c.step.new.self.cut a b) =
     stepped chain.part c.args.whole.now.part c.requires.part move next c.step.new.self.cut a b
     (c.in_ok-stage.ensures.rests told) (c.in_ok-stage.ensures.way told)
-    (c.in_ok-stage.ensures.knows told) in
+    (c.in_ok-stage.ensures.knows told) (c.in_ok-stage.ensures.counts told) in
     step-done chain.part move next c.step.new.self.cut a b c.requires.under_way
     (c.requires.rests told) (c.requires.way told) kept room step
     (known_by c.else-eq.areas None next [])
@@ -97,6 +109,7 @@ returns-else-eq-clause-done g c told kept room =
           w.cut.result.now b =
           ends-split chain move next c.step.new.self.cut a b c.requires.under_way
           (c.requires.rests told) (c.requires.way told) kept room step (c.requires.knows told)
+          (c.requires.counted told)
           c.in_ok-stage.stage c.in_ok-stage.ensures.stage (search rules)
           (g.met.B.Blocks.cur_may c.step.new.blocks told) c.areas-area.result.0
           c.areas-area.result.1 c.areas-area.ensures.are w.cut.result.now w.cut.ensures.cut in
@@ -111,6 +124,7 @@ returns-else-eq-clause-done g c told kept room =
           (sym w.areas-is)
           (knows-on chain move next c.step.new.self.cut a b c.requires.under_way
           (c.requires.rests told) (c.requires.way told) kept room step (c.requires.knows told)
+          (c.requires.counted told)
           c.in_ok-stage.stage c.in_ok-stage.ensures.stage other past)
     ])
 
@@ -124,13 +138,14 @@ returns-else-eq-clause-next g c told kept room =
     let step : IfSome move (λ now. HasStepped chain.part now next c.step.new.self.cut a b) =
     stepped chain.part c.args.whole.now.part c.requires.part move next c.step.new.self.cut a b
     (c.in_ok-stage.ensures.rests told) (c.in_ok-stage.ensures.way told)
-    (c.in_ok-stage.ensures.knows told) in
+    (c.in_ok-stage.ensures.knows told) (c.in_ok-stage.ensures.counts told) in
     elim c.else-eq.branch [
       | else-eq-via-then-eq+else-insert w ↦
           let ended : EndsSplit chain c.areas-area.result.0 c.areas-area.result.1
           w.cut.result.now b =
           ends-split chain move next c.step.new.self.cut a b c.requires.under_way
           (c.requires.rests told) (c.requires.way told) kept room step (c.requires.knows told)
+          (c.requires.counted told)
           c.in_ok-stage.stage c.in_ok-stage.ensures.stage (search rules)
           (g.met.B.Blocks.cur_may c.step.new.blocks told) c.areas-area.result.0
           c.areas-area.result.1 c.areas-area.ensures.are w.cut.result.now w.cut.ensures.cut in

@@ -1,9 +1,9 @@
-use Rattle.std.proofs.Common.{◌≡◌, List, Some, All, sym, subst}
+use Rattle.std.proofs.Common.{◌≡◌, ◌∙◌, List, Some, All, sym, ap, subst}
 use Rattle.std.specs.Prelude.{Contains}
 use Rattle.std.proofs.lemmas.Result.{IfOk-weaker}
 use Rattle.vr_types.specs.Image.{block_at}
 use Rattle.vr_types.specs.Seen.{Left}
-use Rattle.vr_space.specs.Areas.{KnowsAreas, area_for, area_of, areas_in}
+use Rattle.vr_space.specs.Areas.{KnowsAreas, area_for, area_of, areas_in, intervals_in}
 use Rattle.vr_space.specs.Keyed.{InArea, IsHead, Keyed}
 use Rattle.vr_space.specs.Met.{IsChainMet, IsMet, Met}
 use Rattle.vr_space.specs.Part.{given}
@@ -128,7 +128,8 @@ returns-clause-done g c told =
     is-set chain.part at.0 a b ready.rests left inside kept place item
     (subst (λ (one : Keyed). MaySet one kept place item a b) at.3
     (c.set.ensures.may told kept (split_in splits.split at.0) there))
-    chain.areas chain.ends splits.split splits.move old mid new put c.set.new.out found ready.knows
+    chain.areas chain.ends chain.intervals splits.split splits.move old mid new put c.set.new.out
+    found ready.knows
     (no-stage-of-area chain.part splits.split splits.move a.cur place at.0 found
     ready.can.no_stage).0
     (leaves-met chain.part tells a.cur place at.0 told found old mid
@@ -186,6 +187,7 @@ returns-clause-unread g c =
                 (area-known chain a.cur known.0 place at.0 at.1) old new
                 (subst (λ (one : Keyed). LeavesMet one tells a.cur place old new) at.3 leaves)
                 known.1),
+            known.2 ∙ ap (intervals_in chain.part) same,
           ),
     ))
     c.set.ensures.failed c.set.ensures.unread

@@ -1,10 +1,24 @@
-use Rattle.std.proofs.Common.{ℕ, List, Some, ap, subst, sym, ◌∙◌}
+use Rattle.std.proofs.Common.{◌≡◌, ℕ, List, Some, ap, subst, sym, ◌∙◌}
 use Rattle.std.specs.Prelude.{Contains, length}
-use Rattle.vr_space.specs.Areas.{KeyedChain}
+use Rattle.vr_space.specs.Areas.{KeyedChain, KnowsAreas, intervals_in}
 use Rattle.vr_space.specs.Part.{KeyedShape, owned_count, part_no}
 use Rattle.vr_space.specs.Rosters.{Numbered}
 use Rattle.vr_part.proofs.Attaching.{free-or-first, held-alone}
 use Rattle.vr_part.proofs.attach.attach_part.Goals as goal
+
+pub returns-then-eq-clause-known : goal.returns-then-eq-clause-known
+returns-then-eq-clause-known g c told =
+    let keyed = c.in_ok-keyed.keyed in
+    let cur = (g.B.Blocks.seen c.args.blocks.now).cur in
+    let is = c.in_ok-keyed.ensures.attached in (
+      is.split,
+      is.met,
+      subst (λ (part : KeyedChain). KnowsAreas part keyed.areas keyed.ends cur) (sym is.part_is)
+          (c.in_ok-keyed.ensures.knows told),
+      is.move,
+      subst (λ (part : KeyedChain). keyed.intervals ≡ intervals_in part cur) (sym is.part_is)
+          (c.in_ok-keyed.ensures.counted told),
+    )
 
 pub returns-then-eq-clause-marked : goal.returns-then-eq-clause-marked
 returns-then-eq-clause-marked g c at has =

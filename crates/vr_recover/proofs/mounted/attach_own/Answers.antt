@@ -1,6 +1,7 @@
-use Rattle.std.proofs.Common.{arith}
+use Rattle.std.proofs.Common.{◌≡◌, arith, subst, sym}
 use Rattle.std.proofs.lemmas.Result.{err_from_is_err_and}
 use Rattle.vr_types.proofs.CallerLemmas.{keeps-none}
+use Rattle.vr_space.specs.Areas.{KeyedChain, intervals_in}
 use Rattle.vr_mount.proofs.CallerLemmas.{two-areas}
 use Rattle.vr_recover.proofs.OwnArea.{own-answer}
 use Rattle.vr_recover.proofs.mounted.attach_own.Goals as goal
@@ -20,3 +21,10 @@ returns-in_err-own-clause-damaged g c told =
     (omega (arith, two-areas geometry c.requires.allowed)) c.in_ok-space.ensures.others
     c.catalog_layout.result c.catalog_layout.ensures c.in_err-own.field-0.0
     (c.in_err-own.ensures.damaged told))
+
+pub returns-clause-counted : goal.returns-clause-counted
+returns-clause-counted g c told =
+    let own = c.in_ok-own.own in
+    let cur = (g.B.Blocks.seen c.args.blocks.now).cur in
+    subst (λ (part : KeyedChain). own.intervals ≡ intervals_in part cur)
+    (sym c.in_ok-own.ensures.attached.part_is) (c.in_ok-own.ensures.counted told)

@@ -18,5 +18,6 @@ records_of_part-requires-clause-knows g c told =
         c.requires.knows told,
         subst (λ (met : List Met). All (IsChainMet part cur) met) (sym c.requires.met)
             (All-nil (IsChainMet part cur)),
+        c.requires.counted told,
       );
     }

@@ -2,9 +2,8 @@ use Rattle.std.proofs.Common.{ap, ◌∙◌}
 use Rattle.std.proofs.lemmas.Result.{IfErr-weaker}
 use Rattle.vr_types.specs.Image.{Image, block_at}
 use Rattle.vr_types.proofs.CallerLemmas.{keeps-then}
-use Rattle.vr_recover.specs.Found.{ShowsBoth}
+use Rattle.vr_recover.specs.Found.{ShowsOnly}
 use Rattle.vr_recover.specs.Opening.{IsLogShown, IsRefused}
-use Rattle.vr_recover.specs.Unserved.{IsLogUnserved}
 use Rattle.vr_recover.proofs.Attaching.{of-still}
 use Rattle.vr_recover.proofs.OpenLemmas.{refused-before}
 use Rattle.vr_recover.proofs.Refusals.{log-long, log-refused}
@@ -22,7 +21,7 @@ returns-clause-refused g c told =
     let long = log-long geometry d c.in_ok-geometry.ensures.allowed of
     (g.met.B.Blocks.cur_may c.sync_all.new.blocks told)
     (λ n block below may. g.met.B.Blocks.sized c.sync_all.new.blocks n block told below may) in
-    IfErr-weaker c.begin_log.result (ShowsBoth (IsLogShown geometry d) (IsLogUnserved geometry d))
+    IfErr-weaker c.begin_log.result (ShowsOnly (IsLogShown geometry d))
     (IsRefused c.args.number a)
     (λ answer shown. refused-before a d call.count_same call.size_same (call.content told)
     c.args.number answer

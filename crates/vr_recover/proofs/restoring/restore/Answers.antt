@@ -130,14 +130,11 @@ returns-clause-undone g c told =
       call = c.clear.ensures.moments told;
       stands = c.in_ok-clear.ensures.stands told;
     } in
-    let low : c.args.begun.now.log.generation + 1 < 2 ^ 64 =
-    subst (λ (l : LogNow). l.generation + 1 < 2 ^ 64) (sym c.requires.log)
-    (omega (arith, c.requires.young.young)) in
     on_ok_weaker c.undo.result
     (λ undone number contents is. undone number (owner_of geometry areas) contents
     (then-settled geometry content entries parts c.requires.planned areas a b cleared number
     contents is c.args.begun.now.log c.requires.log))
-    (c.undo.ensures.undone told low)
+    (c.undo.ensures.undone told)
 
 pub returns-clause-ready : goal.returns-clause-ready
 returns-clause-ready g c told =

@@ -25,8 +25,8 @@ returns-clause-any_moment g c told number owners contents settled =
     (sym c.as_mut_slice.ensures.value) settled)
 
 pub returns-clause-undone : goal.returns-clause-undone
-returns-clause-undone g c told below number owners contents settled =
-    c.in_ok-undo_units.ensures.undone told below number owners contents
+returns-clause-undone g c told number owners contents settled =
+    c.in_ok-undo_units.ensures.undone told number owners contents
     (subst (λ (parts : List AnyPart). IsSettled number owners c.args.begun.now.log contents
     (map shape_any parts) (g.B.Blocks.seen c.args.blocks.now))
     (sym c.as_mut_slice.ensures.value) settled)

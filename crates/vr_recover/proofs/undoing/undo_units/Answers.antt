@@ -74,7 +74,7 @@ returns-clause-any_moment g c told number owners contents settled =
     (fewer-all log settled.opened.records))
 
 pub returns-clause-undone : goal.returns-clause-undone
-returns-clause-undone g c told below number owners contents settled =
+returns-clause-undone g c told number owners contents settled =
     let log = c.args.log.now in
     let b = g.B.Blocks.seen c.put_back_all.new.blocks in
     let first = c.put_back_all.ensures.safe told log.geometry number owners contents settled.safe
@@ -85,7 +85,7 @@ returns-clause-undone g c told below number owners contents settled =
       all = c.in_ok-put_back_all.ensures.all told log.geometry number owners contents settled.safe
           settled.opened settled.parts settled.covered;
     } in
-    c.in_ok-end_all.ensures.undone told below number owners contents undone
+    c.in_ok-end_all.ensures.undone told number owners contents undone
 
 pub returns-clause-ready : goal.returns-clause-ready
 returns-clause-ready g c told owners past all k d below =

@@ -4,7 +4,7 @@ use Rattle.vr_space.specs.Room.{Lengths}
 use Rattle.vr_split.specs.Switching.{KeepsPart, IsStageDone}
 use Rattle.vr_split.specs.Splits.{split_of}
 use Rattle.vr_split.proofs.Going.{kept-part, then-part, then-done, none-kept, copy-apply}
-use Rattle.vr_split.proofs.Going.{copy-leaves, copy-idle}
+use Rattle.vr_split.proofs.Going.{copy-counts, copy-leaves, copy-idle}
 use Rattle.vr_split.proofs.steps.copy.Goals as goal
 
 pub returns-in_err-make_copies-clause-keeps : goal.returns-in_err-make_copies-clause-keeps
@@ -95,3 +95,14 @@ returns-clause-made g c told =
     (B.seen c.copy_interval.new.blocks) c.make_copies.new.upper
     (g.met.B.Blocks.cur_may c.copy_interval.new.blocks told) c.copy_interval.ensures.count
     (c.in_ok-make_copies.ensures.upper told) (c.in_ok-copy_interval.ensures.into_stable told)
+
+pub returns-clause-counts : goal.returns-clause-counts
+returns-clause-counts g c told =
+    let B = g.B.Blocks in
+    copy-counts c.args.layout.now B.tells told (split_of c.args.split.now CiCopy)
+    (B.seen c.args.blocks.now) (B.seen c.make_copies.new.blocks) c.make_copies.ensures.keeps
+    (c.requires.rests told) (g.met.B.Blocks.cur_may c.args.blocks.now told)
+    (g.met.B.Blocks.cur_may c.make_copies.new.blocks told) (c.requires.begun told)
+    c.block_of.result c.block_of-2.result c.block_of.ensures c.block_of-2.ensures
+    c.make_copies.new.whole (c.in_ok-make_copies.ensures.whole told)
+    (B.seen c.copy_interval.new.blocks) (c.copy_interval.ensures.elsewhere told)

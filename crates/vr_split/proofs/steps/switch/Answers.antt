@@ -7,7 +7,7 @@ use Rattle.vr_space.specs.Keyed.{Keyed}
 use Rattle.vr_split.specs.Switching.{KeepsPart, IsStageDone}
 use Rattle.vr_split.specs.Splits.{split_of}
 use Rattle.vr_split.proofs.Going.{kept-part, kept-way, then-part, then-done, none-kept}
-use Rattle.vr_split.proofs.Going.{switch-apply, switch-leaves, switch-entries}
+use Rattle.vr_split.proofs.Going.{switch-apply, switch-counts, switch-leaves, switch-entries}
 use Rattle.vr_split.proofs.steps.switch.Goals as goal
 
 pub returns-in_err-make_head-clause-keeps : goal.returns-in_err-make_head-clause-keeps
@@ -111,6 +111,26 @@ returns-clause-made g c told =
     let long : length c.make_head.new.out ≡ part.size = omega arith in
     let head : c.layout.inside.head ≡ part.head = ap (λ (k : Keyed). k.head) c.layout.view_is in
     switch-entries part B.tells told split a m c.make_head.ensures.keeps rests left
+    (g.met.B.Blocks.cur_may c.make_head.new.blocks told)
+    (kept-way part B.tells told a m c.make_head.ensures.keeps rests split left
+    (c.requires.copied told)) c.make_head.new.out long (c.in_ok-make_head.ensures.made told)
+    b
+    (subst (λ (n : ℕ). block_at b.cur n ≡ c.make_head.new.out) head
+    (c.in_ok-switch_head.ensures.put told))
+
+pub returns-clause-counts : goal.returns-clause-counts
+returns-clause-counts g c told =
+    let B = g.B.Blocks in
+    let part = c.args.layout.now in
+    let split = split_of c.args.split.now CiSwitch in
+    let a = B.seen c.args.blocks.now in
+    let m = B.seen c.make_head.new.blocks in
+    let b = B.seen c.switch_head.new.blocks in
+    let rests = c.requires.rests told in
+    let left = g.met.B.Blocks.cur_may c.args.blocks.now told in
+    let long : length c.make_head.new.out ≡ part.size = omega arith in
+    let head : c.layout.inside.head ≡ part.head = ap (λ (k : Keyed). k.head) c.layout.view_is in
+    switch-counts part B.tells told split a m c.make_head.ensures.keeps rests left
     (g.met.B.Blocks.cur_may c.make_head.new.blocks told)
     (kept-way part B.tells told a m c.make_head.ensures.keeps rests split left
     (c.requires.copied told)) c.make_head.new.out long (c.in_ok-make_head.ensures.made told)

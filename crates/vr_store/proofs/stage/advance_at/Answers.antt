@@ -1,4 +1,4 @@
-use Rattle.std.proofs.Common.{refl, sym, ap, subst, map}
+use Rattle.std.proofs.Common.{◌<◌, refl, sym, ap, subst, map}
 use Rattle.std.proofs.Common.{set, List, Option, None, rules, IsTrue}
 use Rattle.vr_types.specs.declared.unit.PartNo.{PartNo}
 use Rattle.vr_types.specs.Space.{free_count}
@@ -6,7 +6,7 @@ use Rattle.std.specs.Prelude.{IfOk, IfSome}
 use Rattle.vr_types.specs.Moments.{Guards}
 use Rattle.vr_volume.specs.Safe.{IsSafeImage}
 use Rattle.vr_space.specs.Part.{HasMore, IsLengthOf, IsPlaceOf, IsStageOf, OwnersAfter, Shape}
-use Rattle.vr_space.specs.Part.{part_no}
+use Rattle.vr_space.specs.Part.{left_of, part_no}
 use Rattle.vr_space.proofs.CallerLemmas.{room-stage}
 use Rattle.vr_attach.specs.Owning.{claimed_by, owner_of}
 use Rattle.vr_undo.specs.Records.{images_in}
@@ -14,6 +14,7 @@ use Rattle.vr_volume.specs.Committed.{committed_by}
 use Rattle.vr_volume.specs.PutBack.{lengths_kept}
 use Rattle.vr_volume.specs.Rests.{IsPartAtRest}
 use Rattle.vr_volume.proofs.Rested.{laid-rest}
+use Rattle.vr_store.specs.Left.{parts_left}
 use Rattle.vr_store.specs.Parts.{but_split}
 use Rattle.vr_store.specs.Store.{IsStored, PartNow, StoreNow, owners_of, part_among, part_now}
 use Rattle.vr_store.specs.Store.{store_of}
@@ -22,6 +23,7 @@ use Rattle.vr_store.proofs.PartsAt.{found-new, laid-at, laid-found, none-laid, o
 use Rattle.vr_store.proofs.Recorded.{at-part, at-shape, number-at, part-number-at, rested-at, set-at}
 use Rattle.vr_store.proofs.Recorded.{shape-at}
 use Rattle.vr_store.proofs.Rooms.{due-at, room-at}
+use Rattle.vr_store.proofs.StagesLeft.{free-after, left-with}
 use Rattle.vr_store.proofs.Worked.{set-unclaimed, set-worked, stored-met, stored-worked}
 use Rattle.vr_store.proofs.stage.advance_at.Goals as goal
 
@@ -121,6 +123,7 @@ returns-in_err-kind-in-Some g c =
                 (kept.1 told)),
           ));
       more = search rules;
+      fewer = search rules;
       parts = only-split number before after store.parts parts at refl same;
       cause = search rules;
     }
@@ -159,6 +162,13 @@ returns g c =
     c.args.length done.kind
     (rested-at store a c.requires.set stands.number stands.state number before at.found
     stands.stored).knows.way (sym (done.ensures.stage told)) in
+    let free = free_count c.args.space.now in
+    let left = free_count space in
+    let more = λ (told : IsTrue g.B.Blocks.tells).
+    let stands = c.requires.stands told in
+    done.ensures.more told stands.number store.log images stands.state stands.stored.volume
+    (rested-at store a c.requires.set stands.number stands.state number before at.found
+    stands.stored) c.requires.set.areas in
     record {
       stage = λ told. room-at store c.args.space.now c.args.undo.now refl refl number before
           at.found
@@ -196,16 +206,18 @@ returns g c =
           (rested-at store a c.requires.set volume state number before at.found stored) _ refl)
           (rested-at store a c.requires.set volume state number before at.found stored).claimed).0;
       unread = search rules;
-      more = λ told.
-          let stands = c.requires.stands told in
-          at-part (λ (one : PartNow). IfSome (part_among parts number)
-          (λ (later : PartNow). HasMore one.shape one.known later.known)) store.parts number before
-          at.found
-          (at-part (λ (later : PartNow). HasMore before.shape before.known later.known) parts number
-          after (found-new number before after store.parts parts at refl)
-          (done.ensures.more told stands.number store.log images stands.state stands.stored.volume
-          (rested-at store a c.requires.set stands.number stands.state number before at.found
-          stands.stored) c.requires.set.areas));
+      more = λ told. at-part (λ (one : PartNow). IfSome (part_among parts number)
+          (λ (later : PartNow). HasMore one.shape done.kind one.known later.known free left))
+          store.parts number before at.found
+          (at-part (λ (later : PartNow).
+          HasMore before.shape done.kind before.known later.known free left) parts number after
+          (found-new number before after store.parts parts at refl) (more told));
+      fewer = λ told. subst (λ (list : List PartNow).
+          parts_left left list < parts_left free store.parts) (sym at.is)
+          (left-with number before after free left
+          (free-after c.args.number done.kind c.args.space.now space owners)
+          (subst (λ (s : Shape). left_of s after.known left < left_of before.shape before.known free)
+          (sym c.do_stage.ensures.shape) (more told).fewer) store.parts at.found);
       parts = only-split number before after store.parts parts at refl same;
       cause = search rules;
     }

@@ -118,7 +118,8 @@ returns g c =
           (c.room.ensures.knows told);
       parts = only-met number before after store.parts parts at refl
           (same-met laid.number before.shape after.shape before.known after.known
-          c.room.ensures.shape c.room.ensures.split c.room.ensures.moves c.room.ensures.areas);
+          c.room.ensures.shape c.room.ensures.split c.room.ensures.moves c.room.ensures.areas
+          c.room.ensures.used);
       keeps = c.room.ensures.keeps;
       cause = c.room.ensures.cause;
     }

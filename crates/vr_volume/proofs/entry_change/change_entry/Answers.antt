@@ -200,4 +200,4 @@ returns-clause-stands g c told below =
     stands-on c.change.new.log c.log_end.new.log c.restart_idle.new.log c.args.unit Committed
     c.in_ok-log_end.ensures.log c.restart_idle.ensures.idle c.restart_idle.ensures.live
     (g.B.Blocks.seen c.log_end.new.blocks) (c.in_ok-log_end.ensures.stands told)
-    (subst (λ (n : ℕ). n + 1 < 2 ^ 64) (sym c.in_ok-change.ensures.generation) below)
+    (subst (λ (n : ℕ). n + 1 < 2 ^ 63) (sym c.in_ok-change.ensures.generation) below)

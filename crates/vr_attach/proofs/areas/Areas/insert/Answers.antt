@@ -115,9 +115,9 @@ module _ (c : goal.After-self-2-1) where
       (sym c.self.view_is) c.requires.there)
 
   -- so the chain has the new area right after this one
-  seen : chain_seen part now (used + 1)
+  seen : chain_seen part now (used + 1) c.self.inside.intervals
       ≡ inserted_at c.args.self.now i c.args.into c.args.cut.now
-  seen = done.seen
+  seen = done.seen c.self.inside.intervals
       ∙ ap (λ (now : AreasNow). inserted_at now i c.args.into c.args.cut.now) c.self.view_is
 
   many : length c.args.self.now.areas ≡ length c.args.self.now.ends
@@ -139,6 +139,9 @@ pub returns-clause-inserted : goal.returns-clause-inserted
 returns-clause-inserted c is = seen c
     ∙ cut-inserted c.args.self.now c.args.area c.args.into c.args.cut.now c.position-i.result
     (many c) c.position-i.ensures is
+
+pub returns-clause-intervals : goal.returns-clause-intervals
+returns-clause-intervals c = ap (λ (now : AreasNow). now.intervals) c.self.view_is
 
 pub returns-clause-more : goal.returns-clause-more
 returns-clause-more c held = subst (HoldsSame (c.args.self.now.areas ++ c.args.into ∷ []))

@@ -95,3 +95,7 @@ returns-clause-way g c told =
 pub returns-clause-knows : goal.returns-clause-knows
 returns-clause-knows g c told =
     IfSome_then c.args.self.now.move (c.in_ok-run.ensures.done told) (λ move done. done.knows)
+
+pub returns-clause-counts : goal.returns-clause-counts
+returns-clause-counts g c told =
+    IfSome_then c.args.self.now.move (c.in_ok-run.ensures.done told) (λ move done. done.counts)

@@ -3,7 +3,7 @@ use Rattle.std.specs.Option.{option_map}
 use Rattle.std.proofs.lemmas.List.Elements.{All-nil}
 use Rattle.vr_types.specs.Seen.{Seen}
 use Rattle.vr_types.specs.Space.{free_count}
-use Rattle.vr_space.specs.Part.{HasKeptRoom, IsQuiet, NumberedShape, part_no}
+use Rattle.vr_space.specs.Part.{HasKeptRoom, IsQuiet, KeepsChain, NumberedShape, part_no}
 use Rattle.vr_space.specs.Room.{Lengths}
 use Rattle.vr_space.specs.Rosters.{Numbered, chain_of, used_of}
 use Rattle.vr_space.specs.Numbered.{IsIntervalMet, KnowsTail}
@@ -13,6 +13,7 @@ use Rattle.vr_chained.specs.Met.{AreMetsOf}
 use Rattle.vr_chained.specs.Owned.{OwnedChain, known_of}
 use Rattle.vr_chained.specs.Tail.{tail_of}
 use Rattle.vr_chained.proofs.Ending.{tail-further}
+use Rattle.vr_chained.proofs.Fewer.{due-fewer}
 use Rattle.vr_chained.proofs.Staging.{stage-first, stage-more}
 use Rattle.vr_chained.proofs.chained.ChainedPart.advance.Given as over
 use Rattle.vr_chained.proofs.chained.ChainedPart.advance.Goals as goal
@@ -142,7 +143,12 @@ returns-clause-more g c told volume owners grown grows rests claimed =
     let due = stage-more (now g c) (old g c).cur (free_count c.args.space.now) (kept g c)
     c.args._place.now c.args._length (c.requires.due told) (c.requires.knows told).blocks.chain
     c.args.space.now refl volume (old g c) owners grown grows rests in
-    c.in_ok-extend.ensures.more told
+    due-fewer (now g c).chain (known_of (now g c)) _ c.args.space.now
+    c.extend.new.space (old g c) due refl refl
+    (c.in_ok-extend.ensures.more told
     (subst (λ (chain : ChainNow). IsMoreDue chain c.args.space.now (old g c))
     (sym (ap (λ (o : OwnedChain). o.chain) c.self.view_is)) due)
-    ∙ ap (λ (o : OwnedChain). o.chain.used + 1) c.self.view_is
+    ∙ ap (λ (o : OwnedChain). o.chain.used + 1) c.self.view_is)
+    (subst (λ (o : OwnedChain). KeepsChain (NumberedShape o.chain.part) o.chain.areas
+    c.extend.new.chain.areas c.args.space.now c.extend.new.space) c.self.view_is
+    c.in_ok-extend.ensures.chain)

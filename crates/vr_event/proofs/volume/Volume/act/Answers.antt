@@ -11,6 +11,9 @@ use Rattle.vr_event.specs.Lacking.{AreElse}
 use Rattle.vr_event.proofs.Lacks.{fact-of, file-else}
 use Rattle.vr_event.proofs.Recovers.{recovers-keeps, recovers-with}
 use Rattle.vr_event.proofs.Weighs.{asks-change}
+use Rattle.std.proofs.Common.{ap}
+use Rattle.vr_store.specs.Store.{StoreNow}
+use Rattle.vr_event.proofs.CountedSplits.{keeps-same, splits-answered}
 use Rattle.vr_event.proofs.volume.Volume.act.Goals as goal
 
 pub returns-in-Some-clause-moments : goal.returns-in-Some-clause-moments
@@ -59,3 +62,13 @@ returns-in-None-clause-lacks g c told opening held may entered need free is plac
     r))) c.get.ensures (c.refused_early.ensures.value told opening held may.of_deck) in
     c.serve.ensures.lacks told opening held may (sym value ∙ c.in-None.is) entered need free is
     place at
+
+pub returns-in-Some-clause-splits : goal.returns-in-Some-clause-splits
+returns-in-Some-clause-splits g c told =
+    let faults = g.B.Blocks.faults in
+    let old = c.args.self.now in
+    let new = c.refuse_early.new.self in
+    splits-answered old new (faults old.blocks) (faults new.blocks) c.args.after c.args.unit
+    c.args.line c.args.request
+    (λ going. keeps-same old.store new.store
+    (ap (λ (s : StoreNow). s.parts) c.refuse_early.ensures.store)) c.refuse_early.ensures.acted

@@ -32,6 +32,7 @@ use Rattle.vr_event.proofs.ClaimedAreas.{staged-refusals}
 use Rattle.vr_event.proofs.Lacks.{done-unrefused, fact-of}
 use Rattle.vr_event.proofs.Recovering.{keeps-recovers}
 use Rattle.vr_event.proofs.Wholes.{may-changing}
+use Rattle.vr_event.proofs.CountedSplits.{keeps-met, keeps-same, nearer-after, splits-after, splits-met}
 use Rattle.vr_event.proofs.volume.Volume.change.Goals as goal
 
 pub returns-in-Refused-clause-held : goal.returns-in-Refused-clause-held
@@ -231,3 +232,36 @@ returns-in-Ready-clause-lacks g c told opening held asked entered need free is p
     absurd (done-unrefused (case_of c.args.self.now.file.geometry
     (state_now opening c.args.self.now.file) c.args.unit c.get-2.result.now) c.get-2.result.now
     (NoSpace need free) (sym ready.reply_is ∙ reply))
+
+pub returns-in-Refused-clause-splits : goal.returns-in-Refused-clause-splits
+returns-in-Refused-clause-splits g c told =
+    let faults = g.B.Blocks.faults in
+    let old = c.args.self.now in
+    let mid = c.weigh_change.new.self in
+    let new = c.enter_refused.new.self in
+    splits-met old mid new (faults old.blocks) (faults mid.blocks) c.args.after c.args.unit
+    c.args.line c.args.request c.weigh_change.ensures.meets c.weigh_change.ensures.file
+    (λ going. keeps-same mid.store new.store
+    (ap (λ (s : StoreNow). s.parts) c.enter_refused.ensures.store))
+    (acted-got (c.enter_refused.ensures.cause (faults old.blocks) (faults mid.blocks)
+    c.in-Refused.ensures.cause))
+
+pub returns-in-Stage-clause-nearer : goal.returns-in-Stage-clause-nearer
+returns-in-Stage-clause-nearer g c told =
+    nearer-after c.do_stage.result c.args.unit c.args.self.now c.weigh_change.new.self
+    c.do_stage.new.self c.weigh_change.ensures.meets (c.do_stage.ensures.nearer told)
+
+pub returns-in-Stage-clause-splits : goal.returns-in-Stage-clause-splits
+returns-in-Stage-clause-splits g c told =
+    splits-after c.args.self.now c.weigh_change.new.self c.do_stage.new.self
+    c.weigh_change.ensures.meets c.weigh_change.ensures.file (c.do_stage.ensures.splits told)
+
+pub returns-in-Ready-clause-splits : goal.returns-in-Ready-clause-splits
+returns-in-Ready-clause-splits g c told =
+    let faults = g.B.Blocks.faults in
+    let mid = c.weigh_change.new.self in
+    let new = c.put.new.self in
+    splits-met c.args.self.now mid new (faults mid.blocks) (faults new.blocks) c.args.after
+    c.args.unit c.args.line c.args.request c.weigh_change.ensures.meets c.weigh_change.ensures.file
+    (λ going. keeps-met c.base_of-part.result.0 mid.store new.store (c.put.ensures.met going))
+    c.put.ensures.acted

@@ -1,14 +1,19 @@
-use Rattle.std.proofs.Common.{[], ap, subst, sym}
+use Rattle.std.proofs.Common.{◌≡◌, ◌∙◌, [], ap, refl, subst, sym}
+use Rattle.std.proofs.lemmas.Option.{none-some}
+use Rattle.vr_types.specs.declared.fault.DeviceFault.TheVariants.{Read, Write}
 use Rattle.std.specs.Option.{option_copied}
 use Rattle.vr_types.specs.Moments.{Guards}
-use Rattle.vr_record_file.specs.Now.{state_now}
+use Rattle.vr_record_file.specs.Now.{FileNow, state_now}
 use Rattle.vr_volume.specs.Crashes.{RecoversTo}
 use Rattle.vr_store.specs.Store.{StoreNow}
+use Rattle.vr_event.specs.declared.entry_change.EntryChange.TheVariants as changes
 use Rattle.vr_event.proofs.AskedClusters.{file-held, holds-later}
 use Rattle.vr_event.proofs.EntryChangeAsked.{asked-open, may-after, stage-due}
 use Rattle.vr_event.proofs.EntryChangeCome.{come-after, come-held-after, come-staged, come-unread}
 use Rattle.vr_event.proofs.EntryChangeCome.{come-unwritten, stepped-held}
 use Rattle.vr_event.proofs.EntryChangePrepared.{prepared-place}
+use Rattle.vr_event.proofs.UtilitySteps.{fault-change, less-after, less-as, less-met}
+use Rattle.vr_event.proofs.UtilitySteps.{less-stopped, same-ok}
 use Rattle.vr_event.proofs.volume.Volume.change_asked.Goals as goal
 
 pub ask_entry-requires-clause-place : goal.ask_entry-requires-clause-place
@@ -124,3 +129,26 @@ returns-in-Write-clause-held g c told opening held =
     (subst (λ (b : g.row.B.Denot). Guards (seen old.blocks) (seen b)
     (RecoversTo old.store.log.geometry old.number (state_now opening old.file) []))
     (sym c.enter_fault.ensures.blocks) (c.ask_entry.ensures.moments told opening held))
+
+pub returns-else-is_stage-clause-less : goal.returns-else-is_stage-clause-less
+returns-else-is_stage-clause-less g c told = less-after _ 0 c.args.self.now c.ask_entry.new.self
+    c.make_entry_change.new.self c.ask_entry.ensures.parts c.ask_entry.ensures.rest
+    c.ask_entry.ensures.file (c.make_entry_change.ensures.less told)
+
+pub returns-then-is_stage-clause-less : goal.returns-then-is_stage-clause-less
+returns-then-is_stage-clause-less g c told = less-after _ 0 c.args.self.now c.ask_entry.new.self
+    c.stage_change-staged.new.self c.ask_entry.ensures.parts c.ask_entry.ensures.rest
+    c.ask_entry.ensures.file
+    (less-as (c.stage_change-staged.result ≡ changes.Again) _ c.ask_entry.new.self
+    c.stage_change-staged.new.self (λ is. same-ok refl is)
+    (c.stage_change-staged.ensures.less told))
+
+pub returns-in-Read-clause-less : goal.returns-in-Read-clause-less
+returns-in-Read-clause-less g c told = less-met _ 0 c.args.self.now c.ask_entry.new.self
+    (λ is. fault-change Read (same-ok refl is)) c.ask_entry.ensures.parts c.ask_entry.ensures.file
+
+pub returns-in-Write-clause-less : goal.returns-in-Write-clause-less
+returns-in-Write-clause-less g c told = less-stopped _ c.args.self.now c.enter_fault.new.self
+    (λ is. fault-change Write (same-ok refl is))
+    (λ going. none-some _ (sym going
+    ∙ ap (λ (f : FileNow). f.stopped) c.enter_fault.ensures.leaves))

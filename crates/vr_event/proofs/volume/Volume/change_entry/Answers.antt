@@ -17,3 +17,8 @@ returns-clause-quiet g c = quiet-changed c.args.self.now.number c.args.after
     (g.B.Blocks.faults c.change_unless_live.new.self.blocks) c.requires.going
     c.change_unless_live.result c.change_unless_live.ensures.come.entered
     c.change_unless_live.ensures.cause
+
+pub returns-clause-splits : goal.returns-clause-splits
+returns-clause-splits g c told =
+    let less = c.change_unless_live.ensures.less told in
+    less.splits

@@ -1,4 +1,4 @@
-use Rattle.std.proofs.Common.{◌≡◌, ◌≢◌, ◌∙◌, ℕ, List, None, ap, subst}
+use Rattle.std.proofs.Common.{◌≡◌, ◌≢◌, ◌∙◌, ℕ, List, None, ap, refl, subst}
 use Rattle.std.specs.Prelude.{Ok}
 use Rattle.std.specs.Option.{option_copied}
 use Rattle.vr_types.specs.Locks.{first_conflict}
@@ -16,6 +16,7 @@ use Rattle.vr_event.specs.EntryChangeSteps.{HasChangeCome}
 use Rattle.vr_event.specs.Volume.{VolumeNow}
 use Rattle.vr_event.proofs.EntryChangeCome.{come-hindered, still-held}
 use Rattle.vr_event.proofs.EntryChangePrepared.{prepared-before}
+use Rattle.vr_event.proofs.UtilitySteps.{less-still, hindered-change, same-ok}
 use Rattle.vr_event.proofs.volume.Volume.change_prepared.Goals as goal
 
 pub change_hindrance-requires-clause-before : goal.change_hindrance-requires-clause-before
@@ -52,3 +53,7 @@ returns-in-Some-clause-held g c told opening held = still-held g.B.Blocks.seen c
     (keeps-none g.B.Blocks.tells (g.B.Blocks.seen c.args.self.now.blocks)
     (λ told image is. g.met.B.Blocks.images_may c.args.self.now.blocks image told is))
     c.requires.may.may.going held
+
+pub returns-in-Some-clause-less : goal.returns-in-Some-clause-less
+returns-in-Some-clause-less g c told = less-still _ c.args.self.now c.args.self.now
+    (λ is. hindered-change c.in-Some.no c.in-Some.ensures.is (same-ok refl is)) refl refl

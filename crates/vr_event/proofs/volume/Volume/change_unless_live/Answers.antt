@@ -1,10 +1,11 @@
-use Rattle.std.proofs.Common.{◌≡◌, ◌∙◌, None, ap, subst, sym}
+use Rattle.std.proofs.Common.{◌≡◌, ◌∙◌, None, ap, refl, subst, sym}
 use Rattle.std.specs.Option.{option_copied}
 use Rattle.vr_types.proofs.CallerLemmas.{keeps-none}
 use Rattle.vr_log.specs.Live.{live_in}
 use Rattle.vr_event.specs.Defining.{utility_unit}
 use Rattle.vr_event.specs.Volume.{IsWhole, VolumeNow}
 use Rattle.vr_event.proofs.EntryChangeCome.{come-live, still-held}
+use Rattle.vr_event.proofs.UtilitySteps.{err-apart, less-still, live-change, same-ok}
 use Rattle.vr_event.proofs.volume.Volume.change_unless_live.Goals as goal
 
 pub is_idle-requires : goal.is_idle-requires
@@ -42,3 +43,11 @@ returns-in_err-changed-clause-held g c told opening held = still-held g.B.Blocks
     (keeps-none g.B.Blocks.tells (g.B.Blocks.seen c.args.self.now.blocks)
     (λ told image is. g.met.B.Blocks.images_may c.args.self.now.blocks image told is))
     c.requires.may.going held
+
+pub returns-else-is_idle-clause-less : goal.returns-else-is_idle-clause-less
+returns-else-is_idle-clause-less g c told = less-still _ c.args.self.now c.args.self.now
+    (λ is. live-change (same-ok refl is)) refl refl
+
+pub returns-in_err-changed-clause-less : goal.returns-in_err-changed-clause-less
+returns-in_err-changed-clause-less g c told = less-still _ c.args.self.now c.args.self.now
+    (err-apart c.from_residual.result _ c.from_residual.ensures.1) refl refl

@@ -1,4 +1,6 @@
-use Rattle.std.proofs.Common.{◌≡◌, ◌+◌, ◌≤◌, ℕ, List, None, ap, subst}
+use Rattle.std.proofs.Common.{◌≡◌, ◌+◌, ◌≤◌, ◌∙◌, ℕ, List, None, ap, refl, subst, sym}
+use Rattle.std.proofs.lemmas.Option.{none-some}
+use Rattle.vr_types.specs.declared.fault.DeviceFault.TheVariants.{Read, Write}
 use Rattle.vr_types.specs.Locks.{first_conflict}
 use Rattle.vr_types.specs.LogSpace.{log_size}
 use Rattle.vr_types.specs.declared.lock_name.LockName.{LockName}
@@ -6,11 +8,15 @@ use Rattle.vr_types.specs.declared.unit.Mode.TheVariants.{Exclusive}
 use Rattle.vr_types.specs.declared.unit.Unit.{Unit as UnitOfRecovery}
 use Rattle.vr_log.specs.Live.{used_by}
 use Rattle.vr_record_file.specs.Defining.{need_to_define}
+use Rattle.vr_record_file.specs.Now.{FileNow}
+use Rattle.vr_event.specs.declared.define.Define.TheVariants as defines
 use Rattle.vr_event.proofs.AskedClusters.{asked-held, come-asked, come-no-room, come-staged}
 use Rattle.vr_event.proofs.AskedClusters.{come-unread, come-unwritten, fault-held, file-held}
 use Rattle.vr_event.proofs.AskedClusters.{holds-later, room-lacks, room-settable, staged-held}
 use Rattle.vr_event.proofs.DefineCome.{come-held-after}
 use Rattle.vr_event.proofs.Prepared.{prepared-at, prepared-length, prepared-name, prepared-place}
+use Rattle.vr_event.proofs.UtilitySteps.{no-room-define, same-ok}
+use Rattle.vr_event.proofs.UtilitySteps.{fault-define, less-after, less-as, less-met, less-stopped}
 use Rattle.vr_event.proofs.volume.Volume.define_asked.Goals as goal
 use Rattle.vr_event.specs.Defining.{utility_unit}
 use Rattle.vr_store.specs.Store.{StoreNow}
@@ -121,3 +127,30 @@ returns-in-Write-clause-come g c = come-unwritten g.B.Blocks.seen c.args.after c
     c.args.line c.args.entry.now c.args.self.now c.ask_entry.new.self c.ask_entry.ensures.file
     c.ask_entry.ensures.number c.ask_entry.ensures.rest c.enter_fault.new.self
     c.ask_entry.ensures.whole c.enter_fault.ensures.leaves c.enter_fault.ensures.volume
+
+pub returns-in-Ready-clause-less : goal.returns-in-Ready-clause-less
+returns-in-Ready-clause-less g c told = less-after _ 0 c.args.self.now c.ask_entry.new.self
+    c.add_cluster.new.self c.ask_entry.ensures.parts c.ask_entry.ensures.rest
+    c.ask_entry.ensures.file (c.add_cluster.ensures.less told)
+
+pub returns-in-Stage-clause-less : goal.returns-in-Stage-clause-less
+returns-in-Stage-clause-less g c told = less-after _ 0 c.args.self.now c.ask_entry.new.self
+    c.stage_entry-staged.new.self c.ask_entry.ensures.parts c.ask_entry.ensures.rest
+    c.ask_entry.ensures.file
+    (less-as (c.stage_entry-staged.result ≡ defines.Again) _ c.ask_entry.new.self
+    c.stage_entry-staged.new.self (λ is. same-ok refl is)
+    (c.stage_entry-staged.ensures.less told))
+
+pub returns-in-NoSpace-clause-less : goal.returns-in-NoSpace-clause-less
+returns-in-NoSpace-clause-less g c told = less-met _ 0 c.args.self.now c.ask_entry.new.self
+    (λ is. no-room-define (same-ok refl is)) c.ask_entry.ensures.parts c.ask_entry.ensures.file
+
+pub returns-in-Read-clause-less : goal.returns-in-Read-clause-less
+returns-in-Read-clause-less g c told = less-met _ 0 c.args.self.now c.ask_entry.new.self
+    (λ is. fault-define Read (same-ok refl is)) c.ask_entry.ensures.parts c.ask_entry.ensures.file
+
+pub returns-in-Write-clause-less : goal.returns-in-Write-clause-less
+returns-in-Write-clause-less g c told = less-stopped _ c.args.self.now c.enter_fault.new.self
+    (λ is. fault-define Write (same-ok refl is))
+    (λ going. none-some _ (sym going
+    ∙ ap (λ (f : FileNow). f.stopped) c.enter_fault.ensures.leaves))

@@ -1,4 +1,4 @@
-use Rattle.std.proofs.Common.{◌≡◌, ◌≢◌, ◌∙◌, ℕ, List, None, ap, subst}
+use Rattle.std.proofs.Common.{◌≡◌, ◌≢◌, ◌∙◌, ℕ, List, None, ap, refl, subst}
 use Rattle.std.specs.Prelude.{Ok}
 use Rattle.vr_types.specs.Locks.{first_conflict}
 use Rattle.vr_types.specs.LogSpace.{IsLogFull}
@@ -15,6 +15,7 @@ use Rattle.vr_event.specs.Volume.{VolumeNow}
 use Rattle.vr_event.proofs.AskedClusters.{still-held}
 use Rattle.vr_event.proofs.DefineCome.{come-hindered}
 use Rattle.vr_event.proofs.Prepared.{prepared-at, prepared-name}
+use Rattle.vr_event.proofs.UtilitySteps.{less-still, hindered-define, same-ok}
 use Rattle.vr_event.proofs.volume.Volume.define_prepared.Goals as goal
 
 pub returns-in-Some-clause-come : goal.returns-in-Some-clause-come
@@ -43,3 +44,7 @@ returns-in-Some-clause-held g c told opening held = still-held g.B.Blocks.seen o
     g.B.Blocks.tells told (keeps-none g.B.Blocks.tells (g.B.Blocks.seen c.args.self.now.blocks)
     (λ told image is. g.met.B.Blocks.images_may c.args.self.now.blocks image told is))
     c.requires.may.going held
+
+pub returns-in-Some-clause-less : goal.returns-in-Some-clause-less
+returns-in-Some-clause-less g c told = less-still _ c.args.self.now c.args.self.now
+    (λ is. hindered-define c.in-Some.no c.in-Some.ensures.is (same-ok refl is)) refl refl

@@ -26,6 +26,13 @@ use Rattle.vr_event.proofs.Staged.{staged-of, state-staged, stepped-entered}
 use Rattle.vr_event.proofs.UnitEnded.{held-stopped}
 use Rattle.vr_event.proofs.Weighs.{refuse-look}
 use Rattle.vr_event.proofs.Wholes.{held-moved, may-changing, whole-of}
+use Rattle.std.proofs.Common.{◌<◌}
+use Rattle.vr_store.specs.Left.{left_for}
+use Rattle.vr_event.specs.Nearer.{CountsSplits, EntersSplits}
+use Rattle.vr_history.specs.declared.entry.What.TheVariants.{Asked}
+use Rattle.vr_event.proofs.CountedSplits.{keeps-stored, none-event, splits-none}
+use Rattle.vr_event.proofs.SplitCounts.{counts-staged}
+use Rattle.vr_event.proofs.CountedSplits.{failed-stops}
 use Rattle.vr_event.proofs.volume.Volume.do_stage.Goals as goal
 
 pub returns-in-Ok-clause-moments : goal.returns-in-Ok-clause-moments
@@ -305,3 +312,73 @@ returns-in-Err-Write-clause-lacks g c entered need free is =
     not-failed c.args.after c.args.unit c.args.line c.args.request c.args.self.now.file
     c.fail_write.new.self entered c.self.inside.file (ap (λ (f : FileNow). f.entries) of-file)
     c.fail_write.ensures.leaves
+
+pub returns-in-Ok-clause-nearer : goal.returns-in-Ok-clause-nearer
+returns-in-Ok-clause-nearer g c told =
+    let unit = c.args.unit in
+    let store = c.self.inside.store in
+    subst (λ (v : VolumeNow g.row.B.Denot).
+    left_for unit c.enter_stage.new.self.store < left_for unit v.store) c.self.view_is
+    (subst (λ (s : StoreNow). left_for unit s < left_for unit store)
+    (sym c.enter_stage.ensures.store) (c.in-Ok.ensures.nearer told unit))
+
+pub returns-in-Ok-clause-splits : goal.returns-in-Ok-clause-splits
+returns-in-Ok-clause-splits g c told =
+    let before : VolumeNow g.row.B.Denot = record {
+      blocks = c.self.inside.blocks;
+      number = c.self.inside.number;
+      store = c.self.inside.store;
+      file = c.self.inside.file;
+    } in
+    let part = c.args.part in
+    let new = c.enter_stage.new.self in
+    let store = c.advance.new.self in
+    let owners = c.in-Ok.ensures.owners in
+    subst (λ (v : VolumeNow g.row.B.Denot). EntersSplits v new) c.self.view_is
+    (λ going. subst (λ (s : StoreNow).
+    CountsSplits before.store s before.file.entries new.file.entries)
+    (sym c.enter_stage.ensures.store)
+    (counts-staged part c.in-Ok.kind before.store store before.file new.file.entries c.args.after
+    c.args.unit c.args.line c.splits_interval.result c.area_taken-taken.result
+    (c.in-Ok.ensures.more told) c.advance.ensures.parts (c.in-Ok.ensures.kind told) owners
+    (c.area_taken-taken.ensures part before.store.space store.space c.least_free-least.ensures
+    c.free_areas-free.ensures c.free_areas.ensures
+    (owners-claimed part c.in-Ok.kind before.store.space store.space owners))
+    c.splits_interval.ensures.yes c.splits_interval.ensures.no
+    (ap (λ (f : FileNow). f.entries) c.enter_stage.ensures.leaves)))
+
+pub returns-in-Err-Read-clause-splits : goal.returns-in-Err-Read-clause-splits
+returns-in-Err-Read-clause-splits g c told =
+    let seen = g.B.Blocks.seen in
+    let before : VolumeNow g.row.B.Denot = record {
+      blocks = c.self.inside.blocks;
+      number = c.self.inside.number;
+      store = c.self.inside.store;
+      file = c.self.inside.file;
+    } in
+    let new : VolumeNow g.row.B.Denot = record before {
+      blocks = c.advance.new.blocks;
+      store = c.advance.new.self;
+      file = c.refuse.new.self;
+    } in
+    let has = c.requires.holds told in
+    let was : IsHeld seen has.opening before =
+    subst (IsHeld seen has.opening) (sym c.self.view_is) has.held in
+    let going : before.file.stopped ≡ None =
+    ap (λ (v : VolumeNow g.row.B.Denot). v.file.stopped) c.self.view_is ∙ c.requires.going in
+    let state = state_now has.opening before.file in
+    let stored = was.stored going in
+    let unread = c.in-Err-Read.ensures.unread c.in-Err-Read.field-0-is in
+    subst (λ (v : VolumeNow g.row.B.Denot). EntersSplits v new) c.self.view_is
+    (splits-none before new
+    (λ on. keeps-stored before.number before.store new.store state (seen before.blocks)
+    (seen new.blocks) c.advance.ensures.parts.parts (unread.0.content told) stored
+    (unread.1 told before.number state stored))
+    (none-event c.args.after c.args.unit c.args.line (Asked c.args.request (Refused ReadFault))
+    (record before.file { files = new.file.files; files_room = new.file.files_room }) new.file
+    c.refuse.ensures.same (λ n. refl)))
+
+pub returns-in-Err-Write-clause-splits : goal.returns-in-Err-Write-clause-splits
+returns-in-Err-Write-clause-splits g c told going =
+    absurd (failed-stops c.args.after c.args.unit c.args.line c.args.request c.self.inside.file
+    c.fail_write.new.self c.fail_write.ensures.leaves going)

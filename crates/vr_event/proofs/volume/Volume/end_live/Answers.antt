@@ -44,7 +44,7 @@ returns-in-Ok-clause-held g c told opening held asked keeps =
     (c.end_unit.ensures.state opening was.file may ends)
     (λ (new : State) (made : IsEndedIn unit old new).
     c.in-Ok.ensures.ended told before.number old new (was.stored going) may.current none made
-    (subst (λ (v : VolumeNow g.row.B.Denot). v.store.log.generation + 1 < 18446744073709551616)
+    (subst (λ (v : VolumeNow g.row.B.Denot). v.store.log.generation + 1 < 9223372036854775808)
     (sym c.self.view_is) c.requires.generation))
 
 pub returns-in-Ok-clause-moments : goal.returns-in-Ok-clause-moments
@@ -138,3 +138,13 @@ returns-in-Err-clause-acted g c =
     (write-counted (g.B.Blocks.faults c.self.inside.blocks) (g.B.Blocks.faults c.end.new.blocks)
     c.end.result _ c.in-Err.is cause) c.fail_write.ensures.leaves
     (ap (λ (v : VolumeNow g.row.B.Denot). v.file.stopped) c.self.view_is ∙ c.requires.going))
+
+pub returns-in-Ok-clause-parts : goal.returns-in-Ok-clause-parts
+returns-in-Ok-clause-parts g c =
+    ap (λ (s : StoreNow). s.parts) c.end.ensures.rest
+    ∙ ap (λ (v : VolumeNow g.row.B.Denot). v.store.parts) c.self.view_is
+
+pub returns-in-Err-clause-parts : goal.returns-in-Err-clause-parts
+returns-in-Err-clause-parts g c =
+    ap (λ (s : StoreNow). s.parts) c.end.ensures.rest
+    ∙ ap (λ (v : VolumeNow g.row.B.Denot). v.store.parts) c.self.view_is

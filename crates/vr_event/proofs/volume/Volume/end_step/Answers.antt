@@ -5,6 +5,9 @@ use Rattle.vr_record_file.specs.Now.{state_now}
 use Rattle.vr_event.specs.Acting.{IsLeftIn}
 use Rattle.vr_event.proofs.Asking.{can-end, ends-asked, ends-by, none-of-state}
 use Rattle.vr_event.proofs.Recovers.{recovers-keeps, recovers-with}
+use Rattle.std.proofs.Common.{ap}
+use Rattle.vr_store.specs.Store.{StoreNow}
+use Rattle.vr_event.proofs.CountedSplits.{keeps-same, splits-answered}
 use Rattle.vr_event.proofs.volume.Volume.end_step.Goals as goal
 
 pub returns-then-not-is_live-clause-held : goal.returns-then-not-is_live-clause-held
@@ -60,3 +63,22 @@ returns-else-is_forced-clause-moments g c told opening held =
     (g.B.Blocks.seen c.force_step.new.self.blocks) (held.stored c.requires.going) c.args.after
     c.args.unit c.args.line c.args.request old.file c.force_step.new.self.file
     (c.force_step.ensures.moments told opening held)
+
+pub returns-then-not-is_live-clause-splits : goal.returns-then-not-is_live-clause-splits
+returns-then-not-is_live-clause-splits g c =
+    let faults = g.B.Blocks.faults in
+    let old = c.args.self.now in
+    let new = c.end_idle.new.self in
+    splits-answered old new (faults old.blocks) (faults new.blocks) c.args.after c.args.unit
+    c.args.line c.args.request
+    (λ going. keeps-same old.store new.store
+    (ap (λ (s : StoreNow). s.parts) c.end_idle.ensures.store)) c.end_idle.ensures.acted
+
+pub returns-then-is_forced-clause-splits : goal.returns-then-is_forced-clause-splits
+returns-then-is_forced-clause-splits g c =
+    let faults = g.B.Blocks.faults in
+    let old = c.args.self.now in
+    let new = c.end_live.new.self in
+    splits-answered old new (faults old.blocks) (faults new.blocks) c.args.after c.args.unit
+    c.args.line c.args.request
+    (λ going. keeps-same old.store new.store c.end_live.ensures.parts) c.end_live.ensures.acted

@@ -6,6 +6,10 @@ use Rattle.vr_store.specs.Store.{StoreNow}
 use Rattle.vr_event.specs.Volume.{IsHeld, VolumeNow}
 use Rattle.vr_event.proofs.Recovers.{recovers-safe}
 use Rattle.vr_event.proofs.Wholes.{held-moved}
+use Rattle.std.proofs.Common.{◌≢◌, ◌<◌}
+use Rattle.vr_store.specs.Left.{left_for}
+use Rattle.std.specs.Prelude.{OnOk}
+use Rattle.vr_store.specs.Store.{blocks_of}
 use Rattle.vr_event.proofs.volume.Volume.force_changed.Goals as goal
 
 pub returns-clause-held : goal.returns-clause-held
@@ -43,3 +47,10 @@ returns-clause-moments g c told opening held =
     (recovers-safe before.number before.store state (seen before.blocks)
     (seen c.force_changed.new.blocks) stored
     (c.force_changed.ensures.moments told before.number state stored))
+
+pub returns-clause-nearer : goal.returns-clause-nearer
+returns-clause-nearer g c =
+    let unit = c.args.unit in
+    subst (λ (v : VolumeNow g.row.B.Denot). blocks_of unit v.store.changed ≢ []
+    → OnOk c.force_changed.result (left_for unit c.force_changed.new.self < left_for unit v.store))
+    c.self.view_is c.force_changed.ensures.nearer

@@ -1,22 +1,27 @@
-use Rattle.std.proofs.Common.{◌≢◌, ◌∙◌, ℕ, List, Option, ap, subst, sym}
+use Rattle.std.proofs.Common.{◌≡◌, ◌≢◌, ◌∙◌, ℕ, List, Option, ap, refl, subst, sym}
+use Rattle.std.proofs.lemmas.Option.{none-some}
 use Rattle.std.specs.Prelude.{Err, IfSome, Ok, option_map}
 use Rattle.std.specs.Option.{option_copied}
 use Rattle.vr_types.specs.declared.fault.DeviceFault.TheVariants.{Write}
 use Rattle.vr_types.proofs.CallerLemmas.{keeps-none}
 use Rattle.vr_catalog.specs.Record.{spelling}
-use Rattle.vr_record_file.specs.Now.{state_now}
+use Rattle.vr_record_file.specs.Now.{FileNow, state_now}
 use Rattle.vr_space.specs.Part.{IsPlaceOf, IsRecordOf, Shape}
 use Rattle.vr_store.specs.EntryChange.{HasEntry, IsEntrySettable}
 use Rattle.vr_store.specs.Store.{shape_among}
 use Rattle.vr_store.specs.declared.no.DefineNo.TheVariants.{Fault}
 use Rattle.vr_event.specs.EntryChangeSteps.{HasChangeCome, HasChangeComeHeld, MayChange}
+use Rattle.vr_event.specs.Nearer.{LeavesLess}
 use Rattle.vr_event.specs.Volume.{IsHeld, VolumeNow}
+use Rattle.vr_event.specs.declared.entry_change.EntryChange.TheVariants as changes
 use Rattle.vr_event.proofs.AddedClusters.{memory-apart}
 use Rattle.vr_event.proofs.EntryChangeAsked.{asked-entry}
 use Rattle.vr_event.proofs.EntryChangeMade.{failed-come, failed-held, made-come, made-gone}
 use Rattle.vr_event.proofs.EntryChangeMade.{made-held, made-item, made-old, made-place, made-room}
 use Rattle.vr_event.proofs.EntryChangeMade.{refused-held}
 use Rattle.vr_event.proofs.Recovers.{recovers-keeps}
+use Rattle.vr_event.proofs.UtilitySteps.{done-change, fault-change, less-left, less-still}
+use Rattle.vr_event.proofs.UtilitySteps.{less-stopped, not-err, same-ok, splits-changed}
 use Rattle.vr_event.proofs.volume.Volume.make_entry_change.Goals as goal
 
 pub change_entry-done-requires-clause-gone : goal.change_entry-done-requires-clause-gone
@@ -229,3 +234,43 @@ returns-in-Memory-clause-held g c told opening held =
     (was.stored ready.now.may.going) g.B.Blocks.tells told
     (keeps-none g.B.Blocks.tells now
     (λ told image is. g.met.B.Blocks.images_may before.blocks image told is))))
+
+pub returns-in-Ok-clause-less : goal.returns-in-Ok-clause-less
+returns-in-Ok-clause-less g c told =
+    let before : VolumeNow g.row.B.Denot = record {
+      blocks = c.self.inside.blocks;
+      number = c.self.inside.number;
+      store = c.self.inside.store;
+      file = c.self.inside.file;
+    } in
+    let changed = c.args.changed in
+    subst (λ (v : VolumeNow g.row.B.Denot). LeavesLess (Ok c.enter_changed.result ≡ Ok changes.Again) v
+    c.enter_changed.new.self) c.self.view_is
+    (less-left _ changed.gone before c.enter_changed.new.self c.change_entry-done.new.self _
+    (λ is. done-change (sym c.enter_changed.ensures.done ∙ same-ok refl is))
+    c.enter_changed.ensures.store c.enter_changed.ensures.leaves c.in-Ok.ensures.parts
+    (λ n. splits-changed n c.args.after c.args.unit c.args.line changed.get changed.change
+    changed.got changed.shown changed.commit changed.catalog before.file))
+
+pub returns-in-Fault-clause-less : goal.returns-in-Fault-clause-less
+returns-in-Fault-clause-less g c told = less-stopped _ c.args.self.now
+    c.enter_change_in_doubt.new.self
+    (λ is. fault-change Write (sym c.enter_change_in_doubt.ensures.fault ∙ same-ok refl is))
+    (λ going. none-some _ (sym going
+    ∙ ap (λ (f : FileNow). f.stopped) c.enter_change_in_doubt.ensures.leaves))
+
+pub returns-in-Memory-clause-less : goal.returns-in-Memory-clause-less
+returns-in-Memory-clause-less g c told =
+    let before : VolumeNow g.row.B.Denot = record {
+      blocks = c.self.inside.blocks;
+      number = c.self.inside.number;
+      store = c.self.inside.store;
+      file = c.self.inside.file;
+    } in
+    let other : c.in-Err.why ≢ Fault Write = λ is. memory-apart (sym c.in-Memory.is ∙ is) in
+    less-still _ c.args.self.now
+    (record before { blocks = c.change_entry-done.new.blocks; store = c.change_entry-done.new.self })
+    (not-err refl)
+    ((c.in-Err.ensures.unchanged other).0
+    ∙ ap (λ (v : VolumeNow g.row.B.Denot). v.store) c.self.view_is)
+    (ap (λ (v : VolumeNow g.row.B.Denot). v.file) c.self.view_is)

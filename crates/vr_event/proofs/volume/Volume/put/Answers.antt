@@ -33,6 +33,8 @@ use Rattle.vr_event.proofs.MetParts.{met-shapes}
 use Rattle.vr_event.proofs.Replied.{not-failed, replied-over}
 use Rattle.vr_event.proofs.Weighs.{asks-change, refuse-look, refuse-memory}
 use Rattle.vr_event.proofs.Wholes.{held-moved, held-stopped-locked, may-changing, whole-of}
+use Rattle.vr_event.proofs.CountedSplits.{failed-stops, met-same}
+use Rattle.vr_store.specs.Parts.{OnlyMet}
 use Rattle.vr_event.proofs.volume.Volume.put.Goals as goal
 
 pub put_at_place-requires-clause-ready : goal.put_at_place-requires-clause-ready
@@ -454,3 +456,21 @@ returns-clause-lacks g c entered need free is =
     (ap (λ (f : FileNow). f.entries) c.put_at_place.ensures.file
     ∙ ap (λ (v : VolumeNow g.row.B.Denot). v.file.entries) c.self.view_is)
     c.fail_write.ensures.leaves)
+
+pub returns-in-Ok-clause-met : goal.returns-in-Ok-clause-met
+returns-in-Ok-clause-met g c going =
+    subst (λ (v : VolumeNow g.row.B.Denot).
+    OnlyMet c.args.part.0 v.store.parts c.put_at_place.new.store.parts) c.self.view_is
+    c.in-Ok.ensures.parts
+
+pub returns-in-Err-Memory-clause-met : goal.returns-in-Err-Memory-clause-met
+returns-in-Err-Memory-clause-met g c going =
+    met-same c.args.part.0 c.args.self.now.store.parts c.put_at_place.new.store.parts
+    (ap (λ (s : StoreNow). s.parts)
+    (c.in-Err-Memory.ensures.unchanged c.in-Err-Memory.field-0-is).1
+    ∙ ap (λ (v : VolumeNow g.row.B.Denot). v.store.parts) c.self.view_is)
+
+pub returns-clause-met : goal.returns-clause-met
+returns-clause-met g c going =
+    absurd (failed-stops c.args.after c.args.unit c.args.line c.args.request
+    c.put_at_place.new.file c.fail_write.new.self c.fail_write.ensures.leaves going)

@@ -12,6 +12,12 @@ use Rattle.vr_event.proofs.Asking.{write-asked}
 use Rattle.vr_store.proofs.CallerLemmas.{last-kept-in, last-state}
 use Rattle.vr_event.proofs.Recovers.{recovers-safe}
 use Rattle.vr_event.proofs.Stepped.{held-at, held-undone, known-with, undone-in}
+use Rattle.std.proofs.Common.{◌<◌, ◌≢◌}
+use Rattle.vr_store.specs.Left.{left_for}
+use Rattle.vr_event.specs.Nearer.{EntersSplits}
+use Rattle.vr_event.proofs.CountedSplits.{KeepsUsed, keeps-last, none-event, splits-none}
+use Rattle.vr_history.specs.declared.entry.What.TheVariants.{Undone}
+use Rattle.vr_store.specs.LastImage.{last_of_unit}
 use Rattle.vr_event.proofs.volume.Volume.put_back.Goals as goal
 
 pub returns-in-Ok-clause-held : goal.returns-in-Ok-clause-held
@@ -119,3 +125,34 @@ returns-in-Err-clause-moments g c told opening held ending =
     (recovers-safe before.number before.store state (seen before.blocks)
     (seen c.put_last.new.blocks) stored
     (c.put_last.ensures.moments told before.number state stored mine.current)))
+
+pub returns-in-Ok-clause-nearer : goal.returns-in-Ok-clause-nearer
+returns-in-Ok-clause-nearer g c told =
+    let unit = c.args.unit in
+    let store = c.self.inside.store in
+    subst (λ (v : VolumeNow g.row.B.Denot).
+    left_for unit c.enter_undone.new.self.store < left_for unit v.store) c.self.view_is
+    (subst (λ (s : StoreNow). left_for unit s < left_for unit store)
+    (sym c.enter_undone.ensures.store) (c.put_last.ensures.nearer))
+
+pub returns-in-Ok-clause-splits : goal.returns-in-Ok-clause-splits
+returns-in-Ok-clause-splits g c told =
+    let before : VolumeNow g.row.B.Denot = record {
+      blocks = c.self.inside.blocks;
+      number = c.self.inside.number;
+      store = c.self.inside.store;
+      file = c.self.inside.file;
+    } in
+    let new = c.enter_undone.new.self in
+    let some = subst (λ (v : VolumeNow g.row.B.Denot). last_of_unit v.store c.args.unit ≢ None)
+    (sym c.self.view_is) c.requires.some in
+    subst (λ (v : VolumeNow g.row.B.Denot). EntersSplits v new) c.self.view_is
+    (splits-none before new
+    (λ going. subst (KeepsUsed before.store) (sym c.enter_undone.ensures.store)
+    (keeps-last before.store c.put_last.new.self c.args.unit some c.put_last.ensures.parts))
+    (none-event c.args.after c.args.unit c.args.line
+    (Undone c.in-Ok.before.part c.in-Ok.before.place) before.file new.file
+    c.enter_undone.ensures.leaves (λ n. refl)))
+
+pub returns-in-Err-clause-splits : goal.returns-in-Err-clause-splits
+returns-in-Err-clause-splits g c told going = absurd (c.stop.ensures.stops going)

@@ -12,6 +12,9 @@ use Rattle.vr_event.proofs.Recovers.{recovers-keeps, recovers-with}
 use Rattle.vr_event.proofs.Serves.{change-of, ended-of, ending-of, event-at, no-change}
 use Rattle.vr_event.proofs.Serves.{no-change-read}
 use Rattle.vr_event.proofs.Weighs.{asks-change}
+use Rattle.std.proofs.Common.{ap}
+use Rattle.vr_store.specs.Store.{StoreNow}
+use Rattle.vr_event.proofs.CountedSplits.{keeps-same, splits-answered}
 use Rattle.vr_event.proofs.volume.Volume.serve.Goals as goal
 
 pub returns-in-Read-clause-moments : goal.returns-in-Read-clause-moments
@@ -108,3 +111,23 @@ returns-in-BackOut-clause-lacks g c told opening held may none entered need free
     c.get.result.now request c.in-BackOut.is c.get.ensures c.event_of.ensures)
     (asks-change (case_of old.file.geometry (state_now opening old.file) c.args.unit request)
     request place at))
+
+pub returns-in-Read-clause-splits : goal.returns-in-Read-clause-splits
+returns-in-Read-clause-splits g c told =
+    let faults = g.B.Blocks.faults in
+    let old = c.args.self.now in
+    let new = c.read.new.self in
+    splits-answered old new (faults old.blocks) (faults new.blocks) c.args.after c.args.unit
+    c.args.line c.args.request
+    (λ going. keeps-same old.store new.store
+    (ap (λ (s : StoreNow). s.parts) c.read.ensures.store)) c.read.ensures.acted
+
+pub returns-in-EndRequest-clause-splits : goal.returns-in-EndRequest-clause-splits
+returns-in-EndRequest-clause-splits g c told =
+    let faults = g.B.Blocks.faults in
+    let old = c.args.self.now in
+    let new = c.end_request.new.self in
+    splits-answered old new (faults old.blocks) (faults new.blocks) c.args.after c.args.unit
+    c.args.line c.args.request
+    (λ going. keeps-same old.store new.store
+    (ap (λ (s : StoreNow). s.parts) c.end_request.ensures.store)) c.end_request.ensures.acted

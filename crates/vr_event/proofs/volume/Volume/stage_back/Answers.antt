@@ -1,4 +1,4 @@
-use Rattle.std.proofs.Common.{None, ap, subst, sym, ◌∙◌, ◌≡◌, []}
+use Rattle.std.proofs.Common.{Bool, None, ap, arith, refl, subst, sym, ◌∙◌, ◌≡◌, []}
 use Rattle.vr_types.specs.Moments.{Guards}
 use Rattle.vr_record_file.specs.Now.{FileNow, state_now}
 use Rattle.vr_volume.specs.Crashes.{RecoversTo}
@@ -14,6 +14,18 @@ use Rattle.vr_event.proofs.Staged.{last-claimed, last-laid, last-shape, staged-o
 use Rattle.vr_event.proofs.Staged.{stepped-entered}
 use Rattle.vr_event.proofs.Stepped.{known-with}
 use Rattle.vr_event.proofs.Wholes.{held-moved}
+use Rattle.std.proofs.Common.{◌<◌, ◌≢◌, inl, Some}
+use Rattle.vr_store.specs.Store.{StoreNow}
+use Rattle.vr_store.specs.Left.{left_for}
+use Rattle.vr_types.specs.Faults.{Faults}
+use Rattle.std.specs.Prelude.{option_map, is_some}
+use Rattle.vr_types.specs.Space.{free_count}
+use Rattle.vr_history.specs.State.{BeforeImage}
+use Rattle.vr_store.specs.Parts.{HasMoreAt, OnlySplit}
+use Rattle.vr_store.specs.LastImage.{last_of_unit, stage_told, OnLast}
+use Rattle.vr_event.specs.Nearer.{CountsSplits, EntersSplits}
+use Rattle.vr_event.proofs.CountedSplits.{KeepsUsed, adds-told, at-last, counts-stage, keeps-stored, splits-answered, one-read, no-reads}
+use Rattle.vr_event.proofs.SplitCounts.{split_entered}
 use Rattle.vr_event.proofs.volume.Volume.stage_back.Goals as goal
 
 pub returns-in-Ok-clause-held : goal.returns-in-Ok-clause-held
@@ -31,15 +43,18 @@ returns-in-Ok-clause-held g c told opening held ending =
     ap (λ (v : VolumeNow g.row.B.Denot). v.file.stopped) c.self.view_is ∙ c.requires.going in
     let whole : IsWhole seen before = subst (IsWhole seen) (sym c.self.view_is) c.requires.whole in
     let there = last-shape before.store (seen before.blocks) c.args.unit (whole.set going) in
-    let claimed = last-claimed before.store c.args.unit c.last_part.result c.in-Some.part
-    c.advance_last.new.self.space c.in-Some.is c.last_part.ensures there
-    (c.in-Ok.ensures.owners told) in
+    let part = c.last_of-part.result in
+    let numbers : Some part.0
+    ≡ option_map (λ (last : BeforeImage). last.part) (last_of_unit before.store c.args.unit) =
+    sym (ap (λ (v : VolumeNow g.row.B.Denot). option_map (λ (last : BeforeImage). last.part)
+    (last_of_unit v.store c.args.unit)) c.self.view_is ∙ c.last_of-part.ensures) in
+    let claimed = last-claimed before.store c.args.unit (Some part) part
+    c.advance_last.new.self.space refl numbers there (c.in-Ok.ensures.owners told) in
     c.enter_stage.ensures.held told opening before.store.space
-    (staged-of seen opening before c.advance_last.new.self c.advance_last.new.blocks c.in-Some.part
+    (staged-of seen opening before c.advance_last.new.self c.advance_last.new.blocks part
     c.area_taken-taken.result whole going was
-    (last-laid before.store c.args.unit c.last_part.result c.in-Some.part c.in-Some.is
-    c.last_part.ensures there)
-    (c.area_taken-taken.ensures c.in-Some.part before.store.space c.advance_last.new.self.space
+    (last-laid before.store c.args.unit (Some part) part refl numbers there)
+    (c.area_taken-taken.ensures part before.store.space c.advance_last.new.self.space
     c.least_free-least.ensures c.free_areas-free.ensures c.free_areas.ensures claimed)
     (c.in-Ok.ensures.stored told before.number (state_now opening before.file) (was.stored going)))
 
@@ -78,7 +93,7 @@ returns-in-Ok-clause-acted g c =
     (acts.Again c.args.request) c.args.after c.args.unit c.args.line c.args.request
     c.self.inside.file c.enter_stage.new.self.file) (sym c.enter_stage.ensures.blocks)
     (acted-again cause.ok
-    (stepped-entered c.args.after c.args.unit c.args.line c.in-Some.part c.self.inside.file
+    (stepped-entered c.args.after c.args.unit c.args.line c.last_of-part.result c.self.inside.file
     c.enter_stage.new.self.file c.args.request _ _ c.enter_stage.ensures.leaves)))
 
 pub returns-in-Err-Read-clause-held : goal.returns-in-Err-Read-clause-held
@@ -100,8 +115,8 @@ returns-in-Err-Read-clause-held g c told opening held ending =
     c.refuse_read.ensures.held told opening
     (held-moved seen opening before c.advance_last.new.self c.advance_last.new.blocks
     c.in-Err-Read.ensures.owners_stay
-    (λ on. c.in-Err-Read.ensures.unread c.in-Err-Read.field-0-is told before.number (state_now opening before.file)
-    (was.stored on)) was)
+    (λ on. (c.in-Err-Read.ensures.unread c.in-Err-Read.field-0-is).1 told before.number
+    (state_now opening before.file) (was.stored on)) was)
     (read-asked opening before.file c.args.unit c.args.request c.requires.request mine)
 
 pub returns-in-Err-Read-clause-moments : goal.returns-in-Err-Read-clause-moments
@@ -170,3 +185,84 @@ returns-in-Err-Write-clause-moments g c told opening held =
     (owned-recovers before.number before.store state (seen before.blocks)
     (seen c.advance_last.new.blocks) (last_claimed before.store c.args.unit) stored
     (c.advance_last.ensures.moments told before.number state stored)))
+
+pub returns-in-Ok-clause-nearer : goal.returns-in-Ok-clause-nearer
+returns-in-Ok-clause-nearer g c told =
+    let unit = c.args.unit in
+    let store = c.self.inside.store in
+    subst (λ (v : VolumeNow g.row.B.Denot).
+    left_for unit c.enter_stage.new.self.store < left_for unit v.store) c.self.view_is
+    (subst (λ (s : StoreNow). left_for unit s < left_for unit store)
+    (sym c.enter_stage.ensures.store) (c.in-Ok.ensures.nearer told unit))
+
+pub returns-in-Ok-clause-splits : goal.returns-in-Ok-clause-splits
+returns-in-Ok-clause-splits g c told =
+    let before : VolumeNow g.row.B.Denot = record {
+      blocks = c.self.inside.blocks;
+      number = c.self.inside.number;
+      store = c.self.inside.store;
+      file = c.self.inside.file;
+    } in
+    let part = c.last_of-part.result in
+    let unit = c.args.unit in
+    let new = c.enter_stage.new.self in
+    let store = c.advance_last.new.self in
+    let split = c.in-Ok.split in
+    let taken = c.area_taken-taken.result in
+    let numbers : option_map (λ (last : BeforeImage). last.part) (last_of_unit before.store unit)
+    ≡ Some part.0 =
+    ap (λ (v : VolumeNow g.row.B.Denot).
+    option_map (λ (last : BeforeImage). last.part) (last_of_unit v.store unit)) c.self.view_is
+    ∙ c.last_of-part.ensures in
+    let space = c.advance_last.ensures.claims_none told in
+    let by = c.area_taken-taken.ensures part before.store.space store.space
+    c.least_free-least.ensures c.free_areas-free.ensures c.free_areas.ensures (inl space) in
+    let free = free_count before.store.space in
+    let now = free_count store.space in
+    subst (λ (v : VolumeNow g.row.B.Denot). EntersSplits v new) c.self.view_is
+    (λ going. subst (λ (s : StoreNow).
+    CountsSplits before.store s before.file.entries new.file.entries)
+    (sym c.enter_stage.ensures.store)
+    (counts-stage part (stage_told split) before.store store before.file new.file c.args.after unit
+    c.args.line c.is_some.result taken free now c.enter_stage.ensures.leaves
+    (at-last (λ n. OnlySplit n before.store.parts store.parts) before.store unit part numbers
+    c.advance_last.ensures.parts).others
+    (at-last (λ n. HasMoreAt n (stage_told split) before.store.parts store.parts free now)
+    before.store unit part numbers (c.in-Ok.ensures.more told))
+    (adds-told part before.store.space store.space split taken space by
+    ∙ ap (λ (b : Bool). split_entered b taken) (sym c.is_some.ensures))))
+
+pub returns-in-Err-Read-clause-splits : goal.returns-in-Err-Read-clause-splits
+returns-in-Err-Read-clause-splits g c told =
+    let seen = g.B.Blocks.seen in
+    let before : VolumeNow g.row.B.Denot = record {
+      blocks = c.self.inside.blocks;
+      number = c.self.inside.number;
+      store = c.self.inside.store;
+      file = c.self.inside.file;
+    } in
+    let new = c.refuse_read.new.self in
+    let has = c.requires.holds told in
+    let was : IsHeld seen has.opening before =
+    subst (IsHeld seen has.opening) (sym c.self.view_is) has.held in
+    let going : before.file.stopped ≡ None =
+    ap (λ (v : VolumeNow g.row.B.Denot). v.file.stopped) c.self.view_is ∙ c.requires.going in
+    let state = state_now has.opening before.file in
+    let stored = was.stored going in
+    let unread = c.in-Err-Read.ensures.unread c.in-Err-Read.field-0-is in
+    subst (λ (v : VolumeNow g.row.B.Denot). EntersSplits v new) c.self.view_is
+    (splits-answered before new no-reads one-read c.args.after c.args.unit c.args.line
+    c.args.request
+    (λ on. subst (KeepsUsed before.store) (sym c.refuse_read.ensures.store)
+    (keeps-stored before.number before.store c.advance_last.new.self state (seen before.blocks)
+    (seen c.advance_last.new.blocks)
+    (at-last (λ n. OnlySplit n before.store.parts c.advance_last.new.self.parts) before.store
+    c.args.unit c.last_of-part.result
+    (ap (λ (v : VolumeNow g.row.B.Denot). option_map (λ (last : BeforeImage). last.part)
+    (last_of_unit v.store c.args.unit)) c.self.view_is ∙ c.last_of-part.ensures)
+    c.advance_last.ensures.parts).parts
+    (unread.0.content told) stored (unread.1 told before.number state stored)))
+    (c.refuse_read.ensures.acted no-reads one-read (omega arith) refl))
+
+pub returns-in-Err-Write-clause-splits : goal.returns-in-Err-Write-clause-splits
+returns-in-Err-Write-clause-splits g c told going = absurd (c.stop.ensures.stops going)

@@ -1,7 +1,9 @@
-use Rattle.std.proofs.Common.{subst, sym}
+use Rattle.std.proofs.Common.{◌≡◌, ◌∙◌, subst, sym}
 use Rattle.vr_event.specs.EntryChange.{ChangeFaultsBy, EnteredChange}
+use Rattle.vr_event.specs.declared.define.Define.TheVariants as defines
 use Rattle.vr_event.specs.declared.entry_change.EntryChange.{EntryChange}
 use Rattle.vr_event.proofs.EntryChangeStage.{stage-entered, stage-faults}
+use Rattle.vr_event.proofs.UtilitySteps.{again-change, less-as}
 use Rattle.vr_event.proofs.volume.Volume.stage_change.Goals as goal
 
 pub returns-clause-entered : goal.returns-clause-entered
@@ -22,3 +24,10 @@ returns-clause-cause g c =
     (sym c.as_change.ensures.value)
     (stage-faults c.stage_entry-staged.result before now c.stage_entry-staged.ensures.is
     c.stage_entry-staged.ensures.cause)
+
+pub returns-clause-less : goal.returns-clause-less
+returns-clause-less g c told =
+    let staged = c.stage_entry-staged.result in
+    less-as (staged ≡ defines.Again) _ c.args.self.now c.stage_entry-staged.new.self
+    (λ is. again-change staged (sym c.as_change.ensures.value ∙ is))
+    (c.stage_entry-staged.ensures.less told)

@@ -11,6 +11,7 @@ use Rattle.vr_event.specs.Volume.{IsHeld, IsWhole, VolumeNow}
 use Rattle.vr_event.proofs.MetParts.{met-shapes}
 use Rattle.vr_event.proofs.SpaceHeld.{space-held}
 use Rattle.vr_event.proofs.Wholes.{held-moved, whole-of}
+use Rattle.vr_event.specs.Nearer.{MeetsOnly}
 use Rattle.vr_event.proofs.volume.Volume.weigh_change.Goals as goal
 
 pub returns-clause-may : goal.returns-clause-may
@@ -91,3 +92,12 @@ returns-clause-lacks g c told opening held none place at =
     (λ none at. c.weigh.ensures.lacks told before.number opening was.file going (was.stored going)
     (space-held seen opening before whole was going c.args.unit request c.args.part.0) none place at)
     none at
+
+pub returns-clause-meets : goal.returns-clause-meets
+returns-clause-meets g c =
+    subst (λ (v : VolumeNow g.row.B.Denot). MeetsOnly v.store c.weigh.new.store) c.self.view_is
+    (record {
+      number = c.args.part.0;
+      parts = c.weigh.ensures.parts;
+      rest = c.weigh.ensures.rest;
+    })

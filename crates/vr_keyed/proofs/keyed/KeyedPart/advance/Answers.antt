@@ -1,18 +1,19 @@
-use Rattle.std.proofs.Common.{◌≢◌, ◌⊎◌, List, Option, subst, sym}
+use Rattle.std.proofs.Common.{List, Option, subst, sym}
 use Rattle.std.specs.Prelude.{OnOk}
-use Rattle.std.proofs.lemmas.Result.{on_ok_weaker}
+use Rattle.std.proofs.lemmas.Result.{IfOk-weaker, on_ok_weaker}
 use Rattle.vr_types.specs.Seen.{Left}
+use Rattle.vr_types.specs.Space.{free_count}
 use Rattle.vr_types.specs.declared.unit.PartNo.{PartNo}
 use Rattle.vr_space.specs.Areas.{IsChainAtRest}
 use Rattle.vr_space.specs.Known.{Known, areas_held}
 use Rattle.vr_space.specs.Moves.{OwnsInto}
-use Rattle.vr_space.specs.Part.{KeyedShape, part_no}
+use Rattle.vr_space.specs.Part.{HasMore, KeyedShape, part_no}
 use Rattle.vr_space.specs.Room.{Lengths}
 use Rattle.vr_space.proofs.CallerLemmas.{AreOwn, held-own, owns-grows, rest-grows, rest-sound}
 use Rattle.vr_attach.specs.Areas.{AreasNow}
 use Rattle.vr_keyed.specs.Advance.{IsLeastAside}
 use Rattle.vr_keyed.specs.Changed.{IsDoneIn, KeepsIn}
-use Rattle.vr_keyed.specs.Owned.{Owned, Splitting, known_in, known_of}
+use Rattle.vr_keyed.specs.Owned.{Owned, chain_of, known_in, known_of}
 use Rattle.vr_keyed.specs.Slots.{mets}
 use Rattle.vr_keyed.proofs.Aside.{least-aside}
 use Rattle.vr_keyed.proofs.keyed.KeyedPart.advance.Goals as goal
@@ -137,19 +138,17 @@ pub returns-clause-more : goal.returns-clause-more
 returns-clause-more g c told many owners grown grows still claimed =
     let now = c.args.self.now in
     let a = g.B.Blocks.seen c.args.blocks.now in
-    let splits : Splitting = c.advance_over.new.splits in
     let space : List (Option PartNo) = c.args.space.now in
-    let chain : AreasNow = record { part = now.part; areas = now.areas; ends = now.ends } in
+    let chain : AreasNow = chain_of now in
     let left : Left a a.cur = g.met.B.Blocks.cur_may c.args.blocks.now told in
     let own : AreOwn now.part owners (areas_held (known_of now)) =
     held-own now.part owners (known_of now) a (rest-sound (KeyedShape now.part) owners a still) left
     (c.requires.knows told) claimed in
     let aside : IsLeastAside c.self.inside.areas space =
-    subst (λ (keyed : Owned). IsLeastAside
-    (record { part = keyed.part; areas = keyed.areas; ends = keyed.ends }) space)
-    (sym c.self.view_is)
+    subst (λ (keyed : Owned). IsLeastAside (chain_of keyed) space) (sym c.self.view_is)
     (least-aside chain space owners grown now.move many grows own) in
-    on_ok_weaker c.advance_over.result
-    (subst (λ (keyed : Owned). (splits.split ≢ keyed.split) ⊎ (splits.move ≢ keyed.move))
-    c.self.view_is)
-    (c.advance_over.ensures.further told aside)
+    IfOk-weaker c.advance_over.result _ _
+    (λ kind more. subst (λ (keyed : Owned). HasMore (KeyedShape keyed.part) kind (known_of keyed)
+    (known_in c.advance_over.new.areas c.advance_over.new.splits (mets c.advance_over.new.slots))
+    (free_count space) (free_count c.advance_over.new.space)) c.self.view_is more)
+    (c.advance_over.ensures.more told aside)

@@ -103,7 +103,7 @@ returns-in_err-put_record-clause-moments g c told =
     subst (λ (v : LogNow). Touches (InLog v.geometry) (HasLog (with_record v rec)) a
     (B.seen c.put_record.new.blocks)) is
     (moments_grown log rec total a (B.seen c.put_record.new.blocks) (stands told)
-    c.put_record.ensures.fields refl
+    c.put_record.ensures.fields (fits_grown log.records rec (log_size log.geometry) live room) refl
     ((c.put_record.ensures.ending log total (bytes_of log.records) w
     (sym (bytes-push log.records rec))).touches told))
 
@@ -362,7 +362,7 @@ returns-clause-stands g c told =
     (behind_now i.tail.begun tail.begun i.older now.behind)
     (sym (ap (λ (v : LogNow). v.broken) is ∙ c.requires.sound))
     (stands_grown B.tells told log rec tail a b (stands told) c.put_record.ensures.fields turned now
-    (ends.current told))
+    (ends.current told) (fits_grown log.records rec (log_size log.geometry) live room))
 
 pub returns-clause-moments : goal.returns-clause-moments
 returns-clause-moments g c told =
@@ -413,7 +413,7 @@ returns-clause-moments g c told =
     subst (λ (v : LogNow). Touches (InLog v.geometry) (HasLog (with_record v rec)) a
     (B.seen c.put_record.new.blocks)) is
     (moments_grown log rec total a (B.seen c.put_record.new.blocks) (stands told)
-    c.put_record.ensures.fields refl
+    c.put_record.ensures.fields (fits_grown log.records rec (log_size log.geometry) live room) refl
     ((c.put_record.ensures.ending log total (bytes_of log.records) w
     (sym (bytes-push log.records rec))).touches told))
 

@@ -1,6 +1,5 @@
 use Rattle.std.proofs.Common.{◌≡◌, ℕ, ◌+◌, ◌-◌, ◌*◌, ◌<◌, ◌≤◌, length, Bool, false, None}
 use Rattle.std.proofs.Common.{if◌then◌else◌, eq-eqb, ne_eqb, sym, ap, subst, ◌∙◌, arith}
-use Rattle.vr_types.specs.LogSpace.{log_size}
 use Rattle.vr_types.specs.Regions.{Touches}
 use Rattle.vr_types.proofs.CallerLemmas.{keeps-none, keeps-touches}
 use Rattle.vr_log.specs.Kept.{records_in}
@@ -57,12 +56,11 @@ returns-then-self-clause-moments g c told =
     let kept = c.self.invariant.2 sound in
     let B = g.B.Blocks in
     let a = B.seen c.args.blocks.now in
-    let most : length (bytes_of log.records) ≤ log_size i.geometry = omega (arith, kept.fits) in
     subst (λ (v : LogNow). Touches (InLog v.geometry) (HasLog v) a (a)) is
     (keeps-touches B.tells (InLog log.geometry) (HasLog log) a (a) told
     (keeps-none B.tells a
     (λ told image left. g.met.B.Blocks.images_may c.args.blocks.now image told left))
-    (λ image on. stands_has log a image c.self.invariant.0 most
+    (λ image on. stands_has log a image c.self.invariant.0 kept.fits
     (subst (λ (v : LogNow). LogStands v a) (sym is) (c.requires.stands told)) on))
 
 pub returns-then-self-clause-keeps : goal.returns-then-self-clause-keeps
@@ -123,11 +121,10 @@ returns-in_err-force-clause-moments g c told =
     let kept = c.self.invariant.2 sound in
     let B = g.B.Blocks in
     let a = B.seen c.args.blocks.now in
-    let most : length (bytes_of log.records) ≤ log_size i.geometry = omega (arith, kept.fits) in
     subst (λ (v : LogNow). Touches (InLog v.geometry) (HasLog v) a (B.seen c.force.new.self)) is
     (keeps-touches B.tells (InLog log.geometry) (HasLog log) a (B.seen c.force.new.self) told
     (c.force.ensures.after)
-    (λ image on. stands_has log a image c.self.invariant.0 most
+    (λ image on. stands_has log a image c.self.invariant.0 kept.fits
     (subst (λ (v : LogNow). LogStands v a) (sym is) (c.requires.stands told)) on))
 
 pub returns-in_err-force-clause-idle : goal.returns-in_err-force-clause-idle
@@ -303,11 +300,10 @@ returns-clause-moments g c told =
     let kept = c.self.invariant.2 sound in
     let B = g.B.Blocks in
     let a = B.seen c.args.blocks.now in
-    let most : length (bytes_of log.records) ≤ log_size i.geometry = omega (arith, kept.fits) in
     subst (λ (v : LogNow). Touches (InLog v.geometry) (HasLog v) a (B.seen c.force.new.self)) is
     (keeps-touches B.tells (InLog log.geometry) (HasLog log) a (B.seen c.force.new.self) told
     (c.force.ensures.after)
-    (λ image on. stands_has log a image c.self.invariant.0 most
+    (λ image on. stands_has log a image c.self.invariant.0 kept.fits
     (subst (λ (v : LogNow). LogStands v a) (sym is) (c.requires.stands told)) on))
 
 pub returns-clause-idle : goal.returns-clause-idle

@@ -411,7 +411,7 @@ returns-clause-defined g c told volume old new begun small =
     let ensured = c.in_ok-define-in-Some.ensures in
     let by = subst (λ (s : StoreNow). IsBegun volume s unit place bytes old new a)
     (sym c.self.view_is) begun in
-    let below = subst (λ (s : StoreNow). s.log.generation + 1 < 2 ^ 64) (sym c.self.view_is) small in
+    let below = subst (λ (s : StoreNow). s.log.generation + 1 < 2 ^ 63) (sym c.self.view_is) small in
     let rested = catalog-rested volume v unit place bytes old new a is-set by catalog found in
     let defined = subst (λ (rec : LogRecord). IsDefinedIn unit place bytes
     (need_of (live_in v.log.records) rec) old new) (sym c.requires.rec) by.defined in
@@ -508,7 +508,7 @@ returns-clause-parts g c =
       found = into.found;
       is = into.is;
       same = same-met laid.number catalog.shape now.shape catalog.known now.known ensured.part
-          ensured.split ensured.moves ensured.areas;
+          ensured.split ensured.moves ensured.areas ensured.used;
     })
 
 pub unreachable-requires : goal.unreachable-requires

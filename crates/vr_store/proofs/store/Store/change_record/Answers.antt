@@ -420,7 +420,7 @@ returns-clause-done g c told volume gone old new is small =
     (record { number = laid.number; part = c.change_entry.new.catalog })
     c.index_mut.ensures.value in
     let ensured = c.in_ok-change_entry-in-Some.ensures in
-    let below = subst (λ (s : StoreNow). s.log.generation + 1 < 2 ^ 64) (sym c.self.view_is)
+    let below = subst (λ (s : StoreNow). s.log.generation + 1 < 2 ^ 63) (sym c.self.view_is)
     small in
     let rested = catalog-rested volume v unit place before bytes gone old new a is-set by catalog
     found in
@@ -514,7 +514,7 @@ returns-clause-parts g c =
       found = into.found;
       is = into.is;
       same = same-met laid.number catalog.shape now.shape catalog.known now.known ensured.part
-          ensured.split ensured.moves ensured.areas;
+          ensured.split ensured.moves ensured.areas ensured.used;
     })
 
 pub returns-clause-full : goal.returns-clause-full

@@ -199,7 +199,7 @@ returns-in-Ok-clause-defined g c told volume old new is below =
     (begun-here g.B.Blocks.tells part area definition store mid now started c.requires.fresh
     c.requires.catalog least none a (g.met.B.Blocks.cur_may c.args.blocks.now told)
     (c.start_part.ensures.touches told) volume unit place bytes old new told is)
-    (subst (λ (s : StoreNow). s.log.generation + 1 < 2 ^ 64) (sym started.is) below)
+    (subst (λ (s : StoreNow). s.log.generation + 1 < 2 ^ 63) (sym started.is) below)
 
 pub returns-in-Ok-clause-moments : goal.returns-in-Ok-clause-moments
 returns-in-Ok-clause-moments g c told volume old new is =

@@ -76,7 +76,7 @@ returns-clause-ended g c told volume old new stored current keeps made below =
     let changed = map changed_by c.forget.new.changed.items in
     let after : StoreNow = record store { log = log; undo = undo; changed = changed } in
     subst (λ (s : StoreNow). IsSet s a → blocks_of unit s.changed ≡ []
-    → s.log.generation + 1 < 18446744073709551616 → IsStored volume s old a
+    → s.log.generation + 1 < 9223372036854775808 → IsStored volume s old a
     → IsStored volume after new b) c.self.view_is
     (λ set none generation stored.
     stored-ended store a set volume old stored unit log undo changed kind new b

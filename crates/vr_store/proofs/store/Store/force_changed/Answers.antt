@@ -1,6 +1,10 @@
-use Rattle.std.proofs.Common.{◌<◌, ℕ, map, subst, sym}
+use Rattle.std.proofs.Common.{◌≢◌, ◌<◌, [], ℕ, map, subst, sym}
+use Rattle.std.proofs.lemmas.Result.{on_ok_weaker}
 use Rattle.std.specs.Prelude.{All}
-use Rattle.vr_store.specs.Store.{ChangedBy, IsSet, IsStored, StoreNow, changed_by, part_now}
+use Rattle.vr_store.specs.Left.{left_for}
+use Rattle.vr_store.specs.Store.{ChangedBy, IsSet, IsStored, StoreNow, blocks_of, changed_by}
+use Rattle.vr_store.specs.Store.{part_now, store_of}
+use Rattle.vr_store.proofs.StagesLeft.{waits-forced}
 use Rattle.vr_store.proofs.Ends.{stored-forced}
 use Rattle.vr_store.proofs.PutNothing.{moments-keeps, set-keeps}
 use Rattle.vr_store.proofs.Kept.{set-listed}
@@ -50,3 +54,17 @@ returns-clause-set g c =
     (sym keeps.count_same) c.force_listed.ensures.each)
     (set-keeps g.B.Blocks.tells store a b keeps
     (subst (λ (s : StoreNow). IsSet s a) (sym c.self.view_is) c.requires.set))
+
+pub returns-clause-nearer : goal.returns-clause-nearer
+returns-clause-nearer g c some = on_ok_weaker c.force_listed.result
+    (λ taken.
+    let inside = c.self.inside in
+    let store : StoreNow = store_of g.P.Part.shape g.P.Part.known inside.log inside.undo
+    inside.parts.items inside.changed.items inside.space in
+    let unit = c.args.unit in
+    let changed = map changed_by c.force_listed.new.changed.items in
+    subst (λ (s : StoreNow). left_for unit (record store { changed = changed }) < left_for unit s)
+    c.self.view_is
+    (waits-forced unit store changed
+    (subst (λ (s : StoreNow). blocks_of unit s.changed ≢ []) (sym c.self.view_is) some) taken))
+    c.force_listed.ensures.taken

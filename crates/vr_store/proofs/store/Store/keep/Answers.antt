@@ -4,7 +4,8 @@ use Rattle.std.specs.Prelude.{All, IfSome}
 use Rattle.vr_space.specs.Part.{IsGiven, IsPlaceOf}
 use Rattle.vr_undo.specs.Records.{before_of, befores_of, image_of}
 use Rattle.vr_undo.specs.declared.record.KeptRecord.{KeptRecord}
-use Rattle.vr_store.specs.Store.{IsFitImage, IsSet, IsStored, StoreNow, changed_by, part_among}
+use Rattle.vr_store.specs.Store.{HasLength, IsFitImage, IsSet, IsStored, StoreNow, changed_by}
+use Rattle.vr_store.specs.Store.{part_among}
 use Rattle.vr_store.specs.Store.{part_now, shape_among}
 use Rattle.vr_store.proofs.Fits.{fit-new, fits-kept}
 use Rattle.vr_store.proofs.Kept.{kept-changed, on-err, set-changed, stored-changed}
@@ -86,5 +87,7 @@ returns-clause-set g c set =
     (subst (λ (s : StoreNow). IfSome (shape_among s.parts c.args.part.0)
     (λ shape. IsPlaceOf shape c.args.place.now)) (sym c.self.view_is) c.requires.place)
     (subst (λ (s : StoreNow). IfSome (shape_among s.parts c.args.part.0)
-    (λ shape. IsGiven shape c.args.place.now c.args.old)) (sym c.self.view_is) c.requires.item))
+    (λ shape. IsGiven shape c.args.place.now c.args.old)) (sym c.self.view_is) c.requires.item)
+    (subst (λ (s : StoreNow). IfSome (shape_among s.parts c.args.part.0) HasLength)
+    (sym c.self.view_is) c.requires.length))
     is-set.kept c.in_ok-first.ensures.befores) is-set

@@ -335,7 +335,7 @@ returns-clause-parts g c =
     subst (λ (s : StoreNow). OnlyMet number s.parts parts) c.self.view_is
     (only-met number before now v.parts parts at refl
     (same-met laid.number before.shape now.shape before.known now.known ensured.part ensured.split
-    ensured.moves ensured.areas))
+    ensured.moves ensured.areas ensured.used))
 
 err-as : (result : Result (Unit {0}) LogNo) (cause : LogNo) (P : LogNo → Type 0)
     → IsErrAnd result (λ answer. answer ≡ cause) → P cause → IfErr result P

@@ -1,7 +1,8 @@
 use Rattle.std.proofs.Common.{ap, map, subst, sym, ◌∙◌}
 use Rattle.vr_history.specs.State.{BeforeImage}
 use Rattle.vr_undo.specs.Records.{befores_of, image_of}
-use Rattle.vr_store.specs.LastImage.{IsMetBy, last_of_unit}
+use Rattle.vr_store.specs.LastImage.{IsMetBy, OnLast, last_of_unit}
+use Rattle.vr_store.specs.Parts.{OnlyMet}
 use Rattle.vr_store.specs.Store.{IsFitImage, IsSet, IsStored, Stands, StoreNow, part_now}
 use Rattle.vr_store.specs.Store.{shape_among, store_of}
 use Rattle.vr_store.proofs.LastImages.{last-has, last-lent, last-on}
@@ -89,3 +90,29 @@ returns-clause-due g c told =
     (met-at new b c.ask_at.ensures.set still before.part.0 before.place c.args.length
     c.in_ok-room-in-Some.room (c.in_ok-room-in-Some.ensures.still told) c.is_stage.result
     (sym c.is_stage.ensures))
+
+pub returns-in_err-room-in-Some-clause-parts : goal.returns-in_err-room-in-Some-clause-parts
+returns-in_err-room-in-Some-clause-parts g c =
+    let inside = c.self.inside in
+    let store : StoreNow = store_of g.P.Part.shape g.P.Part.known inside.log inside.undo
+    inside.parts.items inside.changed.items inside.space in
+    let new = map (part_now g.P.Part.shape g.P.Part.known) c.ask_at.new.parts.items in
+    subst (λ (s : StoreNow). OnLast s c.args.unit (λ (last : BeforeImage).
+    OnlyMet last.part s.parts new)) c.self.view_is
+    (last-on (λ (last : BeforeImage). OnlyMet last.part store.parts new)
+    (last_of_unit store c.args.unit) (image_of c.args.unit c.in-Some.before.now)
+    (last-lent c.args.unit (befores_of inside.undo) c.last.result c.in-Some.before c.in-Some.is
+    c.last.ensures) c.ask_at.ensures.parts)
+
+pub returns-clause-parts : goal.returns-clause-parts
+returns-clause-parts g c =
+    let inside = c.self.inside in
+    let store : StoreNow = store_of g.P.Part.shape g.P.Part.known inside.log inside.undo
+    inside.parts.items inside.changed.items inside.space in
+    let new = map (part_now g.P.Part.shape g.P.Part.known) c.ask_at.new.parts.items in
+    subst (λ (s : StoreNow). OnLast s c.args.unit (λ (last : BeforeImage).
+    OnlyMet last.part s.parts new)) c.self.view_is
+    (last-on (λ (last : BeforeImage). OnlyMet last.part store.parts new)
+    (last_of_unit store c.args.unit) (image_of c.args.unit c.in-Some.before.now)
+    (last-lent c.args.unit (befores_of inside.undo) c.last.result c.in-Some.before c.in-Some.is
+    c.last.ensures) c.ask_at.ensures.parts)

@@ -1,18 +1,22 @@
-use Rattle.std.proofs.Common.{List, None, ap, map, refl, subst, sym, ◌∙◌}
+use Rattle.std.proofs.Common.{◌<◌, List, None, ap, map, refl, subst, sym, ◌∙◌}
 use Rattle.std.specs.Prelude.{IfSome}
 use Rattle.vr_types.specs.Moments.{Guards}
 use Rattle.vr_space.specs.Part.{CanSet}
 use Rattle.vr_history.specs.State.{BeforeImage}
 use Rattle.vr_undo.specs.Records.{befores_of, image_of}
+use Rattle.vr_undo.specs.declared.record.KeptRecord.{KeptRecord}
 use Rattle.vr_volume.specs.Committed.{committed_by}
 use Rattle.vr_volume.specs.PutBack.{lengths_kept}
 use Rattle.vr_volume.specs.Safe.{IsSafeImage}
 use Rattle.vr_store.specs.LastImage.{HasNoStage, IsBackIn, OnLast, last_of_unit}
 use Rattle.vr_store.specs.Store.{IsFitImage, IsSet, IsStored, Stands, StoreNow, changed_by, part_now}
-use Rattle.vr_store.specs.Store.{PartNow, owners_of, part_among, shape_among}
+use Rattle.vr_store.specs.Left.{left_for}
+use Rattle.vr_store.specs.Parts.{OnlyMet}
+use Rattle.vr_store.specs.Store.{PartNow, owners_of, part_among, shape_among, store_of}
 use Rattle.vr_store.proofs.LastImages.{back-in, back-made, back-of, back-state, can-back, last-has}
-use Rattle.vr_store.proofs.LastImages.{last-out, on-last, set-taken, taken-from}
+use Rattle.vr_store.proofs.LastImages.{last-on, last-out, on-last, set-taken, taken-from}
 use Rattle.vr_store.proofs.PlacedParts.{shapes-same, split-met}
+use Rattle.vr_store.proofs.StagesLeft.{waits-back}
 use Rattle.vr_store.proofs.store.Store.put_last.Goals as goal
 
 pub put_before-requires-clause-set : goal.put_before-requires-clause-set
@@ -223,3 +227,71 @@ returns-clause-shapes g c number =
     shapes-same c.put_before.new.self.parts v.parts
     (split-met c.put_before.new.self.parts v.parts c.put_before.ensures.parts.parts) number
     ∙ ap (λ (s : StoreNow). shape_among s.parts number) c.self.view_is
+
+pub returns-in_err-put_before-in-Some-clause-parts : goal.returns-in_err-put_before-in-Some-clause-parts
+returns-in_err-put_before-in-Some-clause-parts g c =
+    let inside = c.self.inside in
+    let unit = c.args.unit in
+    let v : StoreNow = store_of g.P.Part.shape g.P.Part.known inside.log inside.undo
+    inside.parts.items inside.changed.items inside.space in
+    let before = c.in-Some.before in
+    let new = c.put_before.new.self.parts in
+    subst (λ (s : StoreNow). OnLast s unit (λ (last : BeforeImage).
+    OnlyMet last.part s.parts new)) c.self.view_is
+    (last-on (λ (last : BeforeImage). OnlyMet last.part v.parts new) (last_of_unit v unit)
+    (image_of unit before)
+    (last-out unit (befores_of inside.undo) c.take_one.result before c.in-Some.is
+    c.take_one.ensures.value) c.put_before.ensures.parts)
+
+pub returns-in_err-put_before-in-Some-clause-nearer : goal.returns-in_err-put_before-in-Some-clause-nearer
+returns-in_err-put_before-in-Some-clause-nearer g c =
+    let inside = c.self.inside in
+    let unit = c.args.unit in
+    let v : StoreNow = store_of g.P.Part.shape g.P.Part.known inside.log inside.undo
+    inside.parts.items inside.changed.items inside.space in
+    let before = c.in-Some.before in
+    let new = c.put_before.new.self in
+    subst (λ (s : StoreNow). left_for unit new < left_for unit s) c.self.view_is
+    (subst (λ (s : StoreNow). left_for unit s < left_for unit v) (sym c.put_before.ensures.rest)
+    (subst (λ (undo : List KeptRecord). left_for unit (record v {
+      undo = undo;
+      parts = new.parts;
+      changed = new.changed;
+    }) < left_for unit v) (sym c.take_one.ensures.out)
+    (waits-back unit v (image_of unit before)
+    (last-out unit (befores_of inside.undo) c.take_one.result before c.in-Some.is
+    c.take_one.ensures.value) before.part.0 new.parts new.changed c.put_before.ensures.parts)))
+
+pub returns-clause-parts : goal.returns-clause-parts
+returns-clause-parts g c =
+    let inside = c.self.inside in
+    let unit = c.args.unit in
+    let v : StoreNow = store_of g.P.Part.shape g.P.Part.known inside.log inside.undo
+    inside.parts.items inside.changed.items inside.space in
+    let before = c.in-Some.before in
+    let new = c.put_before.new.self.parts in
+    subst (λ (s : StoreNow). OnLast s unit (λ (last : BeforeImage).
+    OnlyMet last.part s.parts new)) c.self.view_is
+    (last-on (λ (last : BeforeImage). OnlyMet last.part v.parts new) (last_of_unit v unit)
+    (image_of unit before)
+    (last-out unit (befores_of inside.undo) c.take_one.result before c.in-Some.is
+    c.take_one.ensures.value) c.put_before.ensures.parts)
+
+pub returns-clause-nearer : goal.returns-clause-nearer
+returns-clause-nearer g c =
+    let inside = c.self.inside in
+    let unit = c.args.unit in
+    let v : StoreNow = store_of g.P.Part.shape g.P.Part.known inside.log inside.undo
+    inside.parts.items inside.changed.items inside.space in
+    let before = c.in-Some.before in
+    let new = c.put_before.new.self in
+    subst (λ (s : StoreNow). left_for unit new < left_for unit s) c.self.view_is
+    (subst (λ (s : StoreNow). left_for unit s < left_for unit v) (sym c.put_before.ensures.rest)
+    (subst (λ (undo : List KeptRecord). left_for unit (record v {
+      undo = undo;
+      parts = new.parts;
+      changed = new.changed;
+    }) < left_for unit v) (sym c.take_one.ensures.out)
+    (waits-back unit v (image_of unit before)
+    (last-out unit (befores_of inside.undo) c.take_one.result before c.in-Some.is
+    c.take_one.ensures.value) before.part.0 new.parts new.changed c.put_before.ensures.parts)))

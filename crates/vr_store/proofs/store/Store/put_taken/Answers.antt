@@ -397,7 +397,8 @@ returns-clause-parts g c =
     subst (λ (s : StoreNow). OnlyMet number s.parts parts) c.self.view_is
     (only-met number before now v.parts parts at refl
     (same-met laid.number before.shape now.shape before.known now.known c.set_back.ensures.part
-    c.set_back.ensures.split c.set_back.ensures.moves c.set_back.ensures.areas))
+    c.set_back.ensures.split c.set_back.ensures.moves c.set_back.ensures.areas
+    c.set_back.ensures.used))
 
 pub returns-clause-reads : goal.returns-clause-reads
 returns-clause-reads g c asked =

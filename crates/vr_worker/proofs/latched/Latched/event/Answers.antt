@@ -1,5 +1,6 @@
-use Rattle.std.proofs.Common.{◌≡◌, ◌∙◌, ℕ, List, ap, arith, subst, sym}
+use Rattle.std.proofs.Common.{◌≡◌, ◌∙◌, ℕ, List, ap, arith, false, subst, sym}
 use Rattle.std.specs.Prelude.{IfSome}
+use Rattle.std.proofs.lemmas.Result.{IfOk-weaker}
 use Rattle.vr_history.specs.Merged.{last_stamp}
 use Rattle.vr_history.specs.declared.entry.Entry.{Entry}
 use Rattle.vr_ledger.specs.Entries.{HasGrown}
@@ -33,8 +34,8 @@ invariant_of-self g c =
           c.self.invariant.since);
     }
 
-pub returns : goal.returns
-returns g c =
+pub returns-clause-taken : goal.returns-clause-taken
+returns-clause-taken g c =
     let V = g.V.Served in
     let old = c.self.inside.volume in
     let new = c.answer-answer.new.self in
@@ -70,3 +71,17 @@ returns g c =
       history = them;
     }) c.history-3.ensures)
     last)
+
+pub returns-clause-nearer : goal.returns-clause-nearer
+returns-clause-nearer g c =
+    let V = g.V.Served in
+    let old = c.self.inside.volume in
+    let new = c.answer-answer.new.self in
+    let seen : c.args.self.now.volume ≡ old =
+    sym (ap (λ (latched : LatchedNow g.row.V.Denot). latched.volume) c.self.view_is) in
+    IfOk-weaker c.answer-answer.result
+    (λ done. done ≡ false → V.nears old new c.deck.result)
+    (λ done. done ≡ false → V.nears c.args.self.now.volume new c.args.turn.now.deck)
+    (λ done nearer not. subst (λ (v : g.row.V.Denot). V.nears v new c.args.turn.now.deck) (sym seen)
+    (subst (V.nears old new) c.deck.ensures (nearer not)))
+    c.answer-answer.ensures.nearer
