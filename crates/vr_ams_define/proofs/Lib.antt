@@ -4,6 +4,7 @@ mod Deletions
 mod Entering
 pub mod GrownLemmas
 pub mod Later
+pub mod Named
 mod NewEntries
 mod OnVolume
 mod Rising

@@ -3,17 +3,15 @@ use Rattle.std.proofs.Common.{◌≡◌, ◌∙◌, ◌+◌, ◌<◌, ◌≤◌,
 use Rattle.std.proofs.Common.{map, Option, Some, None, refl, sym, ap, subst, get_or, arith, inl}
 use Rattle.std.proofs.Common.{inr}
 use Rattle.std.proofs.Common.{if◌then◌else◌, not, Result, Ok, Err, IfOk, IfErr, IsErr}
-use Rattle.std.specs.Prelude.{Contains, bytes_eq, slice_set}
-use Rattle.std.specs.List.{find, position, position_or_len}
+use Rattle.std.specs.Prelude.{slice_set}
+use Rattle.std.specs.List.{position, position_or_len}
 use Rattle.std.specs.Option.{option_or}
 use Rattle.std.specs.Result.{IsErrAnd}
-use Rattle.std.proofs.lemmas.Bool.{cases_Bool, cases_lt}
+use Rattle.std.proofs.lemmas.Bool.{cases_lt}
 use Rattle.std.proofs.lemmas.Bool.Decides.{nat_tests}
-use Rattle.std.proofs.lemmas.List.Elements.{Contains-append_right}
 use Rattle.std.proofs.lemmas.List.Sums.{position_or_len_is}
 use Rattle.std.proofs.lemmas.List.{length-map}
 use Rattle.std.proofs.lemmas.Option.{same_Some, slice_get-get_or, slice_get_within}
-use Rattle.std.proofs.lemmas.Slice.Eq.{bytes_eq-Decides}
 use Rattle.vr_catalog.specs.Catalog.{entry_named}
 use Rattle.vr_catalog.specs.Entry.{is_entry}
 use Rattle.vr_catalog.specs.declared.entry.CatEntry.{CatEntry}
@@ -34,6 +32,7 @@ use Rattle.vr_ams_define.specs.declared.answer.Changed.{Changed}
 use Rattle.vr_ams_define.specs.declared.refusal.DefineNo.{DefineNo}
 use Rattle.vr_ams_define.specs.declared.refusal.DefineNo.TheVariants.{Refused, Ended}
 use Rattle.vr_ams_define.specs.declared.target.Target.{Target}
+use Rattle.vr_ams_define.proofs.Named.{first-named}
 use Rattle.vr_ams_define.proofs.OnVolume.{shown-at}
 
 -- ---- the lowest volume with a name
@@ -86,38 +85,6 @@ module _ (volumes : List Shown) (name : List ℕ) (count : ℕ)
   pub place-none : length volumes ≤ count → place_of volumes name ≡ None
   place-none past = position-past Names volumes count spare past
       (λ k near. without k spare (omega (arith, near, past)) near)
-
--- ---- the entry of a name
-
--- what is found is there, and passes
-find-there : {X : Type 0} (p : X → Bool) (xs : List X) (x : X) → find p xs ≡ Some x
-    → Contains xs x × (p x ≡ true)
-find-there p [] x is = absurd (cc)
-find-there p (y ∷ xs) x is = elim (cases_Bool (p y)) [
-  | inl passes ↦
-      let same : y ≡ x = same_Some y x (sym (find-first p y xs passes) ∙ is) in
-      ((0, omega arith, same), subst (λ it. p it ≡ true) same passes)
-  | inr fails ↦
-      let more = find-there p xs x (sym (find-after p y xs fails) ∙ is) in
-      (Contains-append_right (y ∷ []) xs x more.0, more.1)
-]
-  where
-    find-first : {X : Type 0} (p : X → Bool) (y : X) (xs : List X) → p y ≡ true
-        → find p (y ∷ xs) ≡ Some y
-    find-first p y xs passes = rw passes refl
-
-    find-after : {X : Type 0} (p : X → Bool) (y : X) (xs : List X) → p y ≡ false
-        → find p (y ∷ xs) ≡ find p xs
-    find-after p y xs fails = rw fails refl
-
--- no entry before it has its name
-first-named : (entries : List CatEntry) (name : List ℕ) (entry : CatEntry)
-    → entry_named entries name ≡ Some entry
-    → Contains entries entry × (entry_named entries entry.name ≡ Some entry)
-first-named entries name entry is =
-    let it = find-there (λ (one : CatEntry). bytes_eq one.name name) entries entry is in
-    let same : entry.name ≡ name = (bytes_eq-Decides entry.name name).0 it.1 in
-    (it.0, subst (λ (text : List ℕ). entry_named entries text ≡ Some entry) (sym same) is)
 
 -- ---- an entry that may be changed
 

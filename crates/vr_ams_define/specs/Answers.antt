@@ -1,9 +1,10 @@
--- What a volume answers to a DEFINE of a cluster, to ALTER and DELETE, and to LISTCAT ALL, and what
--- it shows then. The rules are this project's own.
-use Rattle.std.specs.Prelude.{◌≡◌, ◌≢◌, ℕ, Option, true}
+-- What a volume answers to a DEFINE of a cluster, to ALTER and DELETE, to LISTCAT ALL, and to
+-- PRINT, and what it shows then. The rules are this project's own.
+use Rattle.std.specs.Prelude.{◌≡◌, ◌≢◌, ℕ, Bool, List, Option, true}
 use Rattle.vr_types.specs.declared.fault.DeviceFault.TheVariants.{Read, Write}
 use Rattle.vr_catalog.specs.declared.entry.CatEntry.{CatEntry}
 use Rattle.vr_trace.specs.Shown.{Shown}
+use Rattle.vr_trace.specs.Visitors.{Visited, visited_by}
 use Rattle.vr_ams_define.specs.EntryChanges.{IsShownChanged}
 use Rattle.vr_ams_define.specs.declared.answer.Changed.{Changed}
 use Rattle.vr_ams_define.specs.declared.answer.Changed.TheVariants as changes
@@ -12,6 +13,8 @@ use Rattle.vr_ams_define.specs.declared.answer.Counted.TheVariants as counts
 use Rattle.vr_ams_define.specs.declared.answer.Defined.{Defined}
 use Rattle.vr_ams_define.specs.declared.answer.Defined.TheVariants.{Done, Again, NoArea, NoRoom}
 use Rattle.vr_ams_define.specs.declared.answer.Defined.TheVariants.{Held, Full, Fault}
+use Rattle.vr_ams_define.specs.declared.answer.ReadBack.{ReadBack}
+use Rattle.vr_ams_define.specs.declared.answer.ReadBack.TheVariants as reads
 use Rattle.vr_ams_define.specs.NewCluster.{with_area, with_cluster}
 
 -- its catalog has one entry more, at its place
@@ -36,16 +39,33 @@ IsShownCounted (counts.Done numbers) old new = new ≡ old
 IsShownCounted (counts.Fault Read) old new = new ≡ old
 IsShownCounted (counts.Fault Write) old new = new.stopped ≡ true
 
--- What a volume was asked for, and its answer: the definition of an entry, the numbers of one, or a
--- change of one, to the other where it is altered, and to none where it is deleted.
+-- So does one that was read through.
+abbrev pub IsShownRead : ReadBack → Shown → Shown → Type 0
+IsShownRead reads.Done old new = new ≡ old
+IsShownRead (reads.Fault Read) old new = new ≡ old
+IsShownRead (reads.Fault Write) old new = new.stopped ≡ true
+
+-- What a volume was asked for, and its answer: the definition of an entry, the numbers of one, a
+-- change of one, to the other where it is altered, and to none where it is deleted, or the records
+-- of one from a place on, where there is one, with those that it has there.
 pub data Exchange : Type 0 where
   Defining : CatEntry → Defined → Exchange
   Counting : CatEntry → Counted → Exchange
   Changing : CatEntry → Option CatEntry → Changed → Exchange
+  Reading : CatEntry → Option (List ℕ) → List Visited → ReadBack → Exchange
 
 -- how a volume may answer on a line, and be then
 abbrev pub Answering : Type 0 → Type 1
 Answering V = V → ℕ → Exchange → V → Type 0
+
+-- It was asked for the records of an entry from a place on, and these were handed to a visitor, as
+-- far as that took them.
+pub record HasRead {V R : Type 0} (answers : Answering V) (next : R → List ℕ → List ℕ → R)
+    (done : R → Bool) (line : ℕ) (entry : CatEntry) (from : Option (List ℕ)) (old new : V)
+    (before left : R) (answer : ReadBack) : Type 0 where
+  pub records : List Visited
+  pub answered : answers old line (Reading entry from records answer) new
+  pub visited : left ≡ visited_by next done records before
 
 -- It was asked, and said each time that it is to be asked again, after a stage.
 pub data HasStaged {V : Type 0} (answers : Answering V) (line : ℕ) (again : Exchange) (old : V)

@@ -1,4 +1,4 @@
-//! What a volume answers to a DEFINE of a cluster, to ALTER and DELETE, and to LISTCAT ALL.
+//! What a volume answers to a DEFINE of a cluster, to ALTER and DELETE, to LISTCAT ALL, to PRINT.
 
 use vr_trace::Statistics;
 use vr_types::{AreaNo, DeviceFault};
@@ -26,6 +26,15 @@ pub enum Defined {
 #[derive(Clone, Copy)]
 pub enum Counted {
     Done(Statistics),
+    /// The device failed. A write that fails stops the volume.
+    Fault(DeviceFault),
+}
+
+/// What reading a cluster through came to.
+#[derive(Clone, Copy)]
+pub enum ReadBack {
+    /// The visitor has the records, up to the one with which it was done.
+    Done,
     /// The device failed. A write that fails stops the volume.
     Fault(DeviceFault),
 }

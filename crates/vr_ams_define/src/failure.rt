@@ -15,7 +15,7 @@ const REFUSED_CODE: u8 = 12;
 const HELD_FAULT: u16 = 901;
 
 /// A fault of the catalog, with its condition code.
-pub(crate) fn catalog_failure(fault: CatFault) -> Failure
+pub fn catalog_failure(fault: CatFault) -> Failure
     ensures { result ≡ stated.catalog_failure fault }
 {
     Failure {
@@ -72,8 +72,8 @@ pub(crate) fn failure_if(cause: bool, failure: Failure) -> Option<Failure>
     if cause { Some(failure) } else { None }
 }
 
-/// The failure of a volume that has stopped.
-pub(crate) fn stopped_failure<V: ShownVolume>(volume: &V) -> Option<Failure>
+/// The failure of a volume that has stopped: fault 903, code 12.
+pub fn stopped_failure<V: ShownVolume>(volume: &V) -> Option<Failure>
     ensures { result ≡ stated.stopped_failure (V.shown volume.now) }
 {
     let failure = volume_failure(&Refusal::Stopped { stamp: 0 });

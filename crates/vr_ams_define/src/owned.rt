@@ -5,16 +5,17 @@ ghost use Rattle.vr_catalog.specs.declared.entry.EntryKind.TheVariants.{Cluster}
 ghost use Rattle.vr_history.specs.Merged.{last_stamp};
 ghost use Rattle.vr_history.specs.declared.entry.Entry.{Entry};
 ghost use Rattle.vr_types.specs.declared.geometry.Geometry.{Geometry};
-ghost use Rattle.vr_ams_define.specs.Answers.{Exchange, IsShownAfter, IsShownCounted};
+ghost use Rattle.vr_ams_define.specs.Answers.{Exchange, HasRead, IsShownAfter, IsShownCounted};
+ghost use Rattle.vr_ams_define.specs.Answers.{IsShownRead};
 ghost use Rattle.vr_ams_define.specs.Answers.Exchange.{Changing, Counting, Defining};
 ghost use Rattle.vr_ams_define.specs.EntryChanges.{IsAltered, IsClusterThere, IsShownChanged};
 ghost use Rattle.vr_ams_define.specs.Grown.{HasEntered};
 ghost use Rattle.vr_ams_define.specs.NewCluster.{IsNewCluster};
 
-use crate::answer::{Changed, Counted, Defined};
+use crate::answer::{Changed, Counted, Defined, ReadBack};
 use vr_catalog::CatEntry;
-use vr_trace::{RunNo, ShownVolume};
-use vr_types::Geometry;
+use vr_trace::{RecordVisitor, RunNo, ShownVolume};
+use vr_types::{Geometry, Place};
 
 /// A volume that no deck has, which a command of IDCAMS may read, and whose catalog it may change.
 pub trait OwnedVolume: ShownVolume {
@@ -73,6 +74,33 @@ pub trait OwnedVolume: ShownVolume {
             answers self.old line (Counting entry.now counted) self.new) }
         ensures shown { IfOk result (λ counted.
             IsShownCounted counted (Self.shown self.old) (Self.shown self.new)) }
+        ensures refused { IsErr result → Self.shown self.new ≡ Self.shown self.old }
+        ensures entered { HasEntered line after (history self.old) (history self.new) }
+        ensures goes { goes self.old self.new }
+        ensures geometry { geometry self.new ≡ geometry self.old };
+
+    /// Hands the records of a cluster of the catalog to a visitor, in the order of their places,
+    /// from the first whose place is `from` or past it, all of them where there is none, until it
+    /// is done or there are no more, for a command whose first word is on line `line` of the job,
+    /// as one event. Nothing of the volume changes; a write that fails stops it. What that enters
+    /// comes after stamp `after`. Where no stamps are left (`Stamps`), or memory runs out
+    /// (`Memory`), the visitor's too, nothing is entered. What the visitor has then, or where the
+    /// device fails, may be a part of it.
+    fn read<R: RecordVisitor>(
+        &mut self,
+        line: u32,
+        entry: &CatEntry,
+        from: Option<&Place>,
+        after: u64,
+        visitor: &mut R,
+    ) -> Result<ReadBack, RunNo>
+        requires going { (Self.shown self.old).stopped ≡ false }
+        requires entry { Contains (Self.shown self.old).catalog entry.now }
+        requires cluster { entry.now.entry_kind ≡ Cluster }
+        ensures read { IfOk result (λ answer. HasRead answers R.after R.done line entry.now
+            (option_copied from.entry) self.old self.new visitor.old visitor.new answer) }
+        ensures shown { IfOk result (λ answer.
+            IsShownRead answer (Self.shown self.old) (Self.shown self.new)) }
         ensures refused { IsErr result → Self.shown self.new ≡ Self.shown self.old }
         ensures entered { HasEntered line after (history self.old) (history self.new) }
         ensures goes { goes self.old self.new }

@@ -30,8 +30,8 @@ pub(crate) struct Target {
     pub(crate) entry: CatEntry,
 }
 
-/// The number of the lowest volume whose catalog has the name.
-fn place_of<V: ShownVolume>(volumes: &[V], name: &Name) -> Option<usize>
+/// The number of the lowest volume whose catalog has the name, 0 for the first.
+pub fn place_of<V: ShownVolume>(volumes: &[V], name: &Name) -> Option<usize>
     ensures place { result ≡ stated.place_of (map V.shown volumes.now) name.now }
     ensures within { IfSome result (λ place. place < length volumes.now) }
 {

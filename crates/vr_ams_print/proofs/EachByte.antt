@@ -6,8 +6,8 @@ use Rattle.std.specs.List.{range_with_len}
 use Rattle.std.proofs.Math.Seq.{take-add}
 use Rattle.std.proofs.lemmas.Grind.{div_ceil_times}
 use Rattle.std.proofs.lemmas.List.{take_all}
-use Rattle.vr_ams_print.specs.declared.form.PrintForm.{PrintForm}
-use Rattle.vr_ams_print.specs.declared.form.PrintForm.TheVariants.{Character, Hex, Dump}
+use Rattle.vr_amsparse.specs.declared.command.PrintForm.{PrintForm}
+use Rattle.vr_amsparse.specs.declared.command.PrintForm.TheVariants.{Character, Hex, Dump}
 use Rattle.vr_ams_print.specs.Lines.{Chunk, chunk_at, chunks_of, joined, line_size}
 use Rattle.vr_ams_print.proofs.Numbered.{joined_more}
 

@@ -1,3 +1,7 @@
+mod Answered
 mod EachByte
 mod Numbered
+mod Selected
+mod Sources
 mod Worked
+mod WorkedPrints

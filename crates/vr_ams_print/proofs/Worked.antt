@@ -5,7 +5,7 @@ use Rattle.std.specs.Fmt.{digits}
 use Rattle.std.specs.Prelude.{replicate}
 use Rattle.vr_types.specs.Fields.{four_at}
 use Rattle.vr_types.specs.declared.unit.Kind.TheVariants.{Keyed, Entry, Relative}
-use Rattle.vr_ams_print.specs.declared.form.PrintForm.TheVariants.{Character, Hex, Dump}
+use Rattle.vr_amsparse.specs.declared.command.PrintForm.TheVariants.{Character, Hex, Dump}
 use Rattle.vr_ams_print.specs.Lines.{lines_of, line_of}
 use Rattle.vr_ams_print.specs.Record.{place_line, record_text, printed_line}
 

@@ -4,8 +4,8 @@ use Rattle.std.specs.Prelude.{ℕ, ◌*◌, List, [], ◌∷◌, ◌++◌, codes
 use Rattle.std.specs.Fork.{slice_chunk}
 use Rattle.std.specs.Int.{div_ceil}
 use Rattle.std.specs.List.{flat_map, range_with_len}
-use Rattle.vr_ams_print.specs.declared.form.PrintForm.{PrintForm}
-use Rattle.vr_ams_print.specs.declared.form.PrintForm.TheVariants.{Character, Hex, Dump}
+use Rattle.vr_amsparse.specs.declared.command.PrintForm.{PrintForm}
+use Rattle.vr_amsparse.specs.declared.command.PrintForm.TheVariants.{Character, Hex, Dump}
 use Rattle.vr_ams_print.specs.Texts.{characters, digits, offset_digits, padded}
 
 -- how many bytes a line shows; the last line may show fewer

@@ -4,7 +4,7 @@ use Rattle.std.specs.Prelude.{ℕ, List, [], ◌∷◌, ◌++◌, codes}
 use Rattle.vr_types.specs.declared.unit.Kind.{Kind}
 use Rattle.vr_types.specs.declared.unit.Kind.TheVariants.{Keyed, Entry, Relative}
 use Rattle.vr_trace.specs.Lines.{field, place_named}
-use Rattle.vr_ams_print.specs.declared.form.PrintForm.{PrintForm}
+use Rattle.vr_amsparse.specs.declared.command.PrintForm.{PrintForm}
 use Rattle.vr_ams_print.specs.Lines.{lines_of}
 
 -- what a place in a data set of the kind is called: a key, a relative byte address, or a relative

@@ -1,15 +1,8 @@
-//! The forms in which PRINT shows records.
+//! How many bytes a line of PRINT shows.
 ghost use Rattle.std.specs.Prelude.{◌≡◌, ◌<◌};
 ghost use Rattle.vr_ams_print.specs.Lines as stated;
 
-/// How PRINT of Access Method Services Commands shows a record: as characters, as hexadecimal
-/// digits, or as both with offsets.
-#[derive(Clone, Copy)]
-pub enum PrintForm {
-    Character,
-    Hex,
-    Dump,
-}
+use vr_amsparse::PrintForm;
 
 /// How many bytes a line shows.
 pub(crate) fn line_size(form: PrintForm) -> usize

@@ -1,6 +1,6 @@
 //! Laws of the lines of a record.
 ghost use Rattle.std.specs.Prelude.{◌≡◌, ℕ, List};
-ghost use Rattle.vr_ams_print.specs.declared.form.PrintForm.{PrintForm as Form};
+ghost use Rattle.vr_amsparse.specs.declared.command.PrintForm.{PrintForm as Form};
 ghost use Rattle.vr_ams_print.specs.Lines.{chunks_of, joined, line_size};
 
 /// In each form the lines of a record show each of its bytes once, in order.

@@ -3,8 +3,9 @@ ghost use Rattle.std.specs.Prelude.{◌≡◌, ◌++◌, OnOk};
 ghost use Rattle.std.specs.Fork.{slice_chunk};
 ghost use Rattle.vr_ams_print.specs.Lines as stated;
 
-use crate::form::{PrintForm, line_size};
+use crate::form::line_size;
 use crate::texts::{pad, write_characters, write_digits, write_offset};
+use vr_amsparse::PrintForm;
 use vr_trace::NEW_LINE;
 use vr_types::{Bytes, OutOfMemory};
 

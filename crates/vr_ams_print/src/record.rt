@@ -3,9 +3,9 @@ ghost use Rattle.std.specs.Prelude.{◌≡◌, ◌++◌, OnOk};
 ghost use Rattle.vr_trace.specs.Lines.{number_text};
 ghost use Rattle.vr_ams_print.specs.Record as stated;
 
-use crate::form::PrintForm;
 use crate::lines::write_lines;
 use std::alloc::Global;
+use vr_amsparse::PrintForm;
 use vr_text::write_literal;
 use vr_trace::{NEW_LINE, write_field};
 use vr_types::{Bytes, Kind, OutOfMemory, four_at};

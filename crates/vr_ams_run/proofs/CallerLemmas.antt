@@ -1,12 +1,13 @@
 -- What crates above cite of reports: the code of a step is 16 at most.
 use Rattle.std.proofs.Common.{◌≡◌, ◌≤◌, ℕ, Bool, true, false, List, [], ◌∷◌, Option, Some, None}
-use Rattle.std.proofs.Common.{arith, inl, inr, map, subst, sym}
+use Rattle.std.proofs.Common.{arith, inl, inr, map, subst, sym, Result, Ok, Err, IfErr}
 use Rattle.std.specs.Prelude.{not, ◌&&◌, length, if◌then◌else◌, IfSome, is_some, slice_get}
 use Rattle.std.specs.Option.{option_and_then, option_map, option_or}
 use Rattle.std.proofs.Math.Nat.{max-le, min-le_right}
 use Rattle.vr_types.specs.declared.fault.DeviceFault.{DeviceFault}
 use Rattle.vr_types.specs.declared.fault.DeviceFault.TheVariants.{Read, Write}
 use Rattle.vr_types.specs.declared.geometry.Geometry.{Geometry}
+use Rattle.vr_types.specs.declared.unit.Kind.{Kind}
 use Rattle.vr_types.specs.declared.reply.Refusal.TheVariants.{Stopped}
 use Rattle.vr_catalog.specs.Alter.{altered as altered_entry}
 use Rattle.vr_catalog.specs.Define.{define_fault, new_entry}
@@ -25,8 +26,10 @@ use Rattle.vr_amsparse.specs.declared.command.Command.TheVariants as commands
 use Rattle.vr_amsparse.specs.declared.command.DefineCommand.{DefineCommand}
 use Rattle.vr_amsparse.specs.declared.command.ListCommand.{ListCommand}
 use Rattle.vr_amsparse.specs.declared.command.Node.{Node}
+use Rattle.vr_amsparse.specs.declared.command.PrintCommand.{PrintCommand}
 use Rattle.vr_trace.specs.Commands.{outcome_by}
 use Rattle.vr_trace.specs.Shown.{Shown, is_known}
+use Rattle.vr_trace.specs.Visitors.{Visited}
 use Rattle.vr_trace.specs.declared.command.Failure.{Failure}
 use Rattle.vr_trace.specs.declared.command.Outcome.{Outcome}
 use Rattle.vr_trace.specs.declared.report.StepReport.{StepReport}
@@ -35,6 +38,10 @@ use Rattle.vr_ams_list.specs.Listing.{detail_lines}
 use Rattle.vr_ams_list.specs.Outcomes.{listed}
 use Rattle.vr_ams_define.specs.declared.answer.Changed.{Changed}
 use Rattle.vr_ams_define.specs.declared.answer.Changed.TheVariants as changes
+use Rattle.vr_ams_define.specs.declared.answer.Counted.{Counted}
+use Rattle.vr_ams_define.specs.declared.answer.Counted.TheVariants as numbers
+use Rattle.vr_ams_define.specs.declared.answer.ReadBack.{ReadBack}
+use Rattle.vr_ams_define.specs.declared.answer.ReadBack.TheVariants as reads
 use Rattle.vr_ams_define.specs.declared.answer.Defined.{Defined}
 use Rattle.vr_ams_define.specs.declared.answer.Defined.TheVariants.{Done, Again, NoArea, NoRoom}
 use Rattle.vr_ams_define.specs.declared.answer.Defined.TheVariants.{Held, Full, Fault}
@@ -47,6 +54,10 @@ use Rattle.vr_ams_define.specs.Failures.{failure_on, fault_failure, name_failure
 use Rattle.vr_ams_define.specs.Failures.{stopped_failure, volume_at, volume_failure}
 use Rattle.vr_ams_define.specs.Outcomes.{IsDefined, IsOutcome}
 use Rattle.vr_ams_define.specs.Runs.{is_plain_cluster}
+use Rattle.vr_ams_print.specs.Outcomes.{IsPrintedBy, IsRefused, IsVerifiedBy, print_outcome}
+use Rattle.vr_ams_print.specs.Outcomes.{verify_outcome}
+use Rattle.vr_ams_print.specs.Printed.{has_keys}
+use Rattle.vr_ams_print.specs.Sources as sources
 use Rattle.vr_ams_run.specs.declared.codes.Codes.{Codes}
 use Rattle.vr_ams_run.specs.declared.going.Going.{Going}
 use Rattle.vr_ams_run.specs.Codes.{set_to}
@@ -341,6 +352,70 @@ module _ {V : Type 0} (shown : V → Shown) (answers : Answering V) (line : ℕ)
   delete-few names old new outcome came = code-of outcome _ came.outcome_is
       (worst-few came.failures (each-mild names old new came.failures came.ran))
 
+-- ---- PRINT and VERIFY
+
+read-mild : (keyed : Bool) (kind : Option Kind) → IfErr (sources.kind_read keyed kind) IsMild
+read-mild keyed None = omega arith
+read-mild keyed (Some kind) = by (sources.is_readable keyed kind)
+  where
+    by : (readable : Bool) → IfErr (if readable then Ok kind
+        else Err (catalog_failure faults.WrongKind)) IsMild
+    by true = tt
+    by false = omega arith
+
+unless-mild : (failure : Option Failure) (kind : Result Kind Failure) → IfSome failure IsMild
+    → IfErr kind IsMild → IfErr (sources.unless failure kind) IsMild
+unless-mild None kind mild rest = rest
+unless-mild (Some failure) kind mild rest = mild
+
+found-mild : (keyed : Bool) (volume : Option Shown) (entry : Option CatEntry)
+    → IfErr (sources.kind_of_found keyed volume entry) IsMild
+found-mild keyed None entry = omega arith
+found-mild keyed (Some volume) None = omega arith
+found-mild keyed (Some volume) (Some entry) =
+    unless-mild (stopped_failure volume) (sources.kind_read keyed (sources.cluster_kind entry))
+    (if-mild volume.stopped (volume_failure (Stopped 0)) (omega arith))
+    (read-mild keyed (sources.cluster_kind entry))
+
+place-mild : (keyed : Bool) (volumes : List Shown) (place : Option ℕ) (name : List ℕ)
+    → IfErr (sources.kind_at keyed volumes place name) IsMild
+place-mild keyed volumes None name = omega arith
+place-mild keyed volumes (Some place) name =
+    found-mild keyed (slice_get volumes place) (altered.entry_at volumes place name)
+
+-- whatever a data set isn't read for
+refused-few : {V : Type 0} (shown : V → Shown) (keyed : Bool) (name : List ℕ) (old new : List V)
+    (outcome : Outcome) → IsRefused shown keyed name old new outcome → outcome.code ≤ 16
+refused-few shown keyed name old new outcome refused = code-of outcome _ refused.outcome_is
+    (subst (λ (first : Result Kind Failure). IfErr first IsMild) refused.first_is
+    (place-mild keyed (map shown old) (altered.place_of (map shown old) name) name))
+
+print-few : {V : Type 0} (shown : V → Shown) (answers : Answering V) (line : ℕ)
+    (command : PrintCommand) (old new : List V) (outcome : Outcome)
+    → IsPrintedBy shown answers line command old new outcome → outcome.code ≤ 16
+print-few shown answers line command old new outcome came = elim came [
+  | inl refused ↦ refused-few shown (has_keys command.from command.to) command.source old new
+      outcome refused
+  | inr read ↦ by read.answer read.kind read.records read.outcome_is
+]
+  where
+    by : (answer : ReadBack) (kind : Kind) (records : List Visited)
+        → outcome ≡ print_outcome answer kind command records → outcome.code ≤ 16
+    by reads.Done kind records is = code-of outcome _ is (omega arith)
+    by (reads.Fault fault) kind records is = device-few fault outcome is
+
+verify-few : {V : Type 0} (shown : V → Shown) (answers : Answering V) (line : ℕ)
+    (name : List ℕ) (old new : List V) (outcome : Outcome)
+    → IsVerifiedBy shown answers line name old new outcome → outcome.code ≤ 16
+verify-few shown answers line name old new outcome came = elim came [
+  | inl refused ↦ refused-few shown false name old new outcome refused
+  | inr counted ↦ by counted.answer counted.outcome_is
+]
+  where
+    by : (answer : Counted) → outcome ≡ verify_outcome answer → outcome.code ≤ 16
+    by (numbers.Done count) is = code-of outcome _ is (omega arith)
+    by (numbers.Fault fault) is = device-few fault outcome is
+
 -- ---- commands
 
 abbrev IsFew : Going → Type 0
@@ -392,10 +467,12 @@ module _ {V : Type 0} (shown : V → Shown) (geometry : V → Geometry) (answers
       run.outcome run.deleted))
   command-few line (commands.Repro command) old new few run = few-as new.going _ run.going few
   command-few line (commands.BuildIndex command) old new few run = few-as new.going _ run.going few
-  command-few line (commands.Print command) old new few run = few-as new.going _ run.going few
+  command-few line (commands.Print command) old new few run = few-as new.going _ run.going (max-le
+      few (print-few shown answers line command old.volumes new.volumes run.outcome run.printed))
   command-few line (commands.ListCatalog command) old new few run =
       list-run-few command.all line command old new few run
-  command-few line (commands.Verify name) old new few run = few-as new.going _ run.going few
+  command-few line (commands.Verify name) old new few run = few-as new.going _ run.going (max-le
+      few (verify-few shown answers line name old.volumes new.volumes run.outcome run.verified))
   command-few line (commands.Examine name) old new few run = few-as new.going _ run.going few
   command-few line (commands.If condition) old new few run = few-as new.going _ run.going few
   command-few line (commands.Set setting) old new few run = few-as new.going _ run.going

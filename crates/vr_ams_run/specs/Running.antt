@@ -13,6 +13,7 @@ use Rattle.vr_amsparse.specs.declared.command.DefineCommand.{DefineCommand}
 use Rattle.vr_amsparse.specs.declared.command.DeleteCommand.{DeleteCommand}
 use Rattle.vr_amsparse.specs.declared.command.ListCommand.{ListCommand}
 use Rattle.vr_amsparse.specs.declared.command.Node.{Node}
+use Rattle.vr_amsparse.specs.declared.command.PrintCommand.{PrintCommand}
 use Rattle.vr_amsparse.specs.declared.command.Setting.{Setting}
 use Rattle.vr_amsparse.specs.declared.command.Within.{Within}
 use Rattle.vr_trace.specs.Commands.{command_lines}
@@ -26,6 +27,7 @@ use Rattle.vr_ams_define.specs.Answers.{Answering}
 use Rattle.vr_ams_define.specs.Deleted.{IsDeletedBy}
 use Rattle.vr_ams_define.specs.Outcomes.{IsDefined}
 use Rattle.vr_ams_define.specs.Runs.{is_plain_cluster}
+use Rattle.vr_ams_print.specs.Outcomes.{IsPrintedBy, IsVerifiedBy}
 use Rattle.vr_ams_run.specs.declared.going.Going.{Going}
 use Rattle.vr_ams_run.specs.ListedAll.{IsListedAll}
 use Rattle.vr_ams_run.specs.Codes.{no_codes, holds, with_code, set_by, ends}
@@ -37,9 +39,9 @@ is_run (commands.Alter order) = not (is_some order.new_name)
 is_run (commands.Delete command) = true
 is_run (commands.Repro command) = false
 is_run (commands.BuildIndex command) = false
-is_run (commands.Print command) = false
+is_run (commands.Print command) = true
 is_run (commands.ListCatalog command) = true
-is_run (commands.Verify name) = false
+is_run (commands.Verify name) = true
 is_run (commands.Examine name) = false
 is_run (commands.If condition) = true
 is_run (commands.Set setting) = true
@@ -189,6 +191,20 @@ pub record IsDeletedAs {V : Type 0} (shown : V → Shown) (answers : Answering V
       outcome
   pub going : new.going ≡ ended line (codes "DELETE") outcome old.going
 
+-- PRINT came to an outcome
+pub record IsPrintedAs {V : Type 0} (shown : V → Shown) (answers : Answering V) (line : ℕ)
+    (command : PrintCommand) (old new : Stage V) : Type 0 where
+  pub outcome : Outcome
+  pub printed : IsPrintedBy shown answers line command old.volumes new.volumes outcome
+  pub going : new.going ≡ ended line (codes "PRINT") outcome old.going
+
+-- VERIFY came to an outcome
+pub record IsVerifiedAs {V : Type 0} (shown : V → Shown) (answers : Answering V) (line : ℕ)
+    (name : List ℕ) (old new : Stage V) : Type 0 where
+  pub outcome : Outcome
+  pub verified : IsVerifiedBy shown answers line name old.volumes new.volumes outcome
+  pub going : new.going ≡ ended line (codes "VERIFY") outcome old.going
+
 -- a command that leaves the volumes as they were
 abbrev pub QuietRun : {V : Type 0} → (V → Shown) → ℕ → Command → Stage V → Stage V → Type 0
 QuietRun shown line command old new =
@@ -205,6 +221,10 @@ CommandRun shown geometry answers line (commands.Alter order) old new =
     AlterRun shown answers (not (is_some order.new_name)) line order old new
 CommandRun shown geometry answers line (commands.Delete command) old new =
     IsDeletedAs shown answers line command old new
+CommandRun shown geometry answers line (commands.Print command) old new =
+    IsPrintedAs shown answers line command old new
+CommandRun shown geometry answers line (commands.Verify name) old new =
+    IsVerifiedAs shown answers line name old new
 CommandRun shown geometry answers line command old new = QuietRun shown line command old new
 
 -- one command more, where it is reached

@@ -9,9 +9,11 @@ use crate::listed_all::list_all;
 use std::alloc::Global;
 use vr_ams_define::{OwnedVolume, alter_entry, define_cluster, delete_entries, is_plain_cluster};
 use vr_ams_list::list_entries;
-use vr_amsparse::{Command, DefineCommand, DeleteCommand, ListCommand, Node};
+use vr_ams_print::{print_records, verify_cluster};
+use vr_amsparse::{Command, DefineCommand, DeleteCommand, ListCommand, Node, PrintCommand};
 use vr_catalog::Alter;
 use vr_trace::{RunNo, StepReport};
+use vr_types::Name;
 
 /// Whether a command is run yet.
 pub fn is_run(command: &Command) -> bool
@@ -19,13 +21,10 @@ pub fn is_run(command: &Command) -> bool
 {
     match command {
         Command::Delete(_) | Command::ListCatalog(_) | Command::If(_) | Command::Set(_) => true,
+        Command::Print(_) | Command::Verify(_) => true,
         Command::Define(define) => is_plain_cluster(&define.order.what),
         Command::Alter(order) => order.new_name.is_none(),
-        Command::Repro(_)
-        | Command::BuildIndex(_)
-        | Command::Print(_)
-        | Command::Verify(_)
-        | Command::Examine(_) => false,
+        Command::Repro(_) | Command::BuildIndex(_) | Command::Examine(_) => false,
     }
 }
 
@@ -111,6 +110,40 @@ fn run_delete<V: OwnedVolume>(
     Ok(going.end(alloc, line, b"DELETE", &outcome)?)
 }
 
+/// PRINT.
+fn run_print<V: OwnedVolume>(
+    alloc: Global,
+    volumes: &mut [V],
+    line: u32,
+    command: &PrintCommand,
+    going: &mut Going,
+) -> Result<(), RunNo>
+    ensures ran { OnOk result (stated.IsPrintedAs V.shown V.answers line command.now
+        (record { volumes = volumes.old; going = going.old })
+        (record { volumes = volumes.new; going = going.new })) }
+    ensures grew { AreRunOn V.history V.goes (line ∷ []) volumes.old volumes.new }
+{
+    let outcome = print_records(alloc, volumes, line, command)?;
+    Ok(going.end(alloc, line, b"PRINT", &outcome)?)
+}
+
+/// VERIFY.
+fn run_verify<V: OwnedVolume>(
+    alloc: Global,
+    volumes: &mut [V],
+    line: u32,
+    name: &Name,
+    going: &mut Going,
+) -> Result<(), RunNo>
+    ensures ran { OnOk result (stated.IsVerifiedAs V.shown V.answers line name.now
+        (record { volumes = volumes.old; going = going.old })
+        (record { volumes = volumes.new; going = going.new })) }
+    ensures grew { AreRunOn V.history V.goes (line ∷ []) volumes.old volumes.new }
+{
+    let outcome = verify_cluster(alloc, volumes, line, name)?;
+    Ok(going.end(alloc, line, b"VERIFY", &outcome)?)
+}
+
 /// Runs a command that is reached.
 fn run_command<V: OwnedVolume>(
     alloc: Global,
@@ -131,11 +164,9 @@ fn run_command<V: OwnedVolume>(
         Command::ListCatalog(list) => run_list(alloc, volumes, line, list, going),
         Command::Alter(order) => run_alter(alloc, volumes, line, order, going),
         Command::Delete(delete) => run_delete(alloc, volumes, line, delete, going),
-        Command::Repro(_)
-        | Command::BuildIndex(_)
-        | Command::Print(_)
-        | Command::Verify(_)
-        | Command::Examine(_) => Ok(going.pass()?),
+        Command::Print(print) => run_print(alloc, volumes, line, print, going),
+        Command::Verify(name) => run_verify(alloc, volumes, line, name, going),
+        Command::Repro(_) | Command::BuildIndex(_) | Command::Examine(_) => Ok(going.pass()?),
     }
 }
 
@@ -178,10 +209,10 @@ fn run_all<V: OwnedVolume>(
 }
 
 /// Runs the commands of a step over the volumes, volume 0 first, in order, and gives the report of
-/// the step: DEFINE of a cluster, ALTER of FREESPACE and SHAREOPTIONS, DELETE, LISTCAT, IF and SET,
-/// after Access Method Services Commands. Each runs over the volumes as those before it left them.
-/// A command for which `is_run` is false does nothing. Where stamps or memory run out there is no
-/// report, and the volumes are as the commands so far left them.
+/// the step: DEFINE of a cluster, ALTER of FREESPACE and SHAREOPTIONS, DELETE, PRINT, LISTCAT,
+/// VERIFY, IF and SET, after Access Method Services Commands. Each runs over the volumes as those
+/// before it left them. A command for which `is_run` is false does nothing. Where stamps or memory
+/// run out there is no report, and the volumes are as the commands so far left them.
 pub fn run_commands<V: OwnedVolume>(
     alloc: Global,
     volumes: &mut [V],

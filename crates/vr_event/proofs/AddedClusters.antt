@@ -44,18 +44,18 @@ use Rattle.vr_event.specs.DefineSteps.{HasCome, HasComeHeld, MayAdd, MayDefineNo
 use Rattle.vr_event.specs.Defining.{IsNewCluster, entry_place, entry_with_area}
 use Rattle.vr_event.specs.Defining.{file_defined, file_in_doubt, with_cluster}
 use Rattle.vr_event.specs.NewCluster.{IsPreparedFor}
-use Rattle.vr_event.specs.Volume.{AreServedClusters, IsHeld, IsServedCluster, VolumeNow}
+use Rattle.vr_event.specs.Volume.{AreServedClusters, IsHeld, VolumeNow}
 use Rattle.vr_event.specs.declared.define.Define.{Define}
 use Rattle.vr_event.specs.declared.define.Define.TheVariants.{Done, Fault}
 use Rattle.vr_event.specs.declared.new_cluster.NewCluster.{NewCluster}
 use Rattle.vr_event.proofs.Areas.{owned-same}
 use Rattle.vr_event.proofs.CatalogPart.{catalog-place, catalog-record, held-faulted}
-use Rattle.vr_event.proofs.ClusterCatalogs.{all-with}
 use Rattle.vr_event.proofs.Definable.{defined-is, defining, doubt-is, ended-generation, held-after}
 use Rattle.vr_event.proofs.Definable.{left-defined, left-in-doubt, may-define}
 use Rattle.vr_event.proofs.DefineCome.{come-done, come-faulted, come-held, come-in-doubt}
 use Rattle.vr_event.proofs.DefineCome.{left-before}
-use Rattle.vr_event.proofs.DefineWhole.{can-start, not-there, part-shape, whole-after}
+use Rattle.vr_event.proofs.DefineWhole.{can-start, not-there, part-shape, served-with}
+use Rattle.vr_event.proofs.DefineWhole.{whole-after}
 use Rattle.vr_event.proofs.Makes.{need-before}
 use Rattle.vr_event.proofs.Prepared.{prepared-defined, prepared-doubt, prepared-key}
 use Rattle.vr_event.proofs.Prepared.{prepared-length, prepared-may, prepared-place}
@@ -142,8 +142,8 @@ module _ {B : Type 0} (seen : B → Seen) (after line : ℕ) (entry : CatEntry) 
     ap area_count (may.whole.geometry may.going),
   )
 
-  served-after : AreServedClusters (with_cluster one old.file.catalog)
-  served-after = all-with IsServedCluster one old.file.catalog is.cluster may.whole.served
+  served-after : AreServedClusters old.file.geometry (with_cluster one old.file.catalog)
+  served-after = served-with seen old may.whole may.going entry is new.area least
 
   pub added-come : (define : Define) (final : VolumeNow B)
       (store : StoreNow) (blocks : B) → define ≡ Done new.area

@@ -12,4 +12,7 @@ pub use Rattle.vr_event.proofs.UnitEnded.{unlaid}
 -- the areas that an opened volume owns are its own, each of one part
 pub use Rattle.vr_event.proofs.OpenedAreas.{opened-owned}
 -- a cluster that is to be defined, with an area of the volume, is one that a catalog may have
-pub use Rattle.vr_event.proofs.NewClusters.{area-entry, area-small}
+-- and of which a part may be written
+pub use Rattle.vr_event.proofs.NewClusters.{area-entry, area-small, area-startable}
+-- what reading a cluster through handed over is what it has, whichever the state it is held from
+pub use Rattle.vr_event.proofs.HandedOver.{has-read}

@@ -20,6 +20,7 @@ use Rattle.vr_record_file.specs.Now.{FileNow, IsStateOf, entry_next, faulted, st
 use Rattle.vr_store.specs.Store.{PartNow, part_among, shape_among}
 use Rattle.vr_event.specs.Volume.{AreServedClusters, IsFileHeld, IsHeld, IsWhole, VolumeNow}
 use Rattle.vr_event.proofs.Areas.{owned-same}
+use Rattle.vr_event.proofs.Served.{served_same}
 use Rattle.vr_event.proofs.Wholes.{whole-stopped}
 
 module _ (parts : List PartNow) (geometry : Geometry)
@@ -78,9 +79,11 @@ held-faulted seen opening volume to after unit line leaves known file =
 
 pub whole-faulted : {B : Type 0} (seen : B → Seen) (volume : VolumeNow B) (to : FileNow)
     (after : ℕ) (unit : UnitOfRecovery) (line : ℕ)
-    → to ≡ faulted after unit line volume.file → AreServedClusters volume.file.catalog
+    → to ≡ faulted after unit line volume.file
+    → AreServedClusters volume.file.geometry volume.file.catalog
     → IsWhole seen (record volume { file = to })
 whole-faulted seen volume to after unit line leaves served =
     whole-stopped seen (record volume { file = to })
-    (subst AreServedClusters (sym (ap (λ (f : FileNow). f.catalog) leaves)) served)
+    (served_same volume.file.geometry to.geometry volume.file.catalog to.catalog
+    (ap (λ (f : FileNow). f.geometry) leaves) (ap (λ (f : FileNow). f.catalog) leaves) served)
     (λ going. none-some _ (sym going ∙ ap (λ (f : FileNow). f.stopped) leaves))

@@ -26,13 +26,13 @@ use Rattle.vr_history.specs.declared.entry.What.{What}
 use Rattle.vr_record_file.specs.Now.{FileNow, entry_next, failed, with_event}
 use Rattle.vr_store.specs.LastImage.{OnLast, last_of_unit, stage_told}
 use Rattle.vr_store.specs.Left.{left_for}
-use Rattle.vr_store.specs.Parts.{HasMoreAt, OnlyMet, OthersStay, but_met, but_split}
+use Rattle.vr_store.specs.Parts.{HasMoreAt, OnlyMet, OnlySplit, but_met, but_split}
 use Rattle.vr_store.specs.Store.{IsRestedPart, IsStored, PartNow, StoreNow, part_among}
 use Rattle.vr_store.proofs.CallerLemmas.{among-all, shapes-same, used-met, waits-met}
 use Rattle.vr_event.specs.Acting.{IsActed}
 use Rattle.vr_event.specs.Made.{HasAsked}
-use Rattle.vr_event.specs.Nearer.{CountsSplits, EntersSplits, IsNearer, MeetsOnly, intervals_by}
-use Rattle.vr_event.specs.Nearer.{splits_it, splits_of}
+use Rattle.vr_event.specs.Nearer.{CountsSplits, EntersSplits, HasKeyed, IsNearer}
+use Rattle.vr_event.specs.Nearer.{MeetsOnly, intervals_by, splits_it, splits_of}
 use Rattle.vr_event.specs.Staging.{IsTakenBy, stage_entered}
 use Rattle.vr_event.specs.Volume.{VolumeNow}
 use Rattle.vr_event.specs.declared.act.Act.{Act}
@@ -182,8 +182,11 @@ failed-stops after unit line request old new leaves going =
 pub splits-none : {B : Type 0} (old new : VolumeNow B)
     → (new.file.stopped ≡ None → KeepsUsed old.store new.store)
     → EntersNone old.file.entries new.file.entries → EntersSplits old new
-splits-none old new keeps none going number before after found there used is =
-    omega (arith, keeps going number before after found there used is, none number)
+splits-none old new keeps none going = record {
+  counts = λ number before after found there used is.
+      omega (arith, keeps going number before after found there used is, none number);
+  keyed = λ number more. absurd (omega (arith, more, none number));
+}
 
 -- of one that is answered,
 pub splits-answered : {B : Type 0} (old new : VolumeNow B) (before now : Faults) (after : ℕ)
@@ -247,10 +250,12 @@ at-last P store unit part = of (last_of_unit store unit)
 pub counts-stage : (part : PartNo) (kind : StageKind) (old new : StoreNow) (file to : FileNow)
     (after : ℕ) (unit : UnitOfRecovery) (line : ℕ) (split : Bool) (taken : Option AreaNo)
     (free now : ℕ) → to ≡ stage_entered after unit line part split taken file
-    → OthersStay part.0 old.parts new.parts
+    → OnlySplit part.0 old.parts new.parts
     → HasMoreAt part.0 kind old.parts new.parts free now
-    → added_by kind ≡ split_entered split taken
+    → added_by kind ≡ split_entered split taken → HasKeyed old.parts part.0
     → CountsSplits old new file.entries to.entries
-counts-stage part kind old new file to after unit line split taken free now leaves others more adds =
+counts-stage part kind old new file to after unit line split taken free now leaves only more adds
+    keyed =
     counts-at part kind old new file to.entries after unit line split taken free now
-    (ap (λ (f : FileNow). f.entries) leaves) others more (λ before found used counted. adds)
+    (ap (λ (f : FileNow). f.entries) leaves) only more (λ before found used counted. adds)
+    (λ some. keyed)

@@ -72,6 +72,7 @@ use Rattle.vr_event.proofs.Makes.{need-before}
 use Rattle.vr_event.proofs.NewClusters.{HasNewShape, area-entry, area-rules, area-shape}
 use Rattle.vr_event.proofs.NewClusters.{area-small, area-startable, new-shape, part-some}
 use Rattle.vr_event.proofs.NewClusters.{same-self, unlaid-part}
+use Rattle.vr_event.proofs.Served.{served_are}
 use Rattle.vr_event.proofs.Staged.{part-laid}
 use Rattle.vr_event.proofs.UnitEnded.{unlaid}
 
@@ -219,7 +220,8 @@ module _ {B : Type 0} (seen : B → Seen) (opening : State) (volume : VolumeNow 
   }
 
   clusters-after : AreClusters (with_cluster new volume.file.catalog)
-  clusters-after = all-with IsCluster new volume.file.catalog is.cluster whole.served
+  clusters-after = all-with IsCluster new volume.file.catalog is.cluster
+      (served_are volume.file.geometry volume.file.catalog whole.served)
 
   -- the part is laid then
   pub shape-after : shape_in geometry (with_cluster new volume.file.catalog) entry.part.0

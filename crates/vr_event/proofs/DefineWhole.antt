@@ -1,6 +1,6 @@
 -- A volume of which a cluster may be defined, whether or not its device reports its contents: what
 -- the store asks for; and the volume is whole once it has done it.
-use Rattle.std.proofs.Common.{◌≡◌, ◌∙◌, ◌<◌, ◌==◌, ℕ, Bool, cond, List}
+use Rattle.std.proofs.Common.{◌≡◌, ◌∙◌, ◌+◌, ◌<◌, ◌≤◌, ◌==◌, ℕ, Bool, cond, List}
 use Rattle.std.proofs.Common.{Option, Some, None, sym, ap, subst}
 use Rattle.std.specs.Prelude.{is_none}
 use Rattle.std.proofs.lemmas.List.Quantifiers.{position-Some}
@@ -24,6 +24,7 @@ use Rattle.vr_event.proofs.MetParts.{none-shape}
 use Rattle.vr_event.proofs.NewClusters.{area-shape, area-small, area-startable, part-some}
 use Rattle.vr_event.proofs.NewClusters.{same-self}
 use Rattle.vr_event.proofs.NewClusters.{unlaid-part}
+use Rattle.vr_event.proofs.Served.{served_same}
 
 module _ {B : Type 0} (seen : B → Seen) (volume : VolumeNow B) (whole : IsWhole seen volume)
     (going : volume.file.stopped ≡ None) (entry : CatEntry)
@@ -67,6 +68,15 @@ module _ {B : Type 0} (seen : B → Seen) (volume : VolumeNow B) (whole : IsWhol
   can-start = area-startable geometry volume.file.catalog entry cluster area set.allowed
       (area-small geometry area.0 set.allowed below)
 
+  -- the entries with its own are served
+  pub served-with : AreServedClusters volume.file.geometry (with_cluster new volume.file.catalog)
+  served-with = all-with (IsServedCluster volume.file.geometry) new volume.file.catalog
+      (record {
+        cluster = is.cluster;
+        plain = subst (λ (g : Geometry). new.maximum + 7 ≤ g.size) (whole.geometry going)
+            can-start.fits;
+      }) whole.served
+
   module _ (file : FileNow) (to : StoreNow) (blocks : B)
       (shape : file.geometry ≡ volume.file.geometry)
       (catalog : file.catalog ≡ with_cluster new volume.file.catalog)
@@ -102,8 +112,8 @@ module _ {B : Type 0} (seen : B → Seen) (volume : VolumeNow B) (whole : IsWhol
       pub whole-after : IsSet to (seen blocks)
           → IsWhole seen (record volume { blocks = blocks; store = to; file = file })
       whole-after after = record {
-        served = subst AreServedClusters (sym catalog)
-            (all-with IsServedCluster new volume.file.catalog is.cluster whole.served);
+        served = served_same volume.file.geometry file.geometry
+            (with_cluster new volume.file.catalog) file.catalog shape catalog served-with;
         geometry = λ on. log ∙ whole.geometry going ∙ sym shape;
         laid = λ on part. laid-after part;
         set = λ on. after;

@@ -39,6 +39,7 @@ use Rattle.vr_event.specs.declared.entry_change.EntryChange.TheVariants.{Held, L
 use Rattle.vr_event.proofs.EntryChangeLists.{shapes-changed}
 use Rattle.vr_event.proofs.NewClusters.{part-some, same-self}
 use Rattle.vr_event.proofs.Recovers.{recovers-keeps}
+use Rattle.vr_event.proofs.Served.{served_same}
 use Rattle.vr_event.proofs.Stepped.{held-at}
 use Rattle.vr_event.proofs.Wholes.{whole-stopped}
 
@@ -214,7 +215,7 @@ module _ {B : Type 0} (seen : B → Seen) (after : ℕ) (unit : UnitOfRecovery) 
 
   come-failed : (change : EntryChange) (old final : VolumeNow B) → change ≡ Fault Write
       → EnteredChange (Fault Write) old.number after unit line entry to old.file final.file
-      → final.number ≡ old.number → AreServedClusters final.file.catalog
+      → final.number ≡ old.number → AreServedClusters final.file.geometry final.file.catalog
       → (final.file.stopped ≡ None → ⊥)
       → HasChangeCome seen after unit line entry to (Ok change) old final
   come-failed change old final fault entered number served stopped =
@@ -227,11 +228,12 @@ module _ {B : Type 0} (seen : B → Seen) (after : ℕ) (unit : UnitOfRecovery) 
   -- nothing of the change was done
   pub come-faulted : (change : EntryChange) (old final : VolumeNow B) → change ≡ Fault Write
       → final.file ≡ faulted after unit line old.file → final.number ≡ old.number
-      → AreServedClusters old.file.catalog
+      → AreServedClusters old.file.geometry old.file.catalog
       → HasChangeCome seen after unit line entry to (Ok change) old final
   come-faulted change old final fault file number served = come-failed change old final fault
       (inl file) number
-      (subst AreServedClusters (sym (ap (λ (f : FileNow). f.catalog) file)) served)
+      (served_same old.file.geometry final.file.geometry _ final.file.catalog
+      (ap (λ (f : FileNow). f.geometry) file) (ap (λ (f : FileNow). f.catalog) file) served)
       (λ going. none-some _ (sym going ∙ ap (λ (f : FileNow). f.stopped) file))
 
   pub come-unwritten : (old mid final : VolumeNow B) → mid.file ≡ old.file
@@ -246,11 +248,12 @@ module _ {B : Type 0} (seen : B → Seen) (after : ℕ) (unit : UnitOfRecovery) 
   pub come-in-doubt : (change : EntryChange) (old final : VolumeNow B) → change ≡ Fault Write
       → final.file ≡ file_change_in_doubt old.number after unit line entry to old.file
       → final.number ≡ old.number
-      → AreServedClusters (catalog_changed entry to old.file.catalog)
+      → AreServedClusters old.file.geometry (catalog_changed entry to old.file.catalog)
       → HasChangeCome seen after unit line entry to (Ok change) old final
   come-in-doubt change old final fault file number served = come-failed change old final fault
       (inr file) number
-      (subst AreServedClusters (sym (ap (λ (f : FileNow). f.catalog) file)) served)
+      (served_same old.file.geometry final.file.geometry _ final.file.catalog
+      (ap (λ (f : FileNow). f.geometry) file) (ap (λ (f : FileNow). f.catalog) file) served)
       (λ going. none-some _ (sym going ∙ ap (λ (f : FileNow). f.stopped) file))
 
   -- ---- with a change

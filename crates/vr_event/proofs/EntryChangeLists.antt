@@ -18,6 +18,7 @@ use Rattle.vr_volume.specs.EntryChange.{is_gone}
 use Rattle.vr_store.specs.EntryChange.{number_gone}
 use Rattle.vr_event.specs.EntryChange.{altered_by, catalog_changed, is_of_part, part_gone}
 use Rattle.vr_event.specs.EntryChange.{with_altered, without_entry}
+use Rattle.vr_event.specs.Volume.{AreServedClusters, IsServedCluster}
 
 -- ---- the parts
 
@@ -198,6 +199,26 @@ pub clusters-changed : (entry : CatEntry) (to : Option CatEntry) (entries : List
 clusters-changed entry None entries all = all-without IsOne entry entries all
 clusters-changed entry (Some new) entries all =
     all-altered IsOne new (λ other is. altered-kind new other ∙ is) entries all
+
+-- and those that are served are so still
+altered-served : (geometry : Geometry) (new other : CatEntry) → IsServedCluster geometry other
+    → IsServedCluster geometry (altered_by new other)
+altered-served geometry new other is = by-test (is_of_part new other)
+  where
+    by-test : (b : Bool) → IsServedCluster geometry (cond b (record other {
+      free_space = new.free_space;
+      share_options = new.share_options;
+    }) other)
+    by-test true = record { cluster = is.cluster; plain = is.plain }
+    by-test false = is
+
+pub served-changed : (geometry : Geometry) (entry : CatEntry) (to : Option CatEntry)
+    (entries : List CatEntry) → AreServedClusters geometry entries
+    → AreServedClusters geometry (catalog_changed entry to entries)
+served-changed geometry entry None entries all =
+    all-without (IsServedCluster geometry) entry entries all
+served-changed geometry entry (Some new) entries all =
+    all-altered (IsServedCluster geometry) new (altered-served geometry new) entries all
 
 -- and each keeps the rules
 altered-rules : (geometry : Geometry) (others : List CatEntry) (new other : CatEntry)

@@ -51,7 +51,7 @@ use Rattle.vr_event.proofs.CatalogPart.{catalog-place, catalog-record}
 use Rattle.vr_event.proofs.Definable.{ended-generation}
 use Rattle.vr_event.proofs.EntryChangeCome.{come-done, come-held, come-in-doubt, left-before}
 use Rattle.vr_event.proofs.EntryChangeContents.{new-place}
-use Rattle.vr_event.proofs.EntryChangeLists.{clusters-changed}
+use Rattle.vr_event.proofs.EntryChangeLists.{served-changed}
 use Rattle.vr_event.proofs.EntryChangePrepared.{prepared-before, prepared-changed}
 use Rattle.vr_event.proofs.EntryChangePrepared.{prepared-doubt, prepared-key, prepared-length}
 use Rattle.vr_event.proofs.EntryChangePrepared.{prepared-may, prepared-place, prepared-stored}
@@ -154,8 +154,8 @@ module _ {B : Type 0} (seen : B → Seen) (after line : ℕ) (entry : CatEntry)
 
   -- ---- what it comes to
 
-  served-after : AreServedClusters (catalog_changed entry to old.file.catalog)
-  served-after = clusters-changed entry to old.file.catalog may.whole.served
+  served-after : AreServedClusters old.file.geometry (catalog_changed entry to old.file.catalog)
+  served-after = served-changed old.file.geometry entry to old.file.catalog may.whole.served
 
   pub made-come : (change : EntryChange) (final : VolumeNow B) (store : StoreNow) (blocks : B)
       (before : List ℕ) → change ≡ Done

@@ -54,7 +54,7 @@ use Rattle.vr_event.specs.Defining.{catalog_file, entry_place, utility_unit}
 use Rattle.vr_event.specs.EntryChange.{IsAltered, IsEntryThere, IsLeftChanging, catalog_changed}
 use Rattle.vr_event.specs.EntryChange.{entry_get, entry_request, file_change_in_doubt}
 use Rattle.vr_event.specs.EntryChange.{file_changed, part_gone}
-use Rattle.vr_event.specs.Volume.{AreServedClusters, IsHeld, IsWhole, VolumeNow}
+use Rattle.vr_event.specs.Volume.{IsHeld, IsWhole, VolumeNow}
 use Rattle.vr_event.proofs.Areas.{owned-same, unlaid-same}
 use Rattle.vr_event.proofs.ClusterItems.{items-named}
 use Rattle.vr_event.proofs.ClusterRecords.{IsNamed, place-length}
@@ -62,8 +62,9 @@ use Rattle.vr_event.proofs.EntryChangeAreas.{free-of, has-without, length-after,
 use Rattle.vr_event.proofs.EntryChangeAreas.{unlaid-after}
 use Rattle.vr_event.proofs.EntryChangeContents.{catalog-kept, entries-changed, entry-stands}
 use Rattle.vr_event.proofs.EntryChangeContents.{content_changed, new-place}
-use Rattle.vr_event.proofs.EntryChangeLists.{clusters-changed, shapes-changed}
+use Rattle.vr_event.proofs.EntryChangeLists.{clusters-changed, served-changed, shapes-changed}
 use Rattle.vr_event.proofs.NewClusters.{part-some}
+use Rattle.vr_event.proofs.Served.{served_are, served_same}
 use Rattle.vr_event.proofs.UnitEnded.{unlaid}
 
 -- ---- of a log without records
@@ -184,7 +185,8 @@ module _ {B : Type 0} (seen : B → Seen) (opening : State) (volume : VolumeNow 
   }
 
   clusters-after : AreClusters (catalog_changed entry to volume.file.catalog)
-  clusters-after = clusters-changed entry to volume.file.catalog whole.served
+  clusters-after = clusters-changed entry to volume.file.catalog
+      (served_are volume.file.geometry volume.file.catalog whole.served)
 
   valid : IfSome bytes (λ (b : List ℕ). is_valid_record catalog_definition b ≡ true)
   valid = of to
@@ -353,6 +355,9 @@ module _ {B : Type 0} (seen : B → Seen) (opening : State) (volume : VolumeNow 
   abbrev areas-after : List (Option PartNo)
   areas-after = areas_left gone store.space
 
+  clusters : AreClusters volume.file.catalog
+  clusters = served_are volume.file.geometry volume.file.catalog whole.served
+
   abbrev owned-left : List Owned
   owned-left = filter (λ (one : Owned). has_part (parts_laid catalog) one.part) state.owned
 
@@ -363,14 +368,14 @@ module _ {B : Type 0} (seen : B → Seen) (opening : State) (volume : VolumeNow 
       → (file.stopped ≡ None → IsStored volume.number final (state_now opening file) (seen blocks))
       → IsHeld seen opening (record volume { blocks = blocks; store = final; file = file })
   held-after file final blocks shape same space owned of kept =
-      let permuted = owned-after entry to some volume.file.catalog whole.served store.space
+      let permuted = owned-after entry to some volume.file.catalog clusters store.space
       state.owned held.owned (held.file.now.owned going) in
       record {
         file = of;
         free = ap free_count space ∙ free-of areas-after owned-left permuted
             ∙ omega (
               arith,
-              length-after entry to some volume.file.catalog whole.served store.space,
+              length-after entry to some volume.file.catalog clusters store.space,
               set.areas,
               ap area_count (whole.geometry going),
               ap area_count shape,
@@ -380,7 +385,7 @@ module _ {B : Type 0} (seen : B → Seen) (opening : State) (volume : VolumeNow 
             owned permuted;
         unlaid = λ on. unlaid-same volume.file.geometry file.geometry catalog file.catalog
             areas-after final.space shape same space
-            (unlaid-after entry to some volume.file.catalog whole.served volume.file.geometry
+            (unlaid-after entry to some volume.file.catalog clusters volume.file.geometry
             store.space (held.unlaid going));
         stored = kept;
       }
@@ -397,8 +402,9 @@ module _ {B : Type 0} (seen : B → Seen) (volume : VolumeNow B) (whole : IsWhol
   pub whole-changed : IsSet final (seen blocks)
       → IsWhole seen (record volume { blocks = blocks; store = final; file = file })
   whole-changed after = record {
-    served = subst AreServedClusters (sym same)
-        (clusters-changed entry to volume.file.catalog whole.served);
+    served = served_same volume.file.geometry file.geometry
+        (catalog_changed entry to volume.file.catalog) file.catalog shape same
+        (served-changed volume.file.geometry entry to volume.file.catalog whole.served);
     geometry = λ on. log ∙ whole.geometry going ∙ sym shape;
     laid = λ on part. shapes part
         ∙ ap (λ (o : Option Shape).

@@ -25,6 +25,9 @@ pub mod Replied
 pub mod MetParts
 pub mod RecordShapes
 pub mod RecordWalk
+pub mod RecordLists
+pub mod HandedRecords
+pub mod UnfitPlaces
 pub mod WeighsAt
 pub mod PartKinds
 pub mod SpaceHeld
@@ -50,6 +53,7 @@ pub mod ActedLater
 pub mod Opened
 pub mod Acted
 pub mod CountedSplits
+pub mod DueSplits
 pub mod AllowedLengths
 pub mod CallerLemmas
 pub mod OpenedAreas
@@ -78,3 +82,5 @@ pub mod EntryChangePrepared
 pub mod EntryChangeMade
 pub mod EntryChangeStage
 pub mod EntryChangeAsked
+pub mod OneContent
+pub mod HandedOver

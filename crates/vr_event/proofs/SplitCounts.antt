@@ -2,7 +2,7 @@
 use Rattle.std.proofs.Common.{◌≡◌, ◌≢◌, ◌∙◌, ◌+◌, ◌==◌, ℕ, Bool, true, false, cond, List, []}
 use Rattle.std.proofs.Common.{◌∷◌, ◌++◌, Option, Some, None, IsTrue, refl, sym, ap, subst, arith}
 use Rattle.std.proofs.Common.{filter, length, map, inl, inr}
-use Rattle.std.specs.Prelude.{IfSome}
+use Rattle.std.specs.Prelude.{IfSome, IsSomeAnd, ◌<◌}
 use Rattle.std.specs.Option.{option_map}
 use Rattle.std.proofs.lemmas.Bool.{true≢false}
 use Rattle.std.proofs.lemmas.Bool.Decides.{Decides-eqb}
@@ -23,10 +23,11 @@ use Rattle.vr_history.specs.declared.entry.What.TheVariants.{Claimed, Split}
 use Rattle.vr_record_file.specs.Now.{FileNow, entry_next}
 use Rattle.vr_store.specs.Parts.{HasMoreAt, OnlyMet, OnlySplit, OthersStay, but_met}
 use Rattle.vr_store.specs.Store.{PartNow, StoreNow, part_among, shape_among}
-use Rattle.vr_store.proofs.CallerLemmas.{has-claimed, used-met, used-more}
-use Rattle.vr_event.specs.Nearer.{CountsSplits, intervals_by, splits_it, splits_of}
+use Rattle.vr_store.proofs.CallerLemmas.{has-claimed, shapes-same, used-met, used-more}
+use Rattle.vr_event.specs.Nearer.{CountsSplits, HasKeyed, IsKeyed, intervals_by, splits_it}
+use Rattle.vr_event.specs.Nearer.{splits_of}
 use Rattle.vr_event.specs.Staging.{IsTakenBy, stage_entered}
-use Rattle.vr_event.proofs.MetParts.{met-shapes}
+use Rattle.vr_event.proofs.MetParts.{met-shapes, none-shape}
 
 -- ---- entries
 
@@ -95,11 +96,14 @@ pub counts-met : (number : ℕ) (old new : StoreNow) (entries later : List Entry
     → OnlyMet number old.parts new.parts
     → ((part : ℕ) → splits_of part later ≡ splits_of part entries)
     → CountsSplits old new entries later
-counts-met number old new entries later only same n before after found there used is =
-    let kept : after.known.used ≡ before.known.used =
-    (used-met number old.parts new.parts only n before after found there).1 in
-    let was : before.known.used ≡ used = intervals-is before.shape before.known.used used is in
-    omega (arith, kept, was, same n)
+counts-met number old new entries later only same = record {
+  counts = λ n before after found there used is.
+      let kept : after.known.used ≡ before.known.used =
+      (used-met number old.parts new.parts only n before after found there).1 in
+      let was : before.known.used ≡ used = intervals-is before.shape before.known.used used is in
+      omega (arith, kept, was, same n);
+  keyed = λ n more. absurd (omega (arith, more, same n));
+}
 
 -- nothing is new
 pub counts-same : (old new : StoreNow) (entries : List Entry) → new.parts ≡ old.parts
@@ -122,15 +126,26 @@ part-still number old new only n before found none =
 pub counts-after : (number : ℕ) (old mid new : StoreNow) (entries later : List Entry)
     → OnlyMet number old.parts mid.parts → CountsSplits mid new entries later
     → CountsSplits old new entries later
-counts-after number old mid new entries later only next n before after found there used is =
-    of (part_among mid.parts n) refl
+counts-after number old mid new entries later only next = record {
+  counts = λ n before after found there used is.
+      of n before after found there used is (part_among mid.parts n) refl;
+  keyed = λ n more. let both = next.keyed n more in (
+    subst (λ (one : Option Shape). IsSomeAnd one IsKeyed)
+        (met-shapes number old.parts mid.parts only n) both.0,
+    both.1,
+  );
+}
   where
-    of : (middle : Option PartNow) → part_among mid.parts n ≡ middle
+    of : (n : ℕ) (before after : PartNow) → part_among old.parts n ≡ Some before
+        → part_among new.parts n ≡ Some after → (used : ℕ)
+        → intervals_by before.shape before.known.used ≡ Some used
+        → (middle : Option PartNow) → part_among mid.parts n ≡ middle
         → after.known.used + splits_of n entries ≡ used + splits_of n later
-    of None none = absurd (part-still number old.parts mid.parts only n before found none)
-    of (Some middle) at =
+    of n before after found there used is None none =
+        absurd (part-still number old.parts mid.parts only n before found none)
+    of n before after found there used is (Some middle) at =
         let same = used-met number old.parts mid.parts only n before middle found at in
-        next n middle after at there used
+        next.counts n middle after at there used
         (ap (λ (shape : Shape). intervals_by shape middle.known.used) same.0
         ∙ ap (intervals_by before.shape) same.1 ∙ is)
 
@@ -186,8 +201,8 @@ module _ (part : PartNo) (old new : List (Option PartNo)) where
       by_split false same = other kind stage (other-kind same)
           ∙ sym (ap (λ (b : Bool). split_entered b taken) same ∙ not-split taken)
 
--- A stage enters the splits that it does: as many as it adds, where its part is keyed.
-pub counts-at : (part : PartNo) (kind : StageKind) (old new : StoreNow) (file : FileNow)
+-- A stage enters the splits that it does: as many as it adds, where its part is keyed,
+counted-at : (part : PartNo) (kind : StageKind) (old new : StoreNow) (file : FileNow)
     (entries : List Entry) (after : ℕ) (unit : UnitOfRecovery) (line : ℕ) (split : Bool)
     (taken : Option AreaNo) (free now : ℕ)
     → entries ≡ (stage_entered after unit line part split taken file).entries
@@ -196,8 +211,11 @@ pub counts-at : (part : PartNo) (kind : StageKind) (old new : StoreNow) (file : 
     → ((before : PartNow) → part_among old.parts part.0 ≡ Some before → (used : ℕ)
     → intervals_by before.shape before.known.used ≡ Some used
     → added_by kind ≡ split_entered split taken)
-    → CountsSplits old new file.entries entries
-counts-at part kind old new file entries after unit line split taken free now leaves others more
+    → (n : ℕ) (before then : PartNow) → part_among old.parts n ≡ Some before
+    → part_among new.parts n ≡ Some then → (used : ℕ)
+    → intervals_by before.shape before.known.used ≡ Some used
+    → then.known.used + splits_of n file.entries ≡ used + splits_of n entries
+counted-at part kind old new file entries after unit line split taken free now leaves others more
     adds n before then found there used counted =
     by_part (part.0 == n) refl
   where
@@ -232,25 +250,93 @@ counts-at part kind old new file entries after unit line split taken free now le
         splits_of n file.entries + cond b (split_entered split taken) 0) apart in
         omega (arith, ap (λ (one : PartNow). one.known.used) kept, none, was)
 
+-- and of that part alone.
+entered-at : (part : PartNo) (file : FileNow) (entries : List Entry) (after : ℕ)
+    (unit : UnitOfRecovery) (line : ℕ) (split : Bool) (taken : Option AreaNo) (P : ℕ → Type 0)
+    → entries ≡ (stage_entered after unit line part split taken file).entries
+    → (0 < split_entered split taken → P part.0)
+    → (n : ℕ) → splits_of n file.entries < splits_of n entries → P n
+entered-at part file entries after unit line split taken P leaves is n more =
+    by_part (part.0 == n) refl
+  where
+    entered : splits_of n entries
+        ≡ splits_of n file.entries + cond (part.0 == n) (split_entered split taken) 0
+    entered = ap (splits_of n) leaves
+        ∙ staged-splits n after unit line part split taken file
+
+    by_part : (b : Bool) → (part.0 == n) ≡ b → P n
+    by_part true same =
+        let one : splits_of n entries ≡ splits_of n file.entries + split_entered split taken =
+        entered ∙ ap (λ (b : Bool).
+        splits_of n file.entries + cond b (split_entered split taken) 0) same in
+        subst P ((Decides-eqb part.0 n).0 same) (is (omega (arith, one, more)))
+    by_part false apart =
+        let none : splits_of n entries ≡ splits_of n file.entries + 0 =
+        entered ∙ ap (λ (b : Bool).
+        splits_of n file.entries + cond b (split_entered split taken) 0) apart in
+        absurd (omega (arith, none, more))
+
+pub counts-at : (part : PartNo) (kind : StageKind) (old new : StoreNow) (file : FileNow)
+    (entries : List Entry) (after : ℕ) (unit : UnitOfRecovery) (line : ℕ) (split : Bool)
+    (taken : Option AreaNo) (free now : ℕ)
+    → entries ≡ (stage_entered after unit line part split taken file).entries
+    → OnlySplit part.0 old.parts new.parts
+    → HasMoreAt part.0 kind old.parts new.parts free now
+    → ((before : PartNow) → part_among old.parts part.0 ≡ Some before → (used : ℕ)
+    → intervals_by before.shape before.known.used ≡ Some used
+    → added_by kind ≡ split_entered split taken)
+    → (0 < split_entered split taken → HasKeyed old.parts part.0)
+    → CountsSplits old new file.entries entries
+counts-at part kind old new file entries after unit line split taken free now leaves only more
+    adds keys = record {
+      counts = counted-at part kind old new file entries after unit line split taken free now leaves
+          only.others more adds;
+      keyed = λ n split-there.
+          let was : HasKeyed old.parts n = entered-at part file entries after unit line split taken
+          (HasKeyed old.parts) leaves keys n split-there in (
+            was,
+            subst (λ (one : Option Shape). IsSomeAnd one IsKeyed)
+                (sym (shapes-same new.parts old.parts only.parts n)) was,
+          );
+    }
+
+-- the stage that splits an interval is none of a numbered part
+switch-keyed : (found : Option Shape) (kind : StageKind) → found ≢ None
+    → IfSome found (λ (shape : Shape). IsStageOf shape kind) → kind ≡ stages.CiSwitch
+    → IsSomeAnd found IsKeyed
+switch-keyed None kind there stage is = absurd (there refl)
+switch-keyed (Some (KeyedShape part)) kind there stage is = tt
+switch-keyed (Some (NumberedShape part)) kind there stage is =
+    let both : stages.Extend ≡ stages.CiSwitch = sym stage ∙ is in absurd cc
+
 -- It is one of the stages of a keyed part.
 pub counts-staged : (part : PartNo) (kind : StageKind) (old new : StoreNow) (file : FileNow)
     (entries : List Entry) (after : ℕ) (unit : UnitOfRecovery) (line : ℕ) (split : Bool)
     (taken : Option AreaNo)
     → HasMoreAt part.0 kind old.parts new.parts (free_count old.space) (free_count new.space)
     → OnlySplit part.0 old.parts new.parts
+    → part_among old.parts part.0 ≢ None
     → IfSome (shape_among old.parts part.0) (λ (shape : Shape). IsStageOf shape kind)
     → OwnersAfter part kind old.space new.space → IsTakenBy part old.space new.space taken
     → (IsTrue split → kind ≡ stages.CiSwitch) → (split ≡ false → kind ≢ stages.CiSwitch)
     → entries ≡ (stage_entered after unit line part split taken file).entries
     → CountsSplits old new file.entries entries
-counts-staged part kind old new file entries after unit line split taken more only stage owners is
-    splits other-kind leaves =
+counts-staged part kind old new file entries after unit line split taken more only laid stage
+    owners is splits other-kind leaves =
     counts-at part kind old new file entries after unit line split taken (free_count old.space)
-    (free_count new.space) leaves only.others more
+    (free_count new.space) leaves only more
     (λ before found used counted. by-shape before.shape before.known.used used counted
     (subst (λ (one : Option PartNow). IfSome (option_map (λ (it : PartNow). it.shape) one)
     (λ (shape : Shape). IsStageOf shape kind)) found stage))
+    (keys split taken splits)
   where
+    keys : (split : Bool) (taken : Option AreaNo) → (IsTrue split → kind ≡ stages.CiSwitch)
+        → 0 < split_entered split taken → HasKeyed old.parts part.0
+    keys split (Some area) switch more = absurd (omega (arith, more))
+    keys false None switch more = absurd (omega (arith, more))
+    keys true None switch more = switch-keyed (shape_among old.parts part.0) kind
+        (λ none. laid (none-shape (part_among old.parts part.0) none)) stage (switch refl)
+
     by-shape : (shape : Shape) (count used : ℕ) → intervals_by shape count ≡ Some used
         → IsStageOf shape kind → added_by kind ≡ split_entered split taken
     by-shape (KeyedShape keyed) count used is-keyed of = added-entered part old.space new.space

@@ -1,5 +1,6 @@
 -- What a step of the utilities leaves each unit to wait for, and the splits that it enters.
 use Rattle.std.proofs.Common.{◌≡◌, ◌<◌, ◌∙◌, ◌+◌, ◌∷◌, ℕ, Bool, true, false, cond, List, [], Option}
+use Rattle.std.proofs.Common.{arith}
 use Rattle.std.proofs.Common.{Some, None, ◌⊎◌, ⊎_elim, refl, sym, ap, subst}
 use Rattle.std.specs.Prelude.{Err, Ok, Result, find}
 use Rattle.std.specs.Option.{option_or}
@@ -113,34 +114,43 @@ pub counts-defined : (geometry : Geometry) (part : PartNo) (area : AreaNo)
     (definition : Definition) (old new : StoreNow) (entries later : List Entry)
     → HasNewPart geometry part area definition old.parts new.parts
     → ((n : ℕ) → splits_of n later ≡ splits_of n entries) → CountsSplits old new entries later
-counts-defined geometry part area definition old new entries later is same n before after found
-    there = of (part_among is.before n) refl
+counts-defined geometry part area definition old new entries later is same = record {
+  counts = λ n before after found there.
+      of n before after found there (part_among is.before n) refl;
+  keyed = λ n more. absurd (omega (arith, more, same n));
+}
   where
-    of : (middle : Option PartNow) → part_among is.before n ≡ middle → (used : ℕ)
+    of : (n : ℕ) (before after : PartNow) → part_among old.parts n ≡ Some before
+        → part_among new.parts n ≡ Some after
+        → (middle : Option PartNow) → part_among is.before n ≡ middle → (used : ℕ)
         → intervals_by before.shape before.known.used ≡ Some used
         → after.known.used + splits_of n entries ≡ used + splits_of n later
-    of None none = absurd (part-still 0 old.parts is.before is.met n before found none)
-    of (Some middle) at =
+    of n before after found there None none =
+        absurd (part-still 0 old.parts is.before is.met n before found none)
+    of n before after found there (Some middle) at =
         let more : part_among new.parts n ≡ Some middle =
         ap (λ (parts : List PartNow). part_among parts n) is.is
         ∙ find-append (has_number n) is.before (is.added ∷ [])
         ∙ ap (λ (one : Option PartNow). option_or one (find (has_number n) (is.added ∷ []))) at in
-        counts-met 0 old (record old { parts = is.before }) entries later is.met same n before
-        after found (at ∙ sym more ∙ there)
+        (counts-met 0 old (record old { parts = is.before }) entries later is.met same).counts n
+        before after found (at ∙ sym more ∙ there)
 
 pub counts-left : (gone : Option PartNo) (old new : StoreNow) (entries later : List Entry)
     → HasPartsLeft gone old.parts new.parts
     → ((n : ℕ) → splits_of n later ≡ splits_of n entries) → CountsSplits old new entries later
-counts-left gone old new entries later is same n before after found there =
-    counts-met 0 old (record old { parts = is.before }) entries later is.met same n before after
-    found (of (is_gone (number_gone gone) n)
-    (sym (among-left gone is.before n)
-    ∙ sym (ap (λ (parts : List PartNow). part_among parts n) is.is) ∙ there))
+counts-left gone old new entries later is same = record {
+  counts = λ n before after found there.
+      (counts-met 0 old (record old { parts = is.before }) entries later is.met same).counts n
+      before after found (of n after (is_gone (number_gone gone) n)
+      (sym (among-left gone is.before n)
+      ∙ sym (ap (λ (parts : List PartNow). part_among parts n) is.is) ∙ there));
+  keyed = λ n more. absurd (omega (arith, more, same n));
+}
   where
-    of : (b : Bool) → cond b None (part_among is.before n) ≡ Some after
-        → part_among is.before n ≡ Some after
-    of true none = absurd (none-some after none)
-    of false some = some
+    of : (n : ℕ) (after : PartNow) (b : Bool)
+        → cond b None (part_among is.before n) ≡ Some after → part_among is.before n ≡ Some after
+    of n after true none = absurd (none-some after none)
+    of n after false some = some
 
 -- neither of which enters a split
 pub splits-defined : (number after : ℕ) (unit : UnitOfRecovery) (line : ℕ) (part : PartNo)

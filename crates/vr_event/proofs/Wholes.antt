@@ -28,6 +28,7 @@ use Rattle.vr_store.specs.Store.{IsSet, IsStored, StoreNow, shape_among}
 use Rattle.vr_event.specs.Volume.{AreServedClusters, IsHeld, IsWhole, VolumeNow}
 use Rattle.vr_event.proofs.Areas.{owned-same, unlaid-same}
 use Rattle.vr_event.proofs.Entering.{alike_refused, held-alike}
+use Rattle.vr_event.proofs.Served.{served_same}
 
 module _ {B : Type 0} (seen : B → Seen) where
   -- whole
@@ -40,7 +41,8 @@ module _ {B : Type 0} (seen : B → Seen) where
       → (file.stopped ≡ None → IsSet store (seen blocks))
       → IsWhole seen (record volume { blocks = blocks; store = store; file = file })
   whole-of volume store blocks file whole was geometry catalog log parts set = record {
-    served = subst AreServedClusters (sym catalog) whole.served;
+    served = served_same volume.file.geometry file.geometry volume.file.catalog file.catalog
+        geometry catalog whole.served;
     geometry = λ going. log going ∙ whole.geometry (was going) ∙ sym geometry;
     laid = λ going n. parts going n ∙ whole.laid (was going) n
         ∙ sym (ap (λ (g : Geometry). shape_in g file.catalog n) geometry
@@ -49,7 +51,8 @@ module _ {B : Type 0} (seen : B → Seen) where
   }
 
   -- whole, once a write failed
-  pub whole-stopped : (volume : VolumeNow B) → AreServedClusters volume.file.catalog
+  pub whole-stopped : (volume : VolumeNow B)
+      → AreServedClusters volume.file.geometry volume.file.catalog
       → (volume.file.stopped ≡ None → ⊥) → IsWhole seen volume
   whole-stopped volume served stopped = record {
     served = served;

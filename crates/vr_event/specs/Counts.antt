@@ -1,10 +1,9 @@
 -- What is counted of a cluster, for LISTCAT ALL of Access Method Services Commands: its records,
 -- its areas, and its splits in this run. What counts as a split is this project's own.
-use Rattle.std.specs.Prelude.{◌≡◌, ◌⊎◌, ◌+◌, ◌-◌, ◌^◌, ◌<◌, ◌≤◌, ◌==◌, ℕ, Bool, true, false, cond}
+use Rattle.std.specs.Prelude.{◌≡◌, ◌⊎◌, ◌+◌, ◌-◌, ◌^◌, ◌<◌, ◌≤◌, ◌==◌, ℕ, Bool, false, cond}
 use Rattle.std.specs.Prelude.{List, [], ◌∷◌, Option, Some, None, Result, Ok, Err, filter, length, min}
 use Rattle.std.specs.Option.{option_map_or}
-use Rattle.std.specs.Ordering.{is_lt}
-use Rattle.vr_types.specs.Content.{Content, Placed, place_cmp}
+use Rattle.vr_types.specs.Content.{Content, Placed}
 use Rattle.vr_types.specs.Faults.{Faults}
 use Rattle.vr_types.specs.declared.fault.DeviceFault.TheVariants.{Read, Write}
 use Rattle.vr_types.specs.declared.memory.OutOfMemory.{OutOfMemory}
@@ -19,6 +18,7 @@ use Rattle.vr_history.specs.declared.entry.What.{What}
 use Rattle.vr_history.specs.declared.entry.What.TheVariants.{Asked, Undone, Claimed, Split, Faulted}
 use Rattle.vr_record_file.specs.Now.{FileNow, faulted}
 use Rattle.vr_volume.specs.PutBack.{standing}
+use Rattle.vr_event.specs.Walking.{is_coming}
 use Rattle.vr_event.specs.declared.counts.Count.{Count}
 use Rattle.vr_event.specs.declared.counts.Count.TheVariants.{Counted, Fault}
 use Rattle.vr_event.specs.declared.counts.Counts.{Counts}
@@ -36,15 +36,10 @@ as_told count = min count (2 ^ 64 - 1)
 
 -- ---- a walk of them
 
--- where a walk goes on that came to this place, or is at its start
-abbrev pub is_after : Option (List ℕ) → List ℕ → Bool
-is_after None place = true
-is_after (Some last) place = is_lt (place_cmp last place)
-
--- how many records come after
+-- how many records come after this place, or from the start on
 abbrev pub records_after : Option (List ℕ) → Content → ℕ
 records_after last content =
-    length (filter (λ (entry : Placed). is_after last entry.0) (standing content))
+    length (filter (λ (entry : Placed). is_coming None last entry.0) (standing content))
 
 -- Those that the walk counted and those that come after are all of them.
 abbrev pub IsWalked : ℕ → Option (List ℕ) → Content → Type 0

@@ -1,5 +1,7 @@
 pub mod Cause
+pub mod Walking
 pub mod Counts
+pub mod Reading
 pub mod Volume
 pub mod Alike
 pub mod Getting

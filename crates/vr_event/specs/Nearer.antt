@@ -1,7 +1,7 @@
 -- What an event leaves of the steps that its request still waits for, and how the splits that it
 -- enters follow the blocks. The rules are this project's own.
 use Rattle.std.specs.Prelude.{◌≡◌, ◌<◌, ◌+◌, ◌==◌, ℕ, Bool, false, List, Some, None}
-use Rattle.std.specs.Prelude.{Option, filter, length}
+use Rattle.std.specs.Prelude.{IsSomeAnd, Option, filter, length}
 use Rattle.vr_types.specs.declared.unit.Unit.{Unit as UnitOfRecovery}
 use Rattle.vr_space.specs.Part.{Shape}
 use Rattle.vr_space.specs.Part.Shape.{KeyedShape}
@@ -11,13 +11,13 @@ use Rattle.vr_history.specs.declared.entry.What.{What}
 use Rattle.vr_history.specs.declared.entry.What.TheVariants.{Split}
 use Rattle.vr_store.specs.Left.{left_for}
 use Rattle.vr_store.specs.Parts.{OnlyMet}
-use Rattle.vr_store.specs.Store.{PartNow, StoreNow, part_among}
+use Rattle.vr_store.specs.Store.{PartNow, StoreNow, part_among, shape_among}
 use Rattle.vr_event.specs.Volume.{VolumeNow}
 use Rattle.vr_event.specs.declared.act.Act.{Act}
 use Rattle.vr_event.specs.declared.act.Act.TheVariants.{Again, Done}
 
--- A request that is handed back waits for fewer steps than before: so no unit asks for ever, whatever
--- other decks do in between (`left_for` counts the stages of all parts, and those only fall).
+-- A request that is handed back waits for fewer steps than before. Of what other events do in
+-- between this says nothing: a DEFINE, which lays a part, may add to them.
 abbrev pub IsNearer : {B : Type 0} → Act → UnitOfRecovery → VolumeNow B → VolumeNow B → Type 0
 IsNearer Done unit old new = Unit {0}
 IsNearer (Again given) unit old new = left_for unit new.store < left_for unit old.store
@@ -35,13 +35,24 @@ abbrev pub intervals_by : Shape → ℕ → Option ℕ
 intervals_by (KeyedShape part) used = Some used
 intervals_by (NumberedShape part) used = None
 
+-- a part is keyed
+abbrev pub IsKeyed : Shape → Type 0
+IsKeyed (KeyedShape part) = Unit {0}
+IsKeyed (NumberedShape part) = ⊥
+
+-- a keyed part of this number is laid
+abbrev pub HasKeyed : List PartNow → ℕ → Type 0
+HasKeyed parts number = IsSomeAnd (shape_among parts number) IsKeyed
+
 -- Each keyed part that is laid before and after has as many intervals more as splits of it were
--- entered.
-abbrev pub CountsSplits : StoreNow → StoreNow → List Entry → List Entry → Type 0
-CountsSplits old new entries later = (number : ℕ) (before after : PartNow)
-    → part_among old.parts number ≡ Some before → part_among new.parts number ≡ Some after
-    → (used : ℕ) → intervals_by before.shape before.known.used ≡ Some used
-    → after.known.used + splits_of number entries ≡ used + splits_of number later
+-- entered; and those that were entered are of such parts.
+pub record CountsSplits (old new : StoreNow) (entries later : List Entry) : Type 0 where
+  pub counts : (number : ℕ) (before after : PartNow)
+      → part_among old.parts number ≡ Some before → part_among new.parts number ≡ Some after
+      → (used : ℕ) → intervals_by before.shape before.known.used ≡ Some used
+      → after.known.used + splits_of number entries ≡ used + splits_of number later
+  pub keyed : (number : ℕ) → splits_of number entries < splits_of number later
+      → HasKeyed old.parts number × HasKeyed new.parts number
 
 -- Nothing is new but what a part met: each waits for as much as before, and uses as many intervals.
 pub record MeetsOnly (old new : StoreNow) : Type 0 where

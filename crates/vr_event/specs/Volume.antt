@@ -1,6 +1,6 @@
 -- A volume between two events: what it has in memory is what its history gives from its opening, and
 -- its blocks are at rest by that state. The rules are this project's own.
-use Rattle.std.specs.Prelude.{◌≡◌, ℕ, List, Option, None}
+use Rattle.std.specs.Prelude.{◌≡◌, ◌≤◌, ◌+◌, ℕ, List, Option, None}
 use Rattle.std.specs.List.{AllByRecursion}
 use Rattle.std.specs.List.Sorted.{IsPermutation}
 use Rattle.vr_types.specs.Seen.{Seen}
@@ -19,12 +19,13 @@ use Rattle.vr_volume.specs.Laid.{shape_in}
 use Rattle.vr_store.specs.Store.{IsSet, IsStored, StoreNow, shape_among}
 use Rattle.vr_event.specs.Opening.{owned_in}
 
--- a cluster: those are what a volume serves
-abbrev pub IsServedCluster : CatEntry → Type 0
-IsServedCluster entry = entry.entry_kind ≡ Cluster
+-- a cluster whose longest record has room in an interval: those are what a volume serves
+pub record IsServedCluster (geometry : Geometry) (entry : CatEntry) : Type 0 where
+  pub cluster : entry.entry_kind ≡ Cluster
+  pub plain : entry.maximum + 7 ≤ geometry.size
 
-abbrev pub AreServedClusters : List CatEntry → Type 0
-AreServedClusters entries = AllByRecursion IsServedCluster entries
+abbrev pub AreServedClusters : Geometry → List CatEntry → Type 0
+AreServedClusters geometry entries = AllByRecursion (IsServedCluster geometry) entries
 
 -- a part that the catalog doesn't lay owns no area
 abbrev pub OwnLaid : Geometry → List CatEntry → List (Option PartNo) → Type 0
@@ -42,7 +43,7 @@ pub record VolumeNow (B : Type 0) : Type 0 where
 -- long as no write failed, the store is set, and its parts are those of the catalog. Of a volume that
 -- stopped no call looks at the store.
 pub record IsWhole {B : Type 0} (seen : B → Seen) (volume : VolumeNow B) : Type 0 where
-  pub served : AreServedClusters volume.file.catalog
+  pub served : AreServedClusters volume.file.geometry volume.file.catalog
   pub geometry : volume.file.stopped ≡ None
       → volume.store.log.geometry ≡ volume.file.geometry
   pub laid : volume.file.stopped ≡ None → (part : ℕ) → shape_among volume.store.parts part

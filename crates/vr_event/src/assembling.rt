@@ -36,14 +36,14 @@ impl<B: Blocks, P: Part> Volume<B, P> {
         log: UndoLog,
         space: Space,
     ) -> Volume<B, P>
-        ensures whole { AreServedClusters catalog
+        ensures whole { AreServedClusters geometry catalog
             → IsSet (opened_store log (map (part_now P.shape P.known) parts.items)
             space) (B.seen blocks) → log.geometry ≡ geometry
             → ((part : ℕ) → shape_among (map (part_now P.shape P.known) parts.items) part
             ≡ shape_in geometry catalog part) → IsWhole B.seen result }
         ensures held { IsTrue B.tells → (contents : ℕ → Content)
             → catalog ≡ entries_in (contents 0)
-            → AreServedClusters catalog → log.geometry ≡ geometry → log.records ≡ []
+            → AreServedClusters geometry catalog → log.geometry ≡ geometry → log.records ≡ []
             → log.broken ≡ false → length space ≡ area_count geometry
             → AllByRecursion (λ area. has_part (parts_laid catalog) area.part ≡ true)
             (owned_in space)

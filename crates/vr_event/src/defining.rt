@@ -88,7 +88,8 @@ impl<B: Blocks, P: Part> Volume<B, P> {
         requires going { self.old.file.stopped ≡ None }
         ensures held { IsTrue B.tells → (opening : State) → IsFileHeld opening self.old
             → IsHeld B.seen opening self.new }
-        ensures whole { AreServedClusters self.old.file.catalog → IsWhole B.seen self.new }
+        ensures whole { AreServedClusters self.old.file.geometry self.old.file.catalog
+            → IsWhole B.seen self.new }
         ensures leaves { self.new.file ≡ faulted after unit line self.old.file }
         ensures state { (opening : State) → IsStateOf opening self.old.file
             → IsStateOf opening self.new.file }

@@ -25,7 +25,8 @@ impl<B: Blocks, P: Part> Volume<B, P> {
         ensures held { IsTrue B.tells → (opening : State) → IsFileHeld opening self.old
             → MayBeAsked opening self.old.file unit request (Refused WriteFault)
             → IsHeld B.seen opening self.new }
-        ensures whole { AreServedClusters self.old.file.catalog → IsWhole B.seen self.new }
+        ensures whole { AreServedClusters self.old.file.geometry self.old.file.catalog
+            → IsWhole B.seen self.new }
         ensures acted { (before now : Faults) → before.reads ≤ now.reads
             → before.writes < now.writes
             → IsActed before now acts.Done after unit line request self.old.file self.new.file }

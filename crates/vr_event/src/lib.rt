@@ -1,6 +1,7 @@
 //! One event of a volume: a request that is answered under one hold of its latch. It stands on what
 //! a volume has in memory of its blocks (vr_store), and on the record file in memory
-//! (vr_record_file) with its answers (vr_answer).
+//! (vr_record_file) with its answers (vr_answer). What the records of a cluster are handed to is a
+//! visitor of vr_trace.
 #![tactic(auto)]
 
 mod act;
@@ -18,11 +19,13 @@ mod entry_change;
 mod faulting;
 mod fitting;
 mod getting;
+mod handing;
 mod laws;
 mod new_cluster;
 mod numbers;
 mod putting;
 mod putting_events;
+mod reading;
 mod records;
 mod refusing;
 mod searching;
@@ -30,6 +33,7 @@ mod splits;
 mod staging;
 mod standing;
 mod volume;
+mod walking;
 mod weighing;
 
 pub use act::Act;
@@ -37,4 +41,5 @@ pub use counts::{Count, Counts};
 pub use define::Define;
 pub use entry_change::EntryChange;
 pub use laws::{event_adds, event_takes_room};
+pub use reading::ReadThrough;
 pub use volume::Volume;

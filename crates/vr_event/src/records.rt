@@ -1,52 +1,17 @@
 //! How many records a part has, by a walk of them.
-ghost use Rattle.std.specs.Prelude.{◌≡◌, ℕ, List, IfOk, IsTrue};
+ghost use Rattle.std.specs.Prelude.{◌≡◌, ℕ, IfOk, IsTrue};
 ghost use Rattle.vr_types.specs.Blocks.{Keeps};
-ghost use Rattle.vr_space.specs.Whence.{allows};
-ghost use Rattle.vr_answer.specs.Least.{IsLeastWith};
 ghost use Rattle.vr_history.specs.State.{State};
-ghost use Rattle.vr_event.specs.Counts.{as_told, is_after, records_in};
-ghost use Rattle.vr_event.specs.Searching.{HasRecord};
+ghost use Rattle.vr_event.specs.Counts.{as_told, records_in};
 ghost use Rattle.vr_store.specs.Cause.{HasLookCause};
 ghost use Rattle.vr_store.specs.Next.{HoldsPlaces};
 ghost use Rattle.vr_store.specs.Store.{IsSet, IsStored, Stands};
 
-use crate::searching::next_place;
+use crate::walking::place_coming;
 use std::alloc::Global;
-use vr_space::{Part, Whence};
+use vr_space::Part;
 use vr_store::{LookNo, Store};
-use vr_types::{Blocks, OutOfMemory, PartNo, Place};
-
-/// Where a walk goes on that came to this place, or is at its start.
-fn whence_after(last: &Option<Place>) -> Whence<'_>
-    ensures { (place : List ℕ) → allows result place ≡ is_after last.now place }
-{
-    match last {
-        None => Whence::Start,
-        Some(place) => Whence::After(place),
-    }
-}
-
-/// The least place with a record after the one that a walk came to.
-fn place_after<B: Blocks, P: Part>(
-    alloc: Global,
-    blocks: &mut B,
-    store: &mut Store<P>,
-    part: PartNo,
-    room: u32,
-    last: &Option<Place>,
-) -> Result<Option<Place>, LookNo>
-    requires set { IsSet store.old (B.seen blocks.old) }
-    requires room { HoldsPlaces store.old.parts part.0 room }
-    requires stands { IsTrue B.tells → Stands store.old (B.seen blocks.old) }
-    ensures next { IsTrue B.tells → IfOk result (λ next. (volume : ℕ) (state : State)
-        → IsStored volume store.old state (B.seen blocks.old)
-        → IsLeastWith (is_after last.now) (HasRecord (state.contents part.0)) next) }
-    ensures same { store.new ≡ store.old }
-    ensures keeps { Keeps B.tells (B.seen blocks.old) (B.seen blocks.new) }
-    ensures cause { HasLookCause (B.faults blocks.old) (B.faults blocks.new) result }
-{
-    next_place(alloc, blocks, store, part, whence_after(last), room)
-}
+use vr_types::{Blocks, OutOfMemory, PartNo};
 
 /// How many records a part of a store has, as far as the number can say it. Nothing is put.
 /// `Fault` is the device's, and `Memory` says that memory ran out for a place.
@@ -69,7 +34,7 @@ pub(crate) fn count_records<B: Blocks, P: Part>(
 {
     let mut last = None;
     for counted in 0..u64::MAX {
-        match place_after(alloc, blocks, store, part, room, &last)? {
+        match place_coming(alloc, blocks, store, part, room, None, &last)? {
             None => return Ok(counted),
             Some(place) => last = Some(place),
         }

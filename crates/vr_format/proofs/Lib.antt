@@ -10,3 +10,5 @@ pub mod Taken
 pub mod Order
 pub mod Members
 pub mod Plans
+pub mod PlainCatalogs
+pub mod CallerLemmas

@@ -41,14 +41,14 @@ is_allowed : IsTrue (is_entry first_entry)
 unfolding is_entry is_name
 is_allowed = refl
 
-spelled : entry_of (spelling first_entry) ≡ Some first_entry
-spelled = spells (spelling first_entry) first_entry (record {
+pub first-spelled : entry_of (spelling first_entry) ≡ Some first_entry
+first-spelled = spells (spelling first_entry) first_entry (record {
   entry_is = is_allowed;
   spelled = refl;
 })
 
 entries_are : entries_in (catalog_of (first_entry ∷ [])) ≡ first_entry ∷ []
-entries_are = ap (λ (entry : Option CatEntry). cons_option entry []) spelled
+entries_are = ap (λ (entry : Option CatEntry). cons_option entry []) first-spelled
 
 -- ---- sizes
 
@@ -116,7 +116,7 @@ module _ (geometry : Geometry) (allowed : IsAllowed geometry) where
   first-catalog = record {
     spelled = All-cons (λ (placed : List ℕ × List ℕ). IsTrue (is_some (entry_of placed.1)))
         (key_of (catalog_area geometry) (spelling first_entry), spelling first_entry) []
-        (ap is_some spelled)
+        (ap is_some first-spelled)
         (All-nil (λ (placed : List ℕ × List ℕ). IsTrue (is_some (entry_of placed.1))));
     parts = subst (λ (entries : List CatEntry). IsDistinct nat_eq (0 ∷ parts_in entries))
         (sym entries_are) distinct-parts;

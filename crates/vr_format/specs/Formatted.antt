@@ -99,6 +99,13 @@ first_entry = record {
 abbrev pub first_entries : ℕ → List CatEntry
 first_entries number = if number == 0 then first_entry ∷ [] else []
 
+-- ---- what is served of it
+
+-- a cluster whose longest record has room in an interval: those are what a volume serves
+abbrev pub IsPlainCluster : Geometry → CatEntry → Type 0
+IsPlainCluster geometry entry =
+    (entry.entry_kind ≡ Cluster) × (entry.maximum + 7 ≤ geometry.size)
+
 -- ---- where formatting writes
 
 -- the header, the first block of the log, the catalog's area and as many areas after it as there

@@ -1,5 +1,6 @@
 //! Laws of what formatting leaves: each is the contract of a function that does nothing.
-ghost use Rattle.std.specs.Prelude.{ℕ, List, Option, []};
+ghost use Rattle.std.specs.Prelude.{ℕ, All, List, Option, []};
+ghost use Rattle.vr_types.specs.Geometry.{IsAllowed};
 ghost use Rattle.vr_types.specs.Image.{Image};
 ghost use Rattle.vr_types.specs.declared.geometry.Geometry.{Geometry};
 ghost use Rattle.vr_types.specs.declared.unit.PartNo.{PartNo};
@@ -9,7 +10,9 @@ ghost use Rattle.vr_attach.specs.Owning.{owner_of};
 ghost use Rattle.vr_mount.specs.Areas.{AreOwners};
 ghost use Rattle.vr_volume.specs.Safe.{IsImageSafe};
 ghost use Rattle.vr_volume.specs.Volume.{Recovers};
-ghost use Rattle.vr_format.specs.Formatted.{IsFormatted, catalog_of, contents_of};
+ghost use Rattle.vr_format.specs.Fit.{AreTaken};
+ghost use Rattle.vr_format.specs.Formatted.{IsFormatted, IsPlainCluster, catalog_of, contents_of};
+ghost use Rattle.vr_format.specs.Formatted.{first_entries};
 
 /// What was formatted is safe, with a log of no records and no generation yet: off the places of
 /// before-images, of which there are none, it has what is committed, each part in its own blocks.
@@ -29,4 +32,15 @@ pub fn formatted_recovers()
     ensures { (geometry : Geometry) (number : ℕ) (entries : List CatEntry) (image : Image)
         → IsFormatted geometry number entries image
         → Recovers geometry number image (contents_of entries) }
+{}
+
+/// And its catalog has clusters alone, whose longest records have room in an interval: that of a new
+/// volume (`new`), and that of one that was formatted with entries, as these clusters (`entries`).
+/// An opening refuses no such catalog.
+pub fn formatted_is_plain()
+    ensures new { (geometry : Geometry) (number : ℕ) → IsAllowed geometry
+        → All (IsPlainCluster geometry) (entries_in (catalog_of (first_entries number))) }
+    ensures entries { (geometry : Geometry) (entries clusters : List CatEntry)
+        → AreTaken geometry entries clusters
+        → All (IsPlainCluster geometry) (entries_in (catalog_of clusters)) }
 {}

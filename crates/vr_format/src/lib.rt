@@ -26,5 +26,5 @@ mod volume;
 
 pub use entries::format_entries;
 pub use format::format_volume;
-pub use laws::{formatted_is_safe, formatted_recovers};
+pub use laws::{formatted_is_plain, formatted_is_safe, formatted_recovers};
 pub use no::FormatNo;

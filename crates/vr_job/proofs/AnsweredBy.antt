@@ -1,19 +1,17 @@
 -- How a volume answers to a command of IDCAMS, by what it enters in its history and by the state
 -- that this gives.
-use Rattle.std.proofs.Common.{◌≡◌, ◌≤◌, ◌∙◌, ◌+◌, inr, ℕ, Bool, IsTrue, List, [], ◌∷◌, ◌++◌}
+use Rattle.std.proofs.Common.{◌≡◌, ◌≤◌, ◌∙◌, ◌+◌, ℕ, Bool, IsTrue, List, [], ◌∷◌, ◌++◌}
 use Rattle.std.proofs.Common.{Option, Some, None, ap, refl, subst, sym}
 use Rattle.std.specs.List.{list_any, position_from}
 use Rattle.std.specs.Option.{is_none}
-use Rattle.std.specs.Prelude.{◌||◌, Ok, is_some}
+use Rattle.std.specs.Prelude.{◌||◌, ◌-◌, ◌^◌, Ok, is_some}
 use Rattle.std.proofs.lemmas.Bool.{true≢false}
-use Rattle.std.proofs.lemmas.List.{append-nil}
 use Rattle.std.proofs.lemmas.Iterator.Adapters.{position_from-zero}
 use Rattle.vr_types.specs.Faults.{Faults}
 use Rattle.vr_types.specs.Locks.{Lock, first_conflict, same_unit}
 use Rattle.vr_types.specs.LogSpace.{IsLogFull, log_size}
 use Rattle.vr_types.specs.Seen.{Seen}
 use Rattle.vr_types.specs.Space.{free_count, least_free}
-use Rattle.vr_types.specs.declared.fault.DeviceFault.TheVariants.{Read, Write}
 use Rattle.vr_types.specs.declared.geometry.Geometry.{Geometry}
 use Rattle.vr_types.specs.declared.lock_name.LockName.{LockName}
 use Rattle.vr_types.specs.declared.unit.Mode.TheVariants.{Exclusive}
@@ -26,19 +24,22 @@ use Rattle.vr_history.proofs.CallerLemmas.{unit_self}
 use Rattle.vr_history.specs.State.{Logged, State}
 use Rattle.vr_history.specs.declared.entry.Entry.{Entry}
 use Rattle.vr_record_file.specs.Defining.{entry_name, need_to_define}
-use Rattle.vr_record_file.specs.Now.{FileNow, state_now}
+use Rattle.vr_record_file.specs.Now.{state_now}
 use Rattle.vr_trace.specs.Shown.{Shown}
-use Rattle.vr_ams_define.specs.Answers.{Exchange, IsShownAfter, IsShownCounted}
-use Rattle.vr_ams_define.specs.Answers.Exchange.{Changing, Counting, Defining}
+use Rattle.vr_trace.specs.Visitors.{Visited}
+use Rattle.vr_ams_define.specs.Answers.{Exchange, IsShownAfter, IsShownCounted, IsShownRead}
+use Rattle.vr_ams_define.specs.Answers.Exchange.{Changing, Counting, Defining, Reading}
 use Rattle.vr_ams_define.specs.EntryChanges.{IsShownChanged}
 use Rattle.vr_ams_define.specs.declared.answer.Changed.{Changed}
 use Rattle.vr_ams_define.specs.declared.answer.Counted.{Counted}
 use Rattle.vr_ams_define.specs.declared.answer.Defined.{Defined}
+use Rattle.vr_ams_define.specs.declared.answer.ReadBack.{ReadBack}
 use Rattle.vr_event.specs.Counts.{AreCounts, CountedBy}
 use Rattle.vr_event.specs.DefineSteps.{HasCome, LacksRoomWhere}
 use Rattle.vr_event.specs.Defining.{entry_place, utility_unit}
 use Rattle.vr_event.specs.EntryChange.{log_for_change}
 use Rattle.vr_event.specs.EntryChangeSteps.{HasChangeCome}
+use Rattle.vr_event.specs.Reading.{ReadBy, first_records}
 use Rattle.vr_event.specs.Volume.{IsHeld, IsWhole, VolumeNow}
 use Rattle.vr_event.specs.declared.counts.Count.{Count}
 use Rattle.vr_event.specs.declared.counts.Count.TheVariants as counting
@@ -46,17 +47,21 @@ use Rattle.vr_event.specs.declared.define.Define.{Define}
 use Rattle.vr_event.specs.declared.define.Define.TheVariants as events
 use Rattle.vr_event.specs.declared.entry_change.EntryChange.{EntryChange}
 use Rattle.vr_event.specs.declared.entry_change.EntryChange.TheVariants as changing
+use Rattle.vr_event.specs.declared.reading.ReadThrough.{ReadThrough}
+use Rattle.vr_event.specs.declared.reading.ReadThrough.TheVariants as readings
 use Rattle.vr_job.specs.Answering.{IsAnswered, IsChangedIn, IsCountOf, IsCountedIn, IsDefinedIn}
-use Rattle.vr_job.specs.Answering.{answer_of, changed_of, counted_of}
+use Rattle.vr_job.specs.Answering.{IsReadIn, IsReadOf, answer_of, changed_of, counted_of}
+use Rattle.vr_job.specs.Answering.{read_back_of}
 use Rattle.vr_job.specs.Faultless.{has_stopped}
-use Rattle.vr_job.specs.Going.{ShowsStop, WentOn, follows-catalog}
+use Rattle.vr_job.specs.Going.{ShowsStop, WentOn}
 use Rattle.vr_job.specs.Reported.{AnswersBy, ChangeCause, CountCause, DefineCause, MadeBy, VolumeAt}
-use Rattle.vr_job.specs.Reported.{areas_free, numbers_of, state_at, utility_unit_in}
+use Rattle.vr_job.specs.Reported.{ReadCause, areas_free, state_at, utility_unit_in}
 use Rattle.vr_job.specs.Serving.{StaysServing, shown_of}
 use Rattle.vr_job.proofs.ChangeShown.{change-shown}
 use Rattle.vr_job.proofs.CountEvents.{count-shown}
 use Rattle.vr_job.proofs.DefineShown.{come-shown, ready-catalog}
-use Rattle.vr_job.proofs.Gains.{Gained, gained, gained-change, gained-count}
+use Rattle.vr_job.proofs.Gains.{Gained, gained, gained-change, gained-count, gained-read}
+use Rattle.vr_job.proofs.ReadEvents.{read-shown}
 
 -- a volume as commands have it, which was opened in this state
 abbrev pub at_of : {D : Type 0} → State → VolumeNow D → VolumeAt
@@ -197,6 +202,15 @@ module _ {D : Type 0} (seen : D → Seen) (at : VolumeAt) (ready : VolumeNow D)
   )
   count-cause (counting.Fault _) entry is = tt
 
+  -- which records are read
+  read-cause : (event : ReadThrough) (entry : CatEntry) (place : Option (List ℕ))
+      (records : List Visited) → IsReadOf event entry place records at.opening ready.file
+      → ReadCause (read_back_of event) entry place records at
+  read-cause readings.Done entry place records is =
+      subst (λ (s : State). records ≡ first_records (2 ^ 64 - 1) place (s.contents entry.part.0))
+      (sym from.state_is) is
+  read-cause (readings.Fault _) entry place records is = tt
+
 -- ---- what it shows
 
 module _ {D : Type 0} (tells : Bool) (seen : D → Seen) (faults : D → Faults)
@@ -225,6 +239,13 @@ module _ {D : Type 0} (tells : Bool) (seen : D → Seen) (faults : D → Faults)
   counted-shown event after line new is =
       subst (λ (s : Shown). IsShownCounted (counted_of event) s (shown_of new)) ready-shown
       (count-shown after line event ready new is)
+
+  read-back-shown : (event : ReadThrough) (after line : ℕ) (new : VolumeNow D)
+      → ReadBy event after (utility_unit ready.file) line ready.file new.file
+      → IsShownRead (read_back_of event) (shown_of old) (shown_of new)
+  read-back-shown event after line new is =
+      subst (λ (s : Shown). IsShownRead (read_back_of event) s (shown_of new)) ready-shown
+      (read-shown after line event ready new is)
 
   changed-shown : (event : EntryChange) (after line : ℕ) (entry : CatEntry) (to : Option CatEntry)
       (new : VolumeNow D)
@@ -306,6 +327,36 @@ module _ {D : Type 0} (tells : Bool) (seen : D → Seen) (faults : D → Faults)
       gains = gained-count is.ready.number is.after (utility_unit is.ready.file) line entry
           is.ready.file new.file refl is.event is.entered
 
+  read-answers : (entry : CatEntry) (from : Option (List ℕ)) (records : List Visited)
+      (answer : ReadBack) (new : VolumeNow D) → IsHeldFrom tells seen opening old
+      → IsReadIn tells seen faults old line entry from records answer new
+      → AnswersBy tells (at_of opening old) line (Reading entry from records answer)
+      (at_of opening new)
+  read-answers entry from records answer new held is = record {
+    made = gains.made;
+    entries_are = gains.entries_are
+        ∙ ap (λ (entries : List Entry). entries ++ gains.made) is.stays.entries;
+    own = gains.own;
+    by = subst (λ (given : ReadBack). MadeBy (Reading entry from records given) gains.made)
+        (sym is.answer_is) gains.by;
+    shown_is = subst (λ (given : ReadBack).
+        IsShownRead given (shown_of old) (shown_of new)) (sym is.answer_is)
+        (read-back-shown tells seen faults old is.ready is.stays held.shows is.event is.after line
+        new is.entered);
+    shape_is = is.went.on.geometry ∙ is.stays.went.on.geometry;
+    opening_is = refl;
+    cause = λ told. subst (λ (given : ReadBack).
+        ReadCause given entry from records (at_of opening old)) (sym is.answer_is)
+        (read-cause seen (at_of opening old) is.ready (ready-from is.ready is.stays held told)
+        is.event entry from records
+        (is.found told opening (is.stays.went.held told opening (held.held told))));
+  }
+    where
+      gains : Gained line (Reading entry from records (read_back_of is.event)) is.ready.file
+          new.file
+      gains = gained-read is.ready.number is.after (utility_unit is.ready.file) line entry
+          is.ready.file new.file refl from records is.event is.entered
+
   change-answers : (entry : CatEntry) (to : Option CatEntry) (answer : Changed)
       (new : VolumeNow D) → IsHeldFrom tells seen opening old
       → IsChangedIn tells seen faults old line entry to answer new
@@ -357,4 +408,8 @@ module _ {D : Type 0} (tells : Bool) (seen : D → Seen) (faults : D → Faults)
   answers-by (Changing entry to answer) new held is = (
     went-on is.ready new is.stays is.went held,
     change-answers entry to answer new held is,
+  )
+  answers-by (Reading entry from records answer) new held is = (
+    went-on is.ready new is.stays is.went held,
+    read-answers entry from records answer new held is,
   )

@@ -4,6 +4,7 @@ use Rattle.std.proofs.Common.{◌≡◌, ◌∙◌, ◌==◌, ◌&&◌, inr, ℕ
 use Rattle.std.proofs.Common.{◌∷◌, ◌++◌, Option, Some, None, ap, eq-eqb, if◌then◌else◌, nat_eq}
 use Rattle.std.proofs.Common.{refl, subst, sym}
 use Rattle.std.specs.Prelude.{Contains, IfSome, option_map, option_to_list}
+use Rattle.std.proofs.lemmas.List.Elements.{All-contains, All-from_recursion}
 use Rattle.std.specs.List.{AllByRecursion, IsDistinct}
 use Rattle.vr_types.specs.Content.{Ascends, Content, Standing, item_at}
 use Rattle.vr_types.specs.declared.position.Position.{Position}
@@ -35,13 +36,14 @@ use Rattle.vr_record_file.proofs.EntryGot.{entry_held}
 use Rattle.vr_store.specs.Store.{IsStored}
 use Rattle.vr_event.specs.Defining.{catalog_file, entry_place, utility_unit}
 use Rattle.vr_event.specs.EntryChange.{IsAltered, entry_get, entry_request}
-use Rattle.vr_event.specs.Volume.{IsHeld, IsWhole, VolumeNow}
+use Rattle.vr_event.specs.Volume.{IsHeld, IsServedCluster, IsWhole, VolumeNow}
 use Rattle.vr_event.proofs.CallerLemmas.{IsNamed, items-named}
 use Rattle.vr_event.proofs.ClusterRecords.{record-spells}
 use Rattle.vr_event.proofs.EntryChangeContents.{entries-changed, entry-stands}
 use Rattle.vr_ams_define.specs.EntryChanges.{IsClusterThere}
 use Rattle.vr_job.specs.Catalogs.{catalog_done}
-use Rattle.vr_job.specs.Committed.{IsInstead, KeepTheCatalog, MayChange}
+use Rattle.vr_job.specs.Committed.{IsInstead, IsServedItem, KeepTheCatalog, MayChange}
+use Rattle.vr_job.specs.Committed.{PutsServed}
 use Rattle.vr_job.proofs.CatalogChanges.{catalog-changed}
 use Rattle.vr_job.proofs.ChangeEvents.{change-of, got-of, replaced-of}
 use Rattle.vr_job.proofs.ChangeMade.{catalog-asked}
@@ -187,6 +189,26 @@ module _ {B : Type 0} (seen : B → Seen) (opening : State) (volume : VolumeNow 
         tt,
       )
 
+  -- a cluster that is altered is served as it was
+  entry-served : IsServedCluster geometry entry
+  entry-served = All-contains (IsServedCluster geometry) volume.file.catalog entry
+      (All-from_recursion (IsServedCluster geometry) volume.file.catalog whole.served) there.there
+
+  instead-served : (to : Option CatEntry) → IfSome to (IsAltered entry)
+      → IfSome (option_map Standing (option_map spelling to)) (IsServedItem geometry)
+  instead-served None altered = tt
+  instead-served (Some new) altered =
+      subst (λ (o : Option CatEntry). IfSome o (IsServedCluster geometry))
+      (sym (record-spells new altered.entry_is))
+      (subst (IsServedCluster geometry) (sym altered.alike)
+      (record { cluster = entry-served.cluster; plain = entry-served.plain }))
+
+  puts-served : AllByRecursion (PutsServed geometry)
+      (place_changes geometry holding-state unit change.what)
+  puts-served = subst (AllByRecursion (PutsServed geometry))
+      (sym (changes-there geometry state unit volume.number entry to))
+      (λ part. instead-served to to-is, tt)
+
   made-catalog : catalog_of (state_after geometry holding-state change)
       ≡ catalog_done (entry_request volume.number to) (Some at) (catalog_of holding-state)
   made-catalog = ap entries_in
@@ -198,7 +220,8 @@ module _ {B : Type 0} (seen : B → Seen) (opening : State) (volume : VolumeNow 
       name-there)
 
   change-keeps : Keeps holding-state
-  change-keeps rest keep = (record { may = may-change; makes = made-catalog }, keep)
+  change-keeps rest keep =
+      (record { may = may-change; served = puts-served; makes = made-catalog }, keep)
 
   -- they keep the catalog but for that record
   pub replaced-keep : (rest : List Entry) → KeepTheCatalog geometry

@@ -17,7 +17,6 @@ use Rattle.vr_types.specs.declared.unit.Unit.{Unit as UnitOfRecovery}
 use Rattle.vr_catalog.specs.Record.{spelling}
 use Rattle.vr_catalog.specs.declared.entry.CatEntry.{CatEntry}
 use Rattle.vr_history.specs.declared.entry.Entry.{Entry}
-use Rattle.vr_history.specs.declared.entry.What.{What}
 use Rattle.vr_history.specs.declared.entry.What.TheVariants.{Asked, Faulted}
 use Rattle.vr_record_file.specs.EntryChange.{change_asked}
 use Rattle.vr_record_file.specs.Now.{FileNow, entry_next}

@@ -4,6 +4,7 @@ use Rattle.std.proofs.Common.{◌≡◌, ◌∙◌, ◌<◌, ◌==◌, ◌||◌,
 use Rattle.std.proofs.Common.{List, [], ◌++◌, Option, Some, None, ap, if◌then◌else◌, nat_eq}
 use Rattle.std.proofs.Common.{eq-eqb, refl, subst, sym, true≢false}
 use Rattle.std.proofs.lemmas.Option.{same_Some}
+use Rattle.std.specs.Prelude.{IfSome}
 use Rattle.std.specs.List.{AllByRecursion, list_any}
 use Rattle.vr_types.specs.Content.{Content, Standing, item_at}
 use Rattle.vr_types.specs.Geometry.{IsAllowed, area_count}
@@ -25,9 +26,9 @@ use Rattle.vr_record_file.specs.Now.{state_now}
 use Rattle.vr_record_file.proofs.MoreEntries.{has_part_more}
 use Rattle.vr_store.specs.Store.{IsSet, IsStored}
 use Rattle.vr_event.specs.Defining.{IsNewCluster, entry_place, entry_with_area}
-use Rattle.vr_event.specs.Volume.{IsHeld, IsWhole, VolumeNow}
-use Rattle.vr_event.proofs.CallerLemmas.{IsNamed, area-entry, area-small, items-named, none-at}
-use Rattle.vr_event.proofs.CallerLemmas.{record-spells, unlaid}
+use Rattle.vr_event.specs.Volume.{IsHeld, IsServedCluster, IsWhole, VolumeNow}
+use Rattle.vr_event.proofs.CallerLemmas.{IsNamed, area-entry, area-small, area-startable}
+use Rattle.vr_event.proofs.CallerLemmas.{items-named, none-at, record-spells, unlaid}
 use Rattle.vr_event.proofs.ClusterCatalogs.{entries-with}
 use Rattle.vr_job.specs.Catalogs.{with_spelled}
 use Rattle.vr_job.specs.Committed.{KeepTheCatalog}
@@ -68,6 +69,16 @@ module _ {B : Type 0} (seen : B → Seen) (opening : State) (volume : VolumeNow 
   entry-is : IsTrue (is_entry new)
   entry-is = area-entry geometry (entries_in content) entry cluster area
       (area-small geometry area.0 (subst IsAllowed (whole.geometry going) set.allowed) below)
+
+  -- it is served
+  new-served : IsServedCluster geometry new
+  new-served =
+      let allowed : IsAllowed geometry = subst IsAllowed (whole.geometry going) set.allowed in
+      record {
+        cluster = is.cluster;
+        plain = (area-startable geometry volume.file.catalog entry is area allowed
+            (area-small geometry area.0 allowed below)).fits;
+      }
 
   named : AllByRecursion IsNamed content
   named = items-named volume.number volume.store state (seen volume.blocks) left stored
@@ -113,6 +124,11 @@ module _ {B : Type 0} (seen : B → Seen) (opening : State) (volume : VolumeNow 
                 fresh = fresh;
               }),
             ),
+            tt,
+          );
+          served = (
+            λ part. subst (λ (o : Option CatEntry). IfSome o (IsServedCluster geometry))
+                (sym (record-spells new entry-is)) new-served,
             tt,
           );
           makes = entries-with new entry-is content named absent

@@ -7,7 +7,7 @@ use Rattle.std.specs.List.{list_any}
 use Rattle.std.specs.Option.{option_map_or}
 use Rattle.std.proofs.lemmas.Bool.{false≢true}
 use Rattle.std.proofs.lemmas.Slice.Eq.{bytes_eq-Decides}
-use Rattle.vr_types.specs.Content.{Content, Standing}
+use Rattle.vr_types.specs.Content.{Content, Standing, item_at}
 use Rattle.vr_types.specs.Locks.{same_unit}
 use Rattle.vr_types.specs.declared.geometry.Geometry.{Geometry}
 use Rattle.vr_types.specs.declared.position.Stand.{Stand}
@@ -52,6 +52,7 @@ pub record IsMade (unit : UnitOfRecovery) (change : Change) (old new : State) : 
   pub image_unit : image.unit ≡ unit
   pub image_part : image.part ≡ change.part
   pub image_place : image.place ≡ change.place
+  pub image_old : image.old ≡ item_at (old.contents change.part) change.place
   pub befores : new.befores
       ≡ cond (is_kept old unit change.part change.place) old.befores (old.befores ++ image ∷ [])
   pub more : List Logged
@@ -241,6 +242,7 @@ module _ (geometry : Geometry) (state : State) (unit : UnitOfRecovery) where
     image_unit = refl;
     image_part = refl;
     image_place = refl;
+    image_old = refl;
     befores = refl;
     more = map (as_logged unit) (new_loggings (case_of geometry state unit request));
     grown = refl;

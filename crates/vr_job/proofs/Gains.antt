@@ -20,10 +20,11 @@ use Rattle.vr_history.specs.declared.entry.What.TheVariants.{Asked, Claimed, Fau
 use Rattle.vr_record_file.specs.EntryChange.{change_asked}
 use Rattle.vr_record_file.specs.Now.{FileNow, entry_next, faulted}
 use Rattle.vr_ams_define.specs.Answers.{Exchange}
-use Rattle.vr_ams_define.specs.Answers.Exchange.{Changing, Counting, Defining}
+use Rattle.vr_ams_define.specs.Answers.Exchange.{Changing, Counting, Defining, Reading}
 use Rattle.vr_ams_define.specs.declared.answer.Changed.TheVariants as changes
 use Rattle.vr_ams_define.specs.declared.answer.Counted.TheVariants as counts
 use Rattle.vr_ams_define.specs.declared.answer.Defined.TheVariants as answers
+use Rattle.vr_ams_define.specs.declared.answer.ReadBack.TheVariants as reads
 use Rattle.vr_ams_define.specs.Grown.{IsOfCommand}
 use Rattle.vr_ams_define.specs.NewCluster.{with_area}
 use Rattle.vr_event.specs.Counts.{CountedBy}
@@ -31,6 +32,7 @@ use Rattle.vr_event.specs.Defining.{EnteredBy, catalog_file, catalog_part, entry
 use Rattle.vr_event.specs.Defining.{entry_place, entry_with_area, file_defined, file_in_doubt}
 use Rattle.vr_event.specs.EntryChange.{EnteredChange, entry_get, entry_request}
 use Rattle.vr_event.specs.EntryChange.{file_change_in_doubt, file_changed}
+use Rattle.vr_event.specs.Reading.{ReadBy}
 use Rattle.vr_event.specs.Staging.{stage_entered}
 use Rattle.vr_event.specs.declared.counts.Count.{Count}
 use Rattle.vr_event.specs.declared.counts.Count.TheVariants as counting
@@ -38,7 +40,10 @@ use Rattle.vr_event.specs.declared.define.Define.{Define}
 use Rattle.vr_event.specs.declared.define.Define.TheVariants as events
 use Rattle.vr_event.specs.declared.entry_change.EntryChange.{EntryChange}
 use Rattle.vr_event.specs.declared.entry_change.EntryChange.TheVariants as changing
-use Rattle.vr_job.specs.Answering.{answer_of, changed_of, counted_of}
+use Rattle.vr_event.specs.declared.reading.ReadThrough.{ReadThrough}
+use Rattle.vr_event.specs.declared.reading.ReadThrough.TheVariants as readings
+use Rattle.vr_trace.specs.Visitors.{Visited}
+use Rattle.vr_job.specs.Answering.{answer_of, changed_of, counted_of, read_back_of}
 use Rattle.vr_job.specs.Definitions.{IsCatalogStage, IsRecorded, IsReplaced}
 use Rattle.vr_job.specs.Events.{IsStop}
 use Rattle.vr_job.specs.Reported.{MadeBy, numbers_of, record_of}
@@ -263,6 +268,18 @@ module _ (volume after : ℕ) (unit : UnitOfRecovery) (line : ℕ) (entry : CatE
   gained-count (counting.Fault Read) is = nothing (Counting entry (counts.Fault Read)) refl is
   gained-count (counting.Fault Write) is =
       alone (Counting entry (counts.Fault Write)) (λ made stop. stop) is
+
+  -- ---- and a reading
+
+  pub gained-read : (from : Option (List ℕ)) (records : List Visited) (event : ReadThrough)
+      → ReadBy event after unit line old new
+      → Gained line (Reading entry from records (read_back_of event)) old new
+  gained-read from records readings.Done is =
+      nothing (Reading entry from records reads.Done) refl is
+  gained-read from records (readings.Fault Read) is =
+      nothing (Reading entry from records (reads.Fault Read)) refl is
+  gained-read from records (readings.Fault Write) is =
+      alone (Reading entry from records (reads.Fault Write)) (λ made stop. stop) is
 
   -- ---- and a change
 

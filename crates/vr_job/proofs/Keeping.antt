@@ -2,7 +2,7 @@
 -- clusters alone.
 use Rattle.std.proofs.Common.{◌≡◌, ◌∙◌, ◌==◌, ◌&&◌, ◌||◌, ⊎_elim, ℕ, Bool, true, false, cond, List}
 use Rattle.std.proofs.Common.{[], ◌∷◌, ◌++◌, Option, Some, None, ap, bytes_eq, filter, inl, refl}
-use Rattle.std.proofs.Common.{if◌then◌else◌, subst, sym}
+use Rattle.std.proofs.Common.{eq-eqb, if◌then◌else◌, subst, sym, true≢false}
 use Rattle.std.specs.Prelude.{option_map, option_to_list}
 use Rattle.std.specs.List.{AllByRecursion, list_any}
 use Rattle.std.proofs.lemmas.Bool.{false≢true}
@@ -33,6 +33,7 @@ use Rattle.vr_event.specs.declared.act.Act.{Act}
 use Rattle.vr_event.specs.declared.act.Act.TheVariants.{Again, Done}
 use Rattle.vr_job.specs.Catalogs.{catalog_told}
 use Rattle.vr_job.specs.Committed.{IsOffCatalog, KeepTheCatalog, KeepsCatalog, MayChange}
+use Rattle.vr_job.specs.Committed.{PutsServed}
 use Rattle.vr_job.proofs.CatalogChanges.{catalog-changed, change-keeps}
 use Rattle.vr_job.proofs.Effects.{IsMade, MadeOr, make-or}
 use Rattle.vr_job.proofs.Effects.MadeOr.{NoChange, OneChange}
@@ -171,6 +172,14 @@ off-may : (state : State) (unit : UnitOfRecovery) (changes : List Change)
 off-may state unit [] off = tt
 off-may state unit (change ∷ changes) off = (inl off.0, off-may state unit changes off.1)
 
+off-served : (geometry : Geometry) (changes : List Change) → AllByRecursion IsOffCatalog changes
+    → AllByRecursion (PutsServed geometry) changes
+off-served geometry [] off = tt
+off-served geometry (change ∷ changes) off = (
+  λ part. absurd (true≢false (sym (eq-eqb change.part 0 part) ∙ off.0)),
+  off-served geometry changes off.1,
+)
+
 -- an entry of a deck leaves the catalog
 all-off : (changes : List Change) (contents : ℕ → Content) → AllByRecursion IsOffCatalog changes
     → changed contents changes 0 ≡ contents 0
@@ -183,6 +192,7 @@ off-keeps : (geometry : Geometry) (state : State) (entry : Entry) → (entry.uni
     → KeepsCatalog geometry state entry
 off-keeps geometry state entry own off = record {
   may = off-may state entry.unit (place_changes geometry state entry.unit entry.what) off;
+  served = off-served geometry (place_changes geometry state entry.unit entry.what) off;
   makes = ap entries_in (catalog-changed geometry state entry.unit entry.stamp entry.what
       ∙ all-off (place_changes geometry state entry.unit entry.what) state.contents off)
       ∙ sym (ap (λ (b : Bool). if b then catalog_told entry.what (catalog_of state)

@@ -2,6 +2,7 @@ pub mod Sending
 pub mod VolumeRuns
 pub mod ShelfRuns
 pub mod Shelves
+pub mod Served
 pub mod Readying
 pub mod Crashing
 pub mod DeckEvents
@@ -20,6 +21,7 @@ pub mod DefineRuns
 pub mod DefineShown
 pub mod Defining
 pub mod CountEvents
+pub mod ReadEvents
 pub mod ChangeMade
 pub mod ChangeEvents
 pub mod ChangeCatalog
@@ -39,6 +41,8 @@ pub mod Owning
 pub mod Splitting
 pub mod Placing
 pub mod RunCommitted
+pub mod ServedRuns
+pub mod FormattedVolumes
 pub mod EachSeen
 pub mod Reports
 pub mod Gains

@@ -59,6 +59,7 @@ use Rattle.vr_job.specs.Going.{HasRun}
 use Rattle.vr_job.specs.Crash.{IsLeftBy}
 use Rattle.vr_job.specs.Crash.IsLeftAt.{Counted}
 use Rattle.vr_job.specs.Opened.{IsReady, IsReadyFrom, opened_now}
+use Rattle.vr_job.proofs.Served.{served-clusters}
 
 -- ---- lists
 
@@ -341,14 +342,14 @@ module _ (geometry : Geometry) (entries : List CatEntry) (owned : List AnyPart) 
       (at-place (λ (one : AnyPart). shape_in geometry entries (part_no (shape_any one)).0
       ≡ Some (shape_any one)) owned held.at held.one laid-each held.there)))
 
-  pub handed-ready : AreServedClusters entries → IsReady geometry entries parts log space now
-  handed-ready clusters = record {
+  pub handed-ready : IsReady geometry entries parts log space now
+  handed-ready = record {
     set = handed-set;
     geometry_is = handed.log_is;
     laid = handed-laid;
     records = handed.records;
     sound = handed.sound;
-    clusters = clusters;
+    clusters = served-clusters geometry entries handed.clusters handed.plain;
     owned = handed-owned;
   }
 

@@ -2,14 +2,16 @@
 -- was opened.
 use Rattle.std.proofs.Common.{◌≡◌, ◌∙◌, ⊎_elim, inl, inr, ℕ, Bool, true, false, List, [], ◌∷◌}
 use Rattle.std.proofs.Common.{Option, Some, ap, length, map, refl, subst, sym}
-use Rattle.std.specs.Prelude.{◌&&◌, None, is_some, not}
+use Rattle.std.specs.Prelude.{◌&&◌, Err, None, Ok, is_some, not}
 use Rattle.vr_types.specs.declared.geometry.Geometry.{Geometry}
+use Rattle.vr_types.specs.declared.unit.Kind.{Kind}
 use Rattle.vr_amsparse.specs.declared.command.Command.{Command}
 use Rattle.vr_amsparse.specs.declared.command.Command.TheVariants as commands
 use Rattle.vr_amsparse.specs.declared.command.DefineCommand.{DefineCommand}
 use Rattle.vr_amsparse.specs.declared.command.DeleteCommand.{DeleteCommand}
 use Rattle.vr_amsparse.specs.declared.command.ListCommand.{ListCommand}
 use Rattle.vr_amsparse.specs.declared.command.Node.{Node}
+use Rattle.vr_amsparse.specs.declared.command.PrintCommand.{PrintCommand}
 use Rattle.vr_catalog.specs.Alter.{altered}
 use Rattle.vr_catalog.specs.Define.{new_entry}
 use Rattle.vr_catalog.specs.declared.entry.CatEntry.{CatEntry}
@@ -43,10 +45,15 @@ use Rattle.vr_ams_define.specs.Deleted.{AreDeleted, IsDeletedBy, IsOneDeleted, d
 use Rattle.vr_ams_define.specs.Failures.{first_failure}
 use Rattle.vr_ams_define.specs.Outcomes.{IsDefined, IsDefinedBy}
 use Rattle.vr_ams_define.specs.Runs.{is_plain_cluster}
+use Rattle.vr_ams_print.specs.Outcomes.{IsAsked as IsSourceAsked, IsPrintedBy, IsRefused}
+use Rattle.vr_ams_print.specs.Outcomes.{IsVerifiedBy, counting, reading}
+use Rattle.vr_ams_print.specs.Printed.{has_keys}
+use Rattle.vr_ams_print.specs.Sources.{source_kind}
 use Rattle.vr_ams_run.specs.ListedAll.{CountRunWhere, CountsRun, IsAsked, IsListedAll}
 use Rattle.vr_ams_run.specs.ListedAll.{is_counted}
-use Rattle.vr_ams_run.specs.Running.{AlterRun, CommandRun, DefineRun, IsDeletedAs, IsQuiet}
-use Rattle.vr_ams_run.specs.Running.{IsReport, ListRun, NodeRunWhere, NodesRun, QuietRun, Stage}
+use Rattle.vr_ams_run.specs.Running.{AlterRun, CommandRun, DefineRun, IsDeletedAs, IsPrintedAs}
+use Rattle.vr_ams_run.specs.Running.{IsQuiet, IsReport, IsVerifiedAs, ListRun, NodeRunWhere}
+use Rattle.vr_ams_run.specs.Running.{NodesRun, QuietRun, Stage}
 use Rattle.vr_ams_run.specs.Running.{command_run, first_stage, list_run, passed, reaches}
 use Rattle.vr_job.specs.Reported.{VolumeAt, shape_at, shown_at}
 use Rattle.vr_job.proofs.EachSeen.{EachHeld, each_seen, held-at, held-set, seen-at, seen-count}
@@ -462,6 +469,96 @@ module _ {V : Type 0} (shape_in : V → Geometry) (shown_in : V → Shown)
       failure first_is = ap (λ (them : List Shown). failure_of them names)
           (sym (shown-seen openings old)) ∙ first_is
 
+  -- ---- PRINT and VERIFY
+
+  refused-seen : (openings : ℕ → State) (keyed : Bool) (name : List ℕ) (old new : List V)
+      (outcome : Outcome) → AreHeld openings old
+      → IsRefused shown_in keyed name old new outcome
+      → Keeps openings new (IsRefused shown_at keyed name (all_seen openings old)
+      (all_seen openings new) outcome)
+  refused-seen openings keyed name old new outcome held is = (
+    subst (AreHeld openings) (sym is.same) held,
+    record {
+      failure = is.failure;
+      first_is = over-seen openings old (λ (them : List Shown).
+          source_kind keyed them name ≡ Err is.failure) is.first_is;
+      outcome_is = is.outcome_is;
+      same = ap (all_seen openings) is.same;
+    },
+  )
+
+  source-seen : (openings : ℕ → State) (line : ℕ) (keyed : Bool) (name : List ℕ) (kind : Kind)
+      (exchange : CatEntry → Exchange) (old new : List V) → AreHeld openings old
+      → IsSourceAsked shown_in answers line keyed name kind exchange old new
+      → Keeps openings new (IsSourceAsked shown_at answers_as line keyed name kind exchange
+      (all_seen openings old) (all_seen openings new))
+  source-seen openings line keyed name kind exchange old new held is =
+      let here = held-at Held openings old is.place is.before held is.before_is in
+      let then = answer (openings is.place) is.before line (exchange is.entry) is.after here
+      is.answered in (
+        subst (AreHeld openings) (sym is.others)
+            (held-set Held openings old is.place is.after held then.0),
+        record {
+          kind_is = over-seen openings old (λ (them : List Shown).
+              source_kind keyed them name ≡ Ok kind) is.kind_is;
+          place = is.place;
+          place_is = over-seen openings old (λ (them : List Shown).
+              place_of them name ≡ Some is.place) is.place_is;
+          entry = is.entry;
+          entry_is = over-seen openings old (λ (them : List Shown).
+              entry_at them is.place name ≡ Some is.entry) is.entry_is;
+          before = seen_as (openings is.place) is.before;
+          before_is = seen-at seen_as openings old is.place is.before is.before_is;
+          after = seen_as (openings is.place) is.after;
+          answered = then.1;
+          others = ap (all_seen openings) is.others
+              ∙ seen-set seen_as openings old is.place is.after;
+        },
+      )
+
+  print-by : (openings : ℕ → State) (line : ℕ) (command : PrintCommand) (old new : List V)
+      (outcome : Outcome) → AreHeld openings old
+      → IsPrintedBy shown_in answers line command old new outcome
+      → Keeps openings new (IsPrintedBy shown_at answers_as line command (all_seen openings old)
+      (all_seen openings new) outcome)
+  print-by openings line command old new outcome held is = ⊎_elim
+      (λ refused.
+      let then = refused-seen openings (has_keys command.from command.to) command.source old new
+      outcome held refused in (then.0, inl then.1))
+      (λ given.
+      let then = source-seen openings line (has_keys command.from command.to) command.source
+      given.kind (reading command given.records given.answer) old new held given.asked in (
+        then.0,
+        inr (record {
+          kind = given.kind;
+          records = given.records;
+          answer = given.answer;
+          asked = then.1;
+          outcome_is = given.outcome_is;
+        }),
+      )) is
+
+  verify-by : (openings : ℕ → State) (line : ℕ) (name : List ℕ) (old new : List V)
+      (outcome : Outcome) → AreHeld openings old
+      → IsVerifiedBy shown_in answers line name old new outcome
+      → Keeps openings new (IsVerifiedBy shown_at answers_as line name (all_seen openings old)
+      (all_seen openings new) outcome)
+  verify-by openings line name old new outcome held is = ⊎_elim
+      (λ refused.
+      let then = refused-seen openings false name old new outcome held refused in
+      (then.0, inl then.1))
+      (λ given.
+      let then = source-seen openings line false name given.kind (counting given.answer) old new
+      held given.asked in (
+        then.0,
+        inr (record {
+          kind = given.kind;
+          answer = given.answer;
+          asked = then.1;
+          outcome_is = given.outcome_is;
+        }),
+      )) is
+
   -- ---- commands
 
   abbrev stage_seen : (ℕ → State) → Stage V → Stage VolumeAt
@@ -521,6 +618,22 @@ module _ {V : Type 0} (shape_in : V → Geometry) (shown_in : V → Shown)
       is.outcome held is.deleted in
       (then.0, record { outcome = is.outcome; deleted = then.1; going = is.going })
 
+  printing-seen : (openings : ℕ → State) (line : ℕ) (command : PrintCommand) (old new : Stage V)
+      → AreHeld openings old.volumes → IsPrintedAs shown_in answers line command old new
+      → Keeps openings new.volumes (IsPrintedAs shown_at answers_as line command
+      (stage_seen openings old) (stage_seen openings new))
+  printing-seen openings line command old new held is =
+      let then = print-by openings line command old.volumes new.volumes is.outcome held is.printed
+      in (then.0, record { outcome = is.outcome; printed = then.1; going = is.going })
+
+  verifying-seen : (openings : ℕ → State) (line : ℕ) (name : List ℕ) (old new : Stage V)
+      → AreHeld openings old.volumes → IsVerifiedAs shown_in answers line name old new
+      → Keeps openings new.volumes (IsVerifiedAs shown_at answers_as line name
+      (stage_seen openings old) (stage_seen openings new))
+  verifying-seen openings line name old new held is =
+      let then = verify-by openings line name old.volumes new.volumes is.outcome held is.verified
+      in (then.0, record { outcome = is.outcome; verified = then.1; going = is.going })
+
   listing-seen : (openings : ℕ → State) (all : Bool) (line : ℕ) (command : ListCommand)
       (old new : Stage V) → AreHeld openings old.volumes
       → ListRun shown_in answers all line command old new
@@ -552,11 +665,11 @@ module _ {V : Type 0} (shape_in : V → Geometry) (shown_in : V → Shown)
   command-seen openings line (commands.BuildIndex command) old new held is =
       quiet-seen openings line (commands.BuildIndex command) old new held is
   command-seen openings line (commands.Print command) old new held is =
-      quiet-seen openings line (commands.Print command) old new held is
+      printing-seen openings line command old new held is
   command-seen openings line (commands.ListCatalog command) old new held is =
       listing-seen openings command.all line command old new held is
   command-seen openings line (commands.Verify name) old new held is =
-      quiet-seen openings line (commands.Verify name) old new held is
+      verifying-seen openings line name old new held is
   command-seen openings line (commands.Examine name) old new held is =
       quiet-seen openings line (commands.Examine name) old new held is
   command-seen openings line (commands.If condition) old new held is =

@@ -26,7 +26,7 @@ use Rattle.vr_event.specs.Nearer.{EntersSplits}
 use Rattle.vr_event.specs.Volume.{IsHeld, IsWhole, VolumeNow}
 use Rattle.vr_volume.specs.Crashes.{RecoversTo}
 use Rattle.vr_job.specs.Catalogs.{catalog_after, catalog_told}
-use Rattle.vr_job.specs.Committed.{KeepTheCatalog, KeepsCatalog, MayChange}
+use Rattle.vr_job.specs.Committed.{KeepTheCatalog, KeepsCatalog, MayChange, PutsServed}
 use Rattle.vr_job.specs.Crash.{IsLeftBy}
 use Rattle.vr_job.specs.Events.{HasStopped, IsEvent, IsLeftWhile, IsOfEvents, KeepsAtRest}
 use Rattle.vr_job.specs.Events.{LeavesAtRest, OwnsAtRest}
@@ -53,6 +53,7 @@ pub still-one : (geometry : Geometry) (state : State) (entry : Entry) → IsStil
     → KeepsCatalog geometry state entry
 still-one geometry state entry still = record {
   may = subst (AllByRecursion (MayChange state entry.unit)) (sym (still.changes geometry state)) tt;
+  served = subst (AllByRecursion (PutsServed geometry)) (sym (still.changes geometry state)) tt;
   makes = ap entries_in (catalog-changed geometry state entry.unit entry.stamp entry.what
       ∙ ap (λ (changes : List Change). changed state.contents changes 0)
       (still.changes geometry state))

@@ -21,7 +21,7 @@ use Rattle.vr_job_ends.specs.declared.job_end.End.{End}
 use Rattle.vr_job_ends.specs.declared.job_end.End.TheVariants.{Ran}
 use Rattle.vr_record_file.specs.Now.{state_now}
 use Rattle.vr_event.specs.Opening.{owned_in}
-use Rattle.vr_event.specs.Volume.{IsWhole, VolumeNow}
+use Rattle.vr_event.specs.Volume.{AreServedClusters, IsWhole, VolumeNow}
 use Rattle.vr_mount.specs.Areas.{AreOwners}
 use Rattle.vr_store.proofs.CallerLemmas.{stored-left}
 use Rattle.vr_recover.specs.Opening.{HasContents, IsLeftOpening}
@@ -227,6 +227,8 @@ module _ {D : Type 0} (tells : Bool) (seen : D → Seen) (faults : D → Faults)
       ascends = had.0.ascends;
       others = had.0.others;
       catalog_is = held.catalog_is;
+      served = subst (λ (g : Geometry). AreServedClusters g volume.file.catalog)
+          (sym same-geometry) opens_so.whole.served;
       legal = run.held.file.legal;
       keeps_catalog = run.keeps_catalog;
       moments = guards-keeps tells old (seen end.blocks) (seen device) MayLeave each-moment
@@ -237,6 +239,9 @@ module _ {D : Type 0} (tells : Bool) (seen : D → Seen) (faults : D → Faults)
       quiet = opens_so.quiet;
       opens = had.1;
       events = run.events;
+      leaves = guards-keeps tells (seen volume.blocks) (seen end.blocks) (seen device)
+          (IsLeftBy end.file.geometry end.number opening end.file.entries) run.left
+          ended.closed.keeps told;
       closes = ended.closed.keeps;
       goes = λ same. sym run.held.file.now.stopped ∙ ended-going same;
       unfailed = λ goes. ended-unfailed (run.held.file.now.stopped ∙ goes);

@@ -1,22 +1,25 @@
 -- How a volume answers to a command of IDCAMS, and when: what an event of vr_event promises of it.
 -- The rules are this project's own.
-use Rattle.std.specs.Prelude.{◌≡◌, ℕ, Bool, IsTrue, None, Ok, Option}
+use Rattle.std.specs.Prelude.{◌≡◌, ◌-◌, ◌^◌, ℕ, Bool, IsTrue, List, None, Ok, Option}
 use Rattle.vr_types.specs.Faults.{Faults}
 use Rattle.vr_types.specs.Seen.{Seen}
 use Rattle.vr_catalog.specs.declared.entry.CatEntry.{CatEntry}
 use Rattle.vr_ams_define.specs.Answers.{Exchange}
-use Rattle.vr_ams_define.specs.Answers.Exchange.{Changing, Counting, Defining}
+use Rattle.vr_ams_define.specs.Answers.Exchange.{Changing, Counting, Defining, Reading}
 use Rattle.vr_ams_define.specs.declared.answer.Changed.{Changed}
 use Rattle.vr_ams_define.specs.declared.answer.Changed.TheVariants as changes
 use Rattle.vr_ams_define.specs.declared.answer.Counted.{Counted}
 use Rattle.vr_ams_define.specs.declared.answer.Counted.TheVariants as numbers
 use Rattle.vr_ams_define.specs.declared.answer.Defined.{Defined}
 use Rattle.vr_ams_define.specs.declared.answer.Defined.TheVariants as answers
+use Rattle.vr_ams_define.specs.declared.answer.ReadBack.{ReadBack}
+use Rattle.vr_ams_define.specs.declared.answer.ReadBack.TheVariants as reads
 use Rattle.vr_event.specs.Defining.{HasDefineFaults, utility_unit}
 use Rattle.vr_event.specs.DefineSteps.{HasCome, LacksRoomWhere}
 use Rattle.vr_event.specs.Counts.{AreCounts, CountedBy as CountedFor, HasCountFaults}
 use Rattle.vr_event.specs.EntryChange.{HasChangeFaults}
 use Rattle.vr_event.specs.EntryChangeSteps.{HasChangeCome}
+use Rattle.vr_event.specs.Reading.{HasReadFaults, ReadBy as ReadFor, first_records}
 use Rattle.vr_event.specs.Volume.{IsHeld, VolumeNow}
 use Rattle.vr_event.specs.declared.counts.Count.{Count}
 use Rattle.vr_event.specs.declared.counts.Count.TheVariants as counts
@@ -24,8 +27,11 @@ use Rattle.vr_event.specs.declared.define.Define.{Define}
 use Rattle.vr_event.specs.declared.define.Define.TheVariants as events
 use Rattle.vr_event.specs.declared.entry_change.EntryChange.{EntryChange}
 use Rattle.vr_event.specs.declared.entry_change.EntryChange.TheVariants as changing
+use Rattle.vr_event.specs.declared.reading.ReadThrough.{ReadThrough}
+use Rattle.vr_event.specs.declared.reading.ReadThrough.TheVariants as readings
 use Rattle.vr_history.specs.State.{State}
 use Rattle.vr_record_file.specs.Now.{FileNow, state_now}
+use Rattle.vr_trace.specs.Visitors.{Visited}
 use Rattle.vr_job.specs.Going.{WentOn}
 use Rattle.vr_job.specs.Reported.{numbers_of}
 use Rattle.vr_job.specs.Serving.{LeavesLess, StaysServing}
@@ -84,6 +90,33 @@ pub record IsCountedIn {B : Type 0} (tells : Bool) (seen : B → Seen) (faults :
       → IsCountOf event entry opening ready.file
   pub cause : HasCountFaults (faults ready.blocks) (faults new.blocks) (Ok event)
 
+-- what an event that read a cluster through came to, as its command has it
+abbrev pub read_back_of : ReadThrough → ReadBack
+read_back_of readings.Done = reads.Done
+read_back_of (readings.Fault fault) = reads.Fault fault
+
+-- what an event handed over are the records of the state that the history gives, from the place on
+abbrev pub IsReadOf : ReadThrough → CatEntry → Option (List ℕ) → List Visited → State → FileNow
+    → Type 0
+IsReadOf readings.Done entry from records opening file = records
+    ≡ first_records (2 ^ 64 - 1) from ((state_now opening file).contents entry.part.0)
+IsReadOf (readings.Fault fault) entry from records opening file = Unit {0}
+
+-- Reading through: so it was made ready, and read in one event.
+pub record IsReadIn {B : Type 0} (tells : Bool) (seen : B → Seen) (faults : B → Faults)
+    (old : VolumeNow B) (line : ℕ) (entry : CatEntry) (from : Option (List ℕ))
+    (records : List Visited) (answer : ReadBack) (new : VolumeNow B) : Type 0 where
+  pub ready : VolumeNow B
+  pub stays : StaysServing tells seen faults old ready
+  pub went : WentOn tells seen faults ready new
+  pub after : ℕ
+  pub event : ReadThrough
+  pub answer_is : answer ≡ read_back_of event
+  pub entered : ReadFor event after (utility_unit ready.file) line ready.file new.file
+  pub found : IsTrue tells → (opening : State) → IsHeld seen opening ready
+      → IsReadOf event entry from records opening ready.file
+  pub cause : HasReadFaults (faults ready.blocks) (faults new.blocks) (Ok event)
+
 -- what an event of a change came to, as its command has it
 abbrev pub changed_of : EntryChange → Changed
 changed_of changing.Done = changes.Done
@@ -116,3 +149,5 @@ IsAnswered tells seen faults old line (Counting entry counted) new =
     IsCountedIn tells seen faults old line entry counted new
 IsAnswered tells seen faults old line (Changing entry to answer) new =
     IsChangedIn tells seen faults old line entry to answer new
+IsAnswered tells seen faults old line (Reading entry from records answer) new =
+    IsReadIn tells seen faults old line entry from records answer new

@@ -1,8 +1,9 @@
 -- What is committed of a volume, record by record, as its history says it. The rules are this
 -- project's own.
 use Rattle.std.specs.Prelude.{◌≡◌, ◌==◌, ◌⊎◌, ℕ, true, false, List, [], ◌∷◌, ◌++◌, Option, Some, None}
+use Rattle.std.specs.Prelude.{IfSome, option_and_then}
 use Rattle.std.specs.List.{AllByRecursion}
-use Rattle.vr_types.specs.Content.{Content, Item, Standing, Withdrawn, item_at}
+use Rattle.vr_types.specs.Content.{Content, Item, Standing, Withdrawn, item_at, record_of}
 use Rattle.vr_types.specs.Image.{Image}
 use Rattle.vr_types.specs.declared.geometry.Geometry.{Geometry}
 use Rattle.vr_types.specs.declared.unit.Unit.{Unit as UnitOfRecovery}
@@ -17,6 +18,7 @@ use Rattle.vr_history.specs.Opened.{catalog_of}
 use Rattle.vr_history.specs.State.{State}
 use Rattle.vr_history.specs.Step.{place_changes, state_after}
 use Rattle.vr_history.specs.declared.entry.Entry.{Entry}
+use Rattle.vr_event.specs.Volume.{IsServedCluster}
 use Rattle.vr_volume.specs.Volume.{Recovers}
 use Rattle.vr_job.specs.Catalogs.{catalog_after, catalog_by}
 use Rattle.vr_job.specs.Crash.{AreInCommit, IsCommit, as_done}
@@ -62,10 +64,23 @@ abbrev pub MayChange : State → UnitOfRecovery → Change → Type 0
 MayChange state unit change = IsOffCatalog change
     ⊎ ((unit.deck ≡ 0) × (IsAddition state change ⊎ IsReplacement state change))
 
--- So does an entry, and the catalog after it is what the entry makes of the one before: so what the
--- history makes of the catalog of its opening is the catalog of its state.
+-- what a record spells that is an item of the catalog is a cluster that is served, if it spells an
+-- entry
+abbrev pub IsServedItem : Geometry → Item → Type 0
+IsServedItem geometry item =
+    IfSome (option_and_then entry_of (record_of item)) (IsServedCluster geometry)
+
+-- a change leaves nothing else in the catalog
+abbrev pub PutsServed : Geometry → Change → Type 0
+PutsServed geometry change = change.part ≡ 0 → IfSome change.new (IsServedItem geometry)
+
+-- So does an entry, and what it leaves there is of clusters that are served; and the catalog after
+-- it is what the entry makes of the one before: so what the history makes of the catalog of its
+-- opening is the catalog of its state.
 pub record KeepsCatalog (geometry : Geometry) (state : State) (entry : Entry) : Type 0 where
   pub may : AllByRecursion (MayChange state entry.unit)
+      (place_changes geometry state entry.unit entry.what)
+  pub served : AllByRecursion (PutsServed geometry)
       (place_changes geometry state entry.unit entry.what)
   pub makes : catalog_of (state_after geometry state entry)
       ≡ catalog_after entry (catalog_of state)

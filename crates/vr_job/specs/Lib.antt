@@ -16,6 +16,7 @@ pub mod Answering
 pub mod Opened
 pub mod OpenEnds
 pub mod Formats
+pub mod OpensAgain
 pub mod VolumeRun
 pub mod Shelf
 pub mod ShelfRun

@@ -43,7 +43,8 @@ opened_now part = record {
 }
 
 -- Whatever the blocks have: what was opened is that of a set volume, its catalog has clusters alone,
--- and each area that is owned is so by a part that the catalog lays.
+-- each with records that have room in an interval, and each area that is owned is so by a part that
+-- the catalog lays.
 pub record IsReady (geometry : Geometry) (catalog : List CatEntry) (parts : List PartNow)
     (log : LogNow) (space : List (Option PartNo)) (now : Seen) : Type 0 where
   pub set : IsSet (opened_store log parts space) now
@@ -51,7 +52,7 @@ pub record IsReady (geometry : Geometry) (catalog : List CatEntry) (parts : List
   pub laid : (part : ℕ) → shape_among parts part ≡ shape_in geometry catalog part
   pub records : log.records ≡ []
   pub sound : log.broken ≡ false
-  pub clusters : AreServedClusters catalog
+  pub clusters : AreServedClusters geometry catalog
   pub owned : AllByRecursion (λ (area : OwnedArea). has_part (parts_laid catalog) area.part ≡ true)
       (owned_in space)
 

@@ -1,6 +1,6 @@
 -- What the steps of IDCAMS of a job report, by what the volumes had as each of them ran. The rules
 -- are this project's own.
-use Rattle.std.specs.Prelude.{◌≡◌, ◌≢◌, ◌≤◌, ◌+◌, ◌∷◌, ◌++◌, ℕ, All, Bool, IsTrue, List, [], None}
+use Rattle.std.specs.Prelude.{◌≡◌, ◌≢◌, ◌≤◌, ◌+◌, ◌-◌, ◌^◌, ◌∷◌, ◌++◌, ℕ, All, Bool, IsTrue, List, [], None}
 use Rattle.std.specs.Prelude.{Option, Some, drop, length, slice_get, take}
 use Rattle.std.specs.Option.{option_map}
 use Rattle.vr_types.specs.LogSpace.{IsLogFull, log_size}
@@ -16,10 +16,11 @@ use Rattle.vr_record_file.specs.Defining.{entry_name, need_to_define}
 use Rattle.vr_event.specs.Counts.{AreCounts}
 use Rattle.vr_event.specs.Defining.{entry_place}
 use Rattle.vr_event.specs.EntryChange.{log_for_change}
+use Rattle.vr_event.specs.Reading.{first_records}
 use Rattle.vr_event.specs.declared.counts.Counts.{Counts}
 use Rattle.vr_trace.specs.declared.statistics.Statistics.{Statistics}
-use Rattle.vr_ams_define.specs.Answers.{Exchange, IsShownAfter, IsShownCounted}
-use Rattle.vr_ams_define.specs.Answers.Exchange.{Changing, Counting, Defining}
+use Rattle.vr_ams_define.specs.Answers.{Exchange, IsShownAfter, IsShownCounted, IsShownRead}
+use Rattle.vr_ams_define.specs.Answers.Exchange.{Changing, Counting, Defining, Reading}
 use Rattle.vr_ams_define.specs.EntryChanges.{IsShownChanged}
 use Rattle.vr_ams_define.specs.declared.answer.Changed.{Changed}
 use Rattle.vr_ams_define.specs.declared.answer.Changed.TheVariants as changes
@@ -28,10 +29,13 @@ use Rattle.vr_ams_define.specs.declared.answer.Counted.TheVariants as counts
 use Rattle.vr_ams_define.specs.declared.answer.Defined.{Defined}
 use Rattle.vr_ams_define.specs.declared.answer.Defined.TheVariants.{Again, Done, Fault, Full, Held}
 use Rattle.vr_ams_define.specs.declared.answer.Defined.TheVariants.{NoArea, NoRoom}
+use Rattle.vr_ams_define.specs.declared.answer.ReadBack.{ReadBack}
+use Rattle.vr_ams_define.specs.declared.answer.ReadBack.TheVariants as reads
 use Rattle.vr_ams_define.specs.Grown.{IsOfCommand}
 use Rattle.vr_ams_define.specs.NewCluster.{with_area}
 use Rattle.vr_ams_run.specs.Running.{IsReport}
 use Rattle.vr_trace.specs.Shown.{Shown}
+use Rattle.vr_trace.specs.Visitors.{Visited}
 use Rattle.vr_types.specs.declared.fault.DeviceFault.TheVariants.{Read, Write}
 use Rattle.vr_types.specs.declared.geometry.Geometry.{Geometry}
 use Rattle.vr_catalog.specs.Record.{spelling}
@@ -114,6 +118,12 @@ CountedBy (counts.Done numbers) made = made ≡ []
 CountedBy (counts.Fault Read) made = made ≡ []
 CountedBy (counts.Fault Write) made = IsStop made
 
+-- So does reading through.
+abbrev pub ReadBy : ReadBack → List Entry → Type 0
+ReadBy reads.Done made = made ≡ []
+ReadBy (reads.Fault Read) made = made ≡ []
+ReadBy (reads.Fault Write) made = IsStop made
+
 -- The change of the entry is entered where it is done, stages of the catalog where it is to be asked
 -- again, a stop where a write failed, and nothing where it is refused.
 abbrev pub record_of : Option CatEntry → Option (List ℕ)
@@ -132,6 +142,7 @@ abbrev pub MadeBy : Exchange → List Entry → Type 0
 MadeBy (Defining entry answer) made = DefinedBy answer entry made
 MadeBy (Counting entry counted) made = CountedBy counted made
 MadeBy (Changing entry to answer) made = ChangedBy answer entry to made
+MadeBy (Reading entry from records answer) made = ReadBy answer made
 
 -- ---- and by the state that its history gives
 
@@ -172,6 +183,12 @@ CountCause (counts.Done numbers) entry at = (counts : Counts)
     × AreCounts (state_at at) at.entries entry counts × (numbers ≡ numbers_of counts)
 CountCause (counts.Fault fault) entry at = Unit {0}
 
+-- The records are those of the state, from the place on, as far as a number of 64 bits counts them.
+abbrev pub ReadCause : ReadBack → CatEntry → Option (List ℕ) → List Visited → VolumeAt → Type 0
+ReadCause reads.Done entry from records at =
+    records ≡ first_records (2 ^ 64 - 1) from ((state_at at).contents entry.part.0)
+ReadCause (reads.Fault fault) entry from records at = Unit {0}
+
 -- Why a change is refused: a unit of recovery is live; a lock is on the place of the record; the log has
 -- no room for the change.
 abbrev pub ChangeCause : Changed → CatEntry → VolumeAt → Type 0
@@ -186,12 +203,14 @@ abbrev pub CauseBy : Exchange → VolumeAt → Type 0
 CauseBy (Defining entry answer) at = DefineCause answer entry at
 CauseBy (Counting entry counted) at = CountCause counted entry at
 CauseBy (Changing entry to answer) at = ChangeCause answer entry at
+CauseBy (Reading entry from records answer) at = ReadCause answer entry from records at
 
 -- what a volume shows then
 abbrev pub IsShownBy : Exchange → Shown → Shown → Type 0
 IsShownBy (Defining entry answer) old new = IsShownAfter answer entry old new
 IsShownBy (Counting entry counted) old new = IsShownCounted counted old new
 IsShownBy (Changing entry to answer) old new = IsShownChanged answer entry to old new
+IsShownBy (Reading entry from records answer) old new = IsShownRead answer old new
 
 -- What it enters is the utilities' own, on the line of the command; it shows what its answer leaves,
 -- and has the shape and the opening that it had; and where the device reports its contents, the

@@ -1,6 +1,7 @@
 //! Laws of histories and of what a run leaves, each the contract of a function that does nothing.
 ghost use Rattle.std.specs.Prelude.{◌≡◌, ◌≢◌, ◌≤◌, ◌⊎◌, [], ◌++◌, ℕ, Contains, List, None};
 ghost use Rattle.vr_types.specs.Content.{Content};
+ghost use Rattle.vr_types.specs.Geometry.{IsAllowed};
 ghost use Rattle.vr_types.specs.Image.{Image};
 ghost use Rattle.vr_types.specs.Moments.{Guards};
 ghost use Rattle.vr_types.specs.Position.{unheld};
@@ -8,6 +9,8 @@ ghost use Rattle.vr_types.specs.Seen.{Left};
 ghost use Rattle.vr_types.specs.declared.geometry.Geometry.{Geometry};
 ghost use Rattle.vr_types.specs.declared.unit.Unit.{Unit as UnitOfRecovery};
 ghost use Rattle.vr_catalog.specs.declared.entry.CatEntry.{CatEntry};
+ghost use Rattle.vr_format.specs.Fit.{IsFormattedWith};
+ghost use Rattle.vr_format.specs.Formatted.{IsFormatted, first_entries};
 ghost use Rattle.vr_history.specs.Addresses.{IsEntrySequenced, addresses_given};
 ghost use Rattle.vr_history.specs.Legal.{state_of};
 ghost use Rattle.vr_history.specs.Merged.{Numbered};
@@ -23,6 +26,7 @@ ghost use Rattle.vr_trace.specs.Growing.{IsEntered};
 ghost use Rattle.vr_worker.specs.Steps.{AreGapless};
 ghost use Rattle.vr_job.specs.Committed.{HasCommitted, IsCommittedBy, IsCommittedWhile, StaysIn};
 ghost use Rattle.vr_job.specs.Moved.{AreElsewhere, Ends, IsOn};
+ghost use Rattle.vr_job.specs.OpensAgain.{OpensAgain};
 ghost use Rattle.vr_job.specs.VolumeRun.{IsRun, opening_of};
 
 use vr_device::BlockDevice;
@@ -56,6 +60,29 @@ pub fn leaves_what_is_committed<D: BlockDevice>()
         ≢ None) → (image : Image) → Left (D.seen new) image
         → IsCommittedWhile run.geometry number catalog (opening_of run.contents run.owners)
         (run.stopped stops).before (run.stopped stops).made image }
+{}
+
+/// Each image of a run opens again: at each moment from the end of its opening on, to the run's end
+/// and after it, an opening refuses each image that a crash may leave for nothing that it has: only
+/// where memory runs out or the device fails (`run`). While a volume is opened an image is such a
+/// one, too, or one that a crash left before (`opening`). And so is each image of a new volume
+/// (`formatted`), and of one that was formatted with entries (`formatted_with`).
+pub fn each_image_opens<D: BlockDevice>()
+    ensures run { (number : ℕ) (shape : Geometry) (catalog : List CatEntry) (end : End)
+        (entries : List Entry) (old ended new : D)
+        → (run : IsRun D.tells D.seen D.faults number shape catalog end entries old ended new)
+        → Guards (D.seen run.opened) (D.seen new) (OpensAgain D.seen run.geometry number) }
+    ensures opening { (number : ℕ) (shape : Geometry) (catalog : List CatEntry) (end : End)
+        (entries : List Entry) (old ended new : D)
+        → (run : IsRun D.tells D.seen D.faults number shape catalog end entries old ended new)
+        → Guards (D.seen old) (D.seen run.opened) (λ image. Left (D.seen old) image
+        ⊎ OpensAgain D.seen run.geometry number image) }
+    ensures formatted { (geometry : Geometry) (number : ℕ) (image : Image) → IsAllowed geometry
+        → IsFormatted geometry number (first_entries number) image
+        → OpensAgain D.seen geometry number image }
+    ensures formatted_with { (geometry : Geometry) (number : ℕ) (entries : List CatEntry)
+        (image : Image) → IsAllowed geometry → IsFormattedWith geometry number entries image
+        → OpensAgain D.seen geometry number image }
 {}
 
 /// An entry-sequenced address that was given is never given again, once the unit that added its

@@ -20,13 +20,14 @@ mod job;
 mod laws;
 mod numbering;
 mod opening;
+mod reading;
 mod serving;
 mod shelf_run;
 mod volume_run;
 
 pub use job::run_job;
 pub use laws::{
-    each_stamp_is_taken, leaves_what_is_committed, no_address_is_given_again,
+    each_image_opens, each_stamp_is_taken, leaves_what_is_committed, no_address_is_given_again,
     no_request_moves_another_file,
 };
 pub use opening::open;

@@ -1,10 +1,10 @@
 //! A volume that the threads of decks share, and the utilities between them: one event of a
-//! request, under the volume's latch, or of a definition or a count.
+//! request, under the volume's latch, or of a definition, a change, a count or a reading.
 ghost use Rattle.std.specs.Prelude.{◌≡◌, ◌<◌, ◌≤◌, ◌==◌, ◌+◌, ◌-◌, ◌^◌, [], IsTrue, OnErr, OnOk};
 ghost use Rattle.std.specs.Prelude.{false, true, Contains, IfOk, IfSome, IsErr, None, Ok, is_some};
 ghost use Rattle.std.specs.Option.{option_copied};
 ghost use Rattle.vr_catalog.specs.declared.entry.EntryKind.TheVariants.{Cluster};
-ghost use Rattle.vr_ams_define.specs.Answers.{IsShownAfter, IsShownCounted};
+ghost use Rattle.vr_ams_define.specs.Answers.{HasRead, IsShownAfter, IsShownCounted, IsShownRead};
 ghost use Rattle.vr_ams_define.specs.Answers.Exchange.{Changing, Counting, Defining};
 ghost use Rattle.vr_ams_define.specs.EntryChanges.{IsAltered, IsClusterThere, IsShownChanged};
 ghost use Rattle.vr_ams_define.specs.Grown.{HasEntered as HasEnteredOn};
@@ -26,9 +26,10 @@ ghost use Rattle.vr_job.specs.Serving.{shown_of, unit_of};
 
 use crate::changing::change;
 use crate::counting::count;
+use crate::reading::read;
 use std::alloc::Global;
 use std::marker::Model;
-use vr_ams_define::{Changed, Counted, Defined, OwnedVolume};
+use vr_ams_define::{Changed, Counted, Defined, OwnedVolume, ReadBack};
 use vr_catalog::{CatEntry, Catalog};
 use vr_device::BlockDevice;
 use vr_event::{Act, Define, Volume};
@@ -37,8 +38,8 @@ use vr_part::AnyPart;
 use vr_recent::Recent;
 use vr_space::Part;
 use vr_start::Start;
-use vr_trace::{RunNo, ShownVolume};
-use vr_types::{Blocks, Geometry, OutOfMemory, SharedRequest, Unit};
+use vr_trace::{RecordVisitor, RunNo, ShownVolume};
+use vr_types::{Blocks, Geometry, OutOfMemory, Place, SharedRequest, Unit};
 use vr_worker::{Cataloged, Served};
 
 /// The least stamp with which no event begins.
@@ -393,6 +394,38 @@ impl<D: BlockDevice> OwnedVolume for Serving<D> {
         ensures geometry { self.new.file.geometry ≡ self.old.file.geometry }
     {
         count(self.alloc, &mut self.volume, line, entry, after)
+    }
+
+    fn read<R: RecordVisitor>(
+        &mut self,
+        line: u32,
+        entry: &CatEntry,
+        from: Option<&Place>,
+        after: u64,
+        visitor: &mut R,
+    ) -> Result<ReadBack, RunNo>
+        requires going { is_some self.old.file.stopped ≡ false }
+        requires entry { Contains self.old.file.catalog entry.now }
+        requires cluster { entry.now.entry_kind ≡ Cluster }
+        ensures read { IfOk result (λ answer. HasRead (IsAnswered D.tells D.seen D.faults) R.after
+            R.done line entry.now (option_copied from.entry) self.old self.new visitor.old
+            visitor.new answer) }
+        ensures shown { IfOk result (λ answer. IsShownRead answer (shown_of self.old)
+            (shown_of self.new)) }
+        ensures refused { IsErr result → shown_of self.new ≡ shown_of self.old }
+        ensures entered { HasEnteredOn line after self.old.file.entries self.new.file.entries }
+        ensures goes { Follows D.tells D.seen D.faults self.old self.new }
+        ensures geometry { self.new.file.geometry ≡ self.old.file.geometry }
+    {
+        read(
+            self.alloc,
+            &mut self.volume,
+            line,
+            entry,
+            from,
+            after,
+            visitor,
+        )
     }
 
     fn change(

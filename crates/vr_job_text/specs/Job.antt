@@ -110,16 +110,16 @@ is_plain_cluster (Alternate related unique options) = false
 is_plain_cluster (Path related) = false
 
 -- the commands that are run: DEFINE of a cluster that isn't spanned, ALTER without NEWNAME, DELETE,
--- LISTCAT, and the modal commands IF and SET
+-- PRINT, LISTCAT, VERIFY, and the modal commands IF and SET
 abbrev pub is_run : Command → Bool
 is_run (Define define) = is_plain_cluster define.order.what
 is_run (Alter order) = not (is_some order.new_name)
 is_run (Delete delete) = true
 is_run (Repro repro) = false
 is_run (BuildIndex build) = false
-is_run (Print print) = false
+is_run (Print print) = true
 is_run (ListCatalog list) = true
-is_run (Verify name) = false
+is_run (Verify name) = true
 is_run (Examine name) = false
 is_run (If condition) = true
 is_run (Set setting) = true

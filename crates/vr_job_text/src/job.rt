@@ -94,7 +94,7 @@ fn is_plain_cluster(what: &NewEntry) -> bool
 }
 
 /// Whether a command is run yet: DEFINE of a cluster that isn't spanned is, ALTER without NEWNAME,
-/// DELETE, LISTCAT, and IF and SET.
+/// DELETE, PRINT, LISTCAT, VERIFY, and IF and SET.
 fn is_run(command: &Command) -> bool
     ensures { result ≡ is_run command.now }
 {
@@ -102,11 +102,8 @@ fn is_run(command: &Command) -> bool
         Command::Define(define) => is_plain_cluster(&define.order.what),
         Command::Alter(order) => order.new_name.is_none(),
         Command::Delete(_) | Command::ListCatalog(_) | Command::If(_) | Command::Set(_) => true,
-        Command::Repro(_)
-        | Command::BuildIndex(_)
-        | Command::Print(_)
-        | Command::Verify(_)
-        | Command::Examine(_) => false,
+        Command::Print(_) | Command::Verify(_) => true,
+        Command::Repro(_) | Command::BuildIndex(_) | Command::Examine(_) => false,
     }
 }
 

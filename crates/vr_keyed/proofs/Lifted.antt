@@ -13,15 +13,16 @@ use Rattle.vr_types.specs.Seen.{Left, Seen}
 use Rattle.vr_types.specs.declared.unit.StageKind.{StageKind}
 use Rattle.vr_space.specs.Areas.{ChainKeepsRoom, KeyedChain, area_for, area_of}
 use Rattle.vr_space.specs.Areas.{areas_in, head_in, head_of, intervals_in}
-use Rattle.vr_space.specs.Keyed.{InArea, IsHead}
+use Rattle.vr_space.specs.Keyed.{InArea, IsHead, entry_in}
 use Rattle.vr_space.specs.Known.{Known}
 use Rattle.vr_space.specs.Left.{added_by, area_intervals}
 use Rattle.vr_space.specs.Met.{IsChainMet, IsMet, Met}
-use Rattle.vr_space.specs.Part.{HasRoomFor, IsQuiet}
+use Rattle.vr_space.specs.Part.{HasRoomFor, IsQuiet, SameStages}
 use Rattle.vr_space.specs.Part.{IsRecordOf, Just, KeyedShape, Knows, Nothing, Stands}
 use Rattle.vr_space.specs.Room.{Lengths}
 use Rattle.vr_space.specs.Moves.{IsPastClaim, MoveUnderWay}
-use Rattle.vr_space.specs.Split.{AreaSplit, MoveNow, SplitNow, move_stage, split_in}
+use Rattle.vr_space.specs.Split.{AreaSplit, MoveNow, SplitNow, first_stage, move_stage, split_in}
+use Rattle.vr_space.specs.Split.{stage_by, stage_in}
 use Rattle.vr_space.specs.UnderWay.{AreaUnderWay}
 use Rattle.vr_space.proofs.CallerLemmas.{ChangesArea, PutsInto, adds-puts, areas-apart, found-in}
 use Rattle.vr_space.proofs.CallerLemmas.{intervals-changed, intervals-most}
@@ -29,7 +30,8 @@ use Rattle.vr_space.proofs.CallerLemmas.{fits-of-area, lift-adds, lift-due, lift
 use Rattle.vr_space.proofs.CallerLemmas.{lift-rest, lift-room, lift-rooms, lift-same, lift-sets}
 use Rattle.vr_space.proofs.CallerLemmas.{lift-move, lift-under, record-of-area, rest-here}
 use Rattle.vr_space.proofs.CallerLemmas.{no-stage-of-area, resting-for, resting-stands, room-here}
-use Rattle.vr_space.proofs.CallerLemmas.{same-area, same-areas, same-known, under-here}
+use Rattle.vr_space.proofs.CallerLemmas.{other-blocks, same-area, same-areas, same-known}
+use Rattle.vr_space.proofs.CallerLemmas.{under-here}
 use Rattle.vr_split.specs.Splits.{AddsEntries}
 use Rattle.vr_split.specs.Switching.{IsStageDone, KeepsPart}
 use Rattle.vr_attach.specs.Areas.{AreasNow}
@@ -267,6 +269,29 @@ module _ (part : KeyedChain) (area : ℕ) (old new : Seen) (quiet : IsQuiet (Key
         absurd (differ it))))
         (cases_eq is.area area)
 
+    -- each place waits for the stage that it waited for, since the heads are as they were,
+    same-stages : (known : Known)
+        → head_in part new.cur area ≡ head_in part old.cur area
+        → SameStages (KeyedShape part) known known old.cur new.cur
+    same-stages known head at =
+        ap (stage_by part known.split known.move new.cur at)
+        (same-area part area old.cur new.cur set-changes at)
+        ∙ by_found (area_for part old.cur at)
+      where
+        head-is : (one : ℕ) → head_in part new.cur one ≡ head_in part old.cur one
+        head-is one = ⊎_elim
+            (λ same. subst (λ (it : ℕ). head_in part new.cur it ≡ head_in part old.cur it)
+            (sym same) head)
+            (λ differ. other-blocks part area old.cur new.cur set-changes one differ
+            (head_of part one) (omega arith, omega arith))
+            (cases_eq one area)
+
+        by_found : (found : Option ℕ) → stage_by part known.split known.move new.cur at found
+            ≡ stage_by part known.split known.move old.cur at found
+        by_found None = refl
+        by_found (Some one) = ap (λ (top : Block). first_stage (move_stage known.move one)
+            (stage_in (split_in known.split one) (entry_in top at))) (head-is one)
+
     -- and the record is set in the part as it is in the area, which waits for no split of it.
     pub is-set : (areas : List ℕ) (ends : List (List ℕ)) (count : ℕ) (split : Option AreaSplit)
         (move : Option MoveNow) (met mid after : List Met) (put : Option ℕ) (block : Block)
@@ -307,4 +332,5 @@ module _ (part : KeyedChain) (area : ℕ) (old new : Seen) (quiet : IsQuiet (Key
               knows.blocks.2 ∙ sym set-counts,
             );
           };
+          stages = same-stages (known_by (chain_with areas ends count) split move after) done.head;
         }

@@ -78,6 +78,7 @@ module _ (part : Keyed) (kept : Lengths) (split : Option SplitNow) (place : List
           (due-here-keeps tells told part a m call ready.rests.sound) done.due;
       rests = done.rests;
       way = done.way;
+      head = done.head ∙ still-head part tells told a m call;
     }
 
 -- ---- the order

@@ -369,6 +369,7 @@ module _ (part : Keyed) (kept : Lengths) (split : Option SplitNow) (place : List
         rests = rest-after part tells told a b met.number bytes ready.rests call other new-sound;
         way = way-puts tells told part split met.number bytes a b call ready.rests.sound left
             off-split ready.way;
+        head = head-still part tells told a b met.number bytes call other;
       }
 
       -- what was met is as it is now

@@ -10,7 +10,7 @@ use Rattle.vr_space.specs.Known.{Known}
 use Rattle.vr_space.specs.Moves.{OwnsInto}
 use Rattle.vr_space.specs.Owners.{Owners}
 use Rattle.vr_space.specs.Part.{AddsTo, CanSet, DueMore, DueMoreAt, HasRoom, InPart, IsQuiet}
-use Rattle.vr_space.specs.Part.{IsRecordOf, Just, KeyedShape, Knows, Nothing, SameRecords, SetsOne}
+use Rattle.vr_space.specs.Part.{IsRecordOf, Just, KeyedShape, Knows, Nothing, SameRecords, SameStages, SetsOne}
 use Rattle.vr_space.specs.Room.{Lengths}
 use Rattle.vr_space.specs.Split.{MoveNow}
 
@@ -41,6 +41,7 @@ pub record IsSetIn (part : KeyedChain) (known : Known) (put place : List ℕ)
   pub due : DueMoreAt (KeyedShape part) place put old new
   pub rests : (owners : Owners) → IsChainAtRest part owners old → IsChainAtRest part owners new
   pub knows : Knows (KeyedShape part) known new
+  pub stages : SameStages (KeyedShape part) known known old.cur new.cur
 
 -- A stage, whether it failed or not: nothing is added, each place has the record that it had, and
 -- there is room for what is kept, in the image of each moment and from then on. What a split of an

@@ -59,6 +59,7 @@ pub record IsSetNow (part : Keyed) (split : Option SplitNow) (put place : List �
   pub due : DueMoreAtHere part place put old new
   pub rests : IsKeyedAtRest part new
   pub way : AreaUnderWay part split new
+  pub head : block_at new.cur part.head ≡ block_at old.cur part.head
 
 -- the blocks that were put
 abbrev pub put_of : Option ℕ → List ℕ

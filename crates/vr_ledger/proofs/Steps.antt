@@ -23,9 +23,9 @@ use Rattle.vr_ledger.specs.Decks.{times}
 use Rattle.vr_ledger.specs.Entries.{HasGrown, IsOf, entries_of}
 use Rattle.vr_ledger.specs.Views.{IsAllOf, whole_in, part_in, part_joined, HasTurnIn}
 use Rattle.vr_ledger.specs.Views.{first_view, admitted, taken_in, grown, settled, handed_out}
-use Rattle.vr_ledger.specs.Views.{with_turn, without_turn, turn_of}
+use Rattle.vr_ledger.specs.Views.{with_turn, without_turn, turn_of, met, met_whole}
 use Rattle.vr_ledger.specs.Rule.{HasView, IsKeptAt, IsKept}
-use Rattle.vr_ledger.specs.Plays.{Admits, Grows, Looks, Settles}
+use Rattle.vr_ledger.specs.Plays.{Admits, Grows, IsIn, Looks, Refutes, Settles}
 use Rattle.vr_ledger.proofs.Counts.{times-cons, one_if-same, times-without_same}
 use Rattle.vr_ledger.proofs.Counts.{times-without_other}
 use Rattle.vr_ledger.proofs.OwnEntries.{entries_of-kept}
@@ -239,6 +239,25 @@ module _ (slots id count : ℕ) (view : View) (carried : List (ℕ × Said)) (is
         (refl, λ joined. (held.joined joined).0),
       )
 
+  -- the turn that is in isn't out
+  pub refutes : Allows IsKept slots id (view, carried) 0 (λ word. word)
+      (Refutes (step slots 0 0 0 none) (view, carried))
+  refutes state kept wide at small =
+      let held = held_now state kept at in (
+        view,
+        keeps,
+        tt,
+        subst (λ (seen : View). IsKept (record {
+          words = set state.words 0 (get_or state.words 0 0);
+          homes = state.homes;
+          views = set state.views id seen;
+        })) (sym is) (goes_on state id now held now (set state.words 0 (get_or state.words 0 0))
+            (counted_words state id now held (get_or state.words 0 0)
+            ∙ ap (λ (n : ℕ). n ∷ []) (found_word state id now held))
+            (λ known turn. turn) held.joined),
+        (refl, λ joined. (held.joined joined).1),
+      )
+
   -- the turn that is in ends
   pub settles : Allows IsKept slots id (view, carried) 0 (λ word. word)
       (Settles (step slots 0 0 0 none) (view, carried))
@@ -298,6 +317,19 @@ joins id other view turn is of_turn state kept at apart there =
         joined = λ is_in. (all.0, times-without_same known.deck now.out);
       },
     )
+
+-- a second seat that knows the whole doesn't come in: there is none
+pub meets : (id other : ℕ) (view twin : View) → IsOfLedger view → IsOfLedger twin
+    → Joins IsKept id view other twin (met view twin) Spent
+meets id other view twin is of_twin state kept at apart there =
+    let now : Whole = whole_in view in
+    let held = at_seat state id now kept (at ∙ ap some is) in
+    absurd (apart (alone_after state id now held other (met_whole now) (whole_in twin)
+    (there ∙ ap some of_twin)))
+
+-- since the turn that would be in then is out
+pub met-out : (now : Whole) → IsIn (met_whole now) → ⊥
+met-out now is_in = omega (arith, times-cons 0 0 now.out, one_if-same 0, is_in refl)
 
 -- a turn goes out
 pub splits : (id : ℕ) (view : View) → IsOfLedger view → HasTurnIn (whole_in view)

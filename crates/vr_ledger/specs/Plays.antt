@@ -10,6 +10,7 @@ use Rattle.vr_ledger.specs.declared.view.Said.TheVariants.{Enters, Grows as Grow
 use Rattle.vr_ledger.specs.declared.view.Whole.{Whole}
 use Rattle.vr_ledger.specs.declared.view.View.{View}
 use Rattle.vr_ledger.specs.declared.view.View.TheVariants.{OfLedger}
+use Rattle.vr_ledger.specs.Decks.{times}
 use Rattle.vr_ledger.specs.Views.{IsAllOf, HasTurnIn, part_joined, whole_in}
 use Rattle.vr_ledger.specs.Views.{admitted, grown, settled}
 
@@ -53,3 +54,11 @@ Looks made old found new = (new ≡ old) × TellsAll (whole_in old.0)
 abbrev pub Settles : Step Said → Me Said View → ℕ → Me Said View → Type 0
 Settles made old found new =
     (new ≡ (OfLedger (settled (whole_in old.0)), old.1)) × TellsAll (whole_in old.0)
+
+-- a turn that is in isn't out
+abbrev pub IsIn : Whole → Type 0
+IsIn now = HasTurnIn now → times (part_joined now).deck now.out ≡ 0
+
+-- the turn that is in shows that it isn't out, and nothing changes
+abbrev pub Refutes : Step Said → Me Said View → ℕ → Me Said View → Type 0
+Refutes made old found new = (new ≡ old) × IsIn (whole_in old.0)

@@ -87,3 +87,11 @@ without_turn view = OfLedger (handed_out (whole_in view))
 
 abbrev pub turn_of : View → View
 turn_of view = OfTurn (part_joined (whole_in view))
+
+-- What the ledger's seat would know once a second seat that knows the whole came in: a turn that is
+-- both in and out, which no seat knows. So there is no second one.
+abbrev pub met_whole : Whole → Whole
+met_whole now = whole now.history (0 ∷ now.out) (Some (all_of 0 now.history))
+
+abbrev pub met : View → View → View
+met view twin = OfLedger (met_whole (whole_in view))

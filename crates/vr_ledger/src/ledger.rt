@@ -116,4 +116,12 @@ impl Ledger {
         self.seat.take_in(badge);
         self.seat.settle();
     }
+
+    /// No other ledger is this one: it may be called only where that contradicts what is known.
+    pub fn refute_twin(&mut self, twin: Ledger)
+        requires same { twin.table ≡ self.old.table }
+        ensures { ⊥ }
+    {
+        self.seat.refute_twin(twin.seat);
+    }
 }

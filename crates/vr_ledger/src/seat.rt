@@ -3,7 +3,9 @@ ghost use Rattle.std.specs.Prelude.{◌≡◌, [], length};
 ghost use Rattle.vr_ledger.specs.declared.view.View.TheVariants.{OfLedger};
 ghost use Rattle.vr_ledger.specs.Views.{whole_in};
 
-use crate::view::{Admit, EachItsOwn, Grow, HandOut, Look, Said, Settle, TakeIn, View};
+use crate::view::{
+    Admit, EachItsOwn, Grow, HandOut, Look, Meet, Refute, Said, Settle, TakeIn, View,
+};
 use atomic_table::{Badge, Seat, Table};
 use std::alloc::Global;
 use std::snapshot::Snapshot;
@@ -129,5 +131,20 @@ impl LedgerSeat {
     {
         let LedgerSeat { table, seat, .. } = self;
         table.shared.split_seat::<HandOut>(seat).into_badge()
+    }
+
+    /// No second seat knows the whole of this table.
+    pub(crate) fn refute_twin(&mut self, twin: LedgerSeat)
+        requires same { table_of twin ≡ table_of self.old }
+        ensures { ⊥ }
+    {
+        let LedgerSeat { table, seat, .. } = self;
+        let LedgerSeat {
+            table: _,
+            seat: second,
+            entries: _,
+        } = twin;
+        table.shared.join_seat::<Meet>(seat, second);
+        table.shared.load::<Refute>(seat, 0);
     }
 }

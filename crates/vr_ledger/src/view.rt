@@ -108,3 +108,24 @@ impl Join<View> for TakeIn {
 
     ghost spent = { Spent };
 }
+
+/// A second seat that knows the whole comes in.
+pub struct Meet;
+
+impl Join<View> for Meet {
+    ghost use Rattle.vr_ledger.specs.declared.view.View.TheVariants.{Spent};
+    ghost use Rattle.vr_ledger.specs.Views.{met};
+
+    ghost both = { met };
+
+    ghost spent = { Spent };
+}
+
+/// The turn that is in shows that it isn't out.
+pub struct Refute;
+
+impl Play<Said, View> for Refute {
+    ghost use Rattle.vr_ledger.specs.Plays.{Refutes};
+
+    ghost then = { Refutes };
+}

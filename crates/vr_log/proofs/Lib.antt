@@ -12,6 +12,8 @@ pub mod Lives
 pub mod Using
 pub mod Entering
 pub mod Growing
+pub mod AllNeeds
+pub mod AllAppended
 pub mod Forcing
 pub mod Listing
 pub mod Passing

@@ -1,6 +1,6 @@
 -- The units of recovery that are live in a log, and the bytes of it that are in use. The rules are
 -- this project's own.
-use Rattle.std.specs.Prelude.{ℕ, ◌+◌, ◌*◌, List, [], ◌∷◌, ◌++◌, length, Bool}
+use Rattle.std.specs.Prelude.{◌≡◌, ℕ, ◌+◌, ◌*◌, List, [], ◌∷◌, ◌++◌, length, Bool}
 use Rattle.std.specs.Prelude.{if◌then◌else◌, IsTrue}
 use Rattle.std.specs.List.{list_any}
 use Rattle.vr_types.specs.Locks.{same_unit}
@@ -46,3 +46,16 @@ need_of live (End unit kind) = 0
 abbrev pub EndsLive : List UnitOfRecovery → LogRecord → Type 0
 EndsLive live (Before unit part place old) = Unit {0}
 EndsLive live (End unit kind) = IsTrue (is_in unit live)
+
+-- ---- several before-images of one unit
+
+-- a before-image of the unit
+abbrev pub IsBeforeOf : UnitOfRecovery → LogRecord → Type 0
+IsBeforeOf unit (Before other part place old) = other ≡ unit
+IsBeforeOf unit (End other kind) = ⊥
+
+-- what records need one after another, each by the units that are live then
+abbrev pub need_of_all : List UnitOfRecovery → List LogRecord → ℕ
+need_of_all live [] = 0
+need_of_all live (rec ∷ records) =
+    need_of live rec + need_of_all (live_after live rec) records

@@ -69,6 +69,10 @@ IsBehind log older = (older ≡ first_of log log.forced)
 abbrev pub with_record : LogNow → LogRecord → LogNow
 with_record log rec = record log { records = log.records ++ rec ∷ [] }
 
+-- with several records more
+abbrev pub with_records : LogNow → List LogRecord → LogNow
+with_records log records = record log { records = log.records ++ records }
+
 -- everything that was appended is forced
 abbrev pub IsForced : LogNow → Type 0
 IsForced log = log.forced ≡ length log.records
@@ -117,6 +121,15 @@ pub record IsAppended (old : LogNow) (rec : LogRecord) (new : LogNow) : Type 0 w
   pub geometry : new.geometry ≡ old.geometry
   pub generation : new.generation ≡ old.generation
   pub records : new.records ≡ old.records ++ rec ∷ []
+  pub forced : new.forced ≡ old.forced
+  pub behind : (new.behind ≡ old.behind) ⊎ (new.behind ≡ None)
+  pub sound : new.broken ≡ false
+
+-- Several records were appended, in their order.
+pub record AreAppended (old : LogNow) (records : List LogRecord) (new : LogNow) : Type 0 where
+  pub geometry : new.geometry ≡ old.geometry
+  pub generation : new.generation ≡ old.generation
+  pub all : new.records ≡ old.records ++ records
   pub forced : new.forced ≡ old.forced
   pub behind : (new.behind ≡ old.behind) ⊎ (new.behind ≡ None)
   pub sound : new.broken ≡ false

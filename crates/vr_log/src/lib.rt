@@ -10,6 +10,7 @@
 //! generations come near their end, so each log that a crash may leave can be gone on with.
 #![tactic(auto)]
 
+mod appending;
 mod clearing;
 mod content;
 mod decoding;
@@ -28,6 +29,7 @@ mod room;
 mod tail;
 mod writing;
 
+pub use appending::append_all;
 pub use clearing::clear_past;
 pub use content::LogContent;
 pub use laws::{

@@ -263,7 +263,11 @@ impl UndoLog {
     }
 
     /// Adds a record that has room.
-    fn enter<B: Blocks>(&mut self, blocks: &mut B, rec: &LogRecord) -> Result<(), DeviceFault>
+    pub(crate) fn enter<B: Blocks>(
+        &mut self,
+        blocks: &mut B,
+        rec: &LogRecord,
+    ) -> Result<(), DeviceFault>
         requires sound { self.old.broken ≡ false }
         requires shape { IsOf self.old.geometry (B.seen blocks.old) }
         requires lengths { HasLengths rec.now }
@@ -316,7 +320,7 @@ impl UndoLog {
     }
 
     /// The bytes that the log has.
-    fn size(&self) -> u64
+    pub(crate) fn size(&self) -> u64
         ensures { result ≡ log_size self.now.geometry }
     {
         self.geometry.log as u64 * (self.geometry.size as u64 - 16)
@@ -349,7 +353,7 @@ fn from_block(numbers: &[u32], byte: u64, room: u64, last: u32) -> &[u32]
 }
 
 /// The room that the end of a unit still needs.
-fn end_room(there: bool) -> u64
+pub(crate) fn end_room(there: bool) -> u64
     ensures value { result ≡ (if there then 0 else end_length) }
     ensures most { result ≤ 9 }
 {

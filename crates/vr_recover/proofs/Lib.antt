@@ -26,6 +26,7 @@ pub mod Refusals
 pub mod Clearing
 pub mod OpenLemmas
 pub mod Outliving
+pub mod Opens
 pub mod Addressed
 pub mod Logs
 pub mod Differing

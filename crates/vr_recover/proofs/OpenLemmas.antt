@@ -458,6 +458,7 @@ module _ (geometry : Geometry) (content : LogContent) (entries : List CatEntry)
     generation = low;
     distinct = planned.may.distinct;
     clusters = planned.clusters;
+    plain = planned.may.plain;
     shapes = shapes-of;
     laid = laid-of;
     on = subst (All (λ (shape : Shape). IsOn shape now)) (sym same)

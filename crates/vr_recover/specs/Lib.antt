@@ -4,6 +4,7 @@ pub mod OpenNo
 pub mod Images
 pub mod Unserved
 pub mod Opening
+pub mod Opens
 pub mod Found
 pub mod Addresses
 pub mod Keys

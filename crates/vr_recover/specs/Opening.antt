@@ -38,7 +38,7 @@ use Rattle.vr_recover.specs.Images.{CannotGoBack, catalog_by}
 use Rattle.vr_recover.specs.Recovered.{KeepsAll}
 pub use Rattle.vr_recover.specs.Recovered.{IsRecovered}
 use Rattle.vr_recover.specs.Undone.{IsLaidPastLog, IsReady, IsUndone}
-use Rattle.vr_recover.specs.Unserved.{IsServedCluster, IsUnserved}
+use Rattle.vr_recover.specs.Unserved.{IsPlain, IsServedCluster, IsUnserved}
 use Rattle.vr_recover.specs.declared.open_no.OpenNo.{OpenNo}
 use Rattle.vr_recover.specs.declared.open_no.OpenNo.TheVariants.{Damaged, Version, Unserved, Read}
 use Rattle.vr_recover.specs.declared.open_no.OpenNo.TheVariants.{Write}
@@ -281,9 +281,9 @@ pub record AreShapesOf (geometry : Geometry) (entries : List CatEntry) (shapes :
     pub by_number : AreByNumber entries ordered
     pub are : shapes ≡ shapes_laid geometry ordered
 
--- What is handed out, whatever the blocks have: the catalog has clusters alone, the parts are
--- those that it lays, in the order of their numbers, each on blocks of the volume past the log, in
--- areas that are its own, and the log has no record.
+-- What is handed out, whatever the blocks have: the catalog has clusters alone, each with records
+-- that have room in an interval, the parts are those that it lays, in the order of their numbers,
+-- each on blocks of the volume past the log, in areas that are its own, and the log has no record.
 pub record IsHandedOut (geometry : Geometry) (entries : List CatEntry) (parts : List AnyPart)
     (log : LogNow) (owners : List (Option PartNo)) (now : Seen) : Type 0 where
   pub allowed : IsAllowed geometry
@@ -295,6 +295,7 @@ pub record IsHandedOut (geometry : Geometry) (entries : List CatEntry) (parts : 
   pub generation : log.generation ≤ 2 ^ 62
   pub distinct : IsDistinct nat_eq (0 ∷ parts_in entries)
   pub clusters : All IsServedCluster entries
+  pub plain : All (IsPlain geometry) entries
   pub shapes : AreShapesOf geometry entries (map shape_any parts)
   pub laid : AreLaid geometry entries (map shape_any parts)
   pub on : All (λ (shape : Shape). IsOn shape now) (map shape_any parts)

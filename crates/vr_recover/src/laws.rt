@@ -8,6 +8,7 @@ ghost use Rattle.vr_types.specs.Fields.{AreZeros};
 ghost use Rattle.vr_types.specs.Image.{Block, Image, block_at};
 ghost use Rattle.vr_types.specs.declared.geometry.Geometry.{Geometry};
 ghost use Rattle.vr_types.specs.declared.unit.Unit.{Unit as UnitOfRecovery};
+ghost use Rattle.vr_catalog.specs.Catalog.{entries_in};
 ghost use Rattle.vr_space.specs.Part.{Shape, part_no};
 ghost use Rattle.vr_history.specs.State.{BeforeImage, State};
 ghost use Rattle.vr_log.specs.Content.{Content as LogContent};
@@ -15,13 +16,14 @@ ghost use Rattle.vr_log.specs.LogNow.{IsOf, last_index, made};
 ghost use Rattle.vr_log.specs.Records.{bytes_of};
 ghost use Rattle.vr_log.specs.Spells.{Spells};
 ghost use Rattle.vr_log.specs.Standing.{InLog, LogStands};
-ghost use Rattle.vr_volume.specs.Crashes.{RecoversTo};
+ghost use Rattle.vr_volume.specs.Crashes.{RecoversTo, committed_with};
 ghost use Rattle.vr_volume.specs.Laid.{shape_by};
 ghost use Rattle.vr_volume.specs.PutBack.{images_of};
 ghost use Rattle.vr_volume.specs.Safe.{IsSafe};
 ghost use Rattle.vr_volume.specs.Volume.{Recovers, shapes_by};
 ghost use Rattle.vr_recover.specs.Addresses.{HasItem, IsSettledIn, IsSettledAt};
-ghost use Rattle.vr_recover.specs.Opening.{HasContents};
+ghost use Rattle.vr_recover.specs.Opening.{HasContents, IsVolume};
+ghost use Rattle.vr_recover.specs.Opens.{AreServed, MayBeOpened};
 ghost use Rattle.vr_recover.specs.Recovered.{AreBackOf, KeepsAll, standing_all};
 ghost use Rattle.vr_recover.specs.Undone.{IsCovered, IsOpenedPart, IsSettled, alike};
 
@@ -100,4 +102,20 @@ pub fn items_outlive_crashes<B: Blocks>()
         → KeepsAll geometry number images contents (B.seen blocks).cur
         → HasContents number geometry later (B.seen blocks) → (part : ℕ) (place : List ℕ)
         → IsSettledIn images contents part place → HasItem (later part) place }
+{}
+
+/// Each image opens: blocks that are those of a volume, and recover to contents whose catalog is
+/// served, are refused for nothing that they have, only where memory runs out or the device fails
+/// (`volume`). So are those that a crash leaves of a volume while it runs, where the catalog
+/// that is committed in its state is served (`crash`).
+pub fn each_image_opens<B: Blocks>()
+    ensures volume { (geometry : Geometry) (number : ℕ) (contents : ℕ → Content) (blocks : B)
+        → IsVolume number geometry contents (B.seen blocks)
+        → AreServed geometry (entries_in (contents 0)) → MayBeOpened number (B.seen blocks) }
+    ensures crash { (geometry : Geometry) (number : ℕ) (state : State)
+        (counted : List UnitOfRecovery) (blocks : B) → IsAllowed geometry
+        → IsOf geometry (B.seen blocks)
+        → RecoversTo geometry number state counted (B.seen blocks).cur
+        → AreServed geometry (entries_in (committed_with counted state 0))
+        → MayBeOpened number (B.seen blocks) }
 {}

@@ -30,8 +30,8 @@ mod undone;
 mod undone_parts;
 
 pub use laws::{
-    cleared_log_stays, items_outlive_crashes, settled_is_safe, settled_may_be_undone,
-    settled_part_is_opened,
+    cleared_log_stays, each_image_opens, items_outlive_crashes, settled_is_safe,
+    settled_may_be_undone, settled_part_is_opened,
 };
 pub use open::{Opened, open_volume};
 pub use open_no::{OpenNo, Unserved};

@@ -1,6 +1,7 @@
--- How many stages a part may still do: a number that each stage makes less, so that no record waits
--- for ever. Each interval that is split uses one of those that the part's areas and the free ones
--- have; each area that is split takes a free one; and a split under way has only so many stages.
+-- How many stages a part may still do: a number that each stage of it makes less. Other calls may
+-- raise it: areas that become free count, and so do the stages of a part that is laid. Each interval
+-- that is split uses one of those that the part's areas and the free ones have; each area that is
+-- split takes a free one; and a split under way has a limited number of stages.
 use Rattle.std.specs.Prelude.{ℕ, ◌+◌, ◌-◌, ◌*◌, length, Option, Some, None}
 use Rattle.vr_types.specs.declared.unit.StageKind.{StageKind}
 use Rattle.vr_types.specs.declared.unit.StageKind.TheVariants.{CaCopy, CaLink, CaSwitch, CiSwitch}

@@ -239,6 +239,11 @@ stage_of (KeyedShape part) known image place =
     keyed_stage part known.split known.move image place
 stage_of (NumberedShape part) known image place = None
 
+-- each place waits for the stage that it waited for
+abbrev pub SameStages : Shape → Known → Known → Image → Image → Type 0
+SameStages shape before after old new = (place : List ℕ)
+    → stage_of shape after new place ≡ stage_of shape before old place
+
 -- the blocks are as the split under way left them
 abbrev pub IsUnderWay : Shape → Known → Seen → Type 0
 IsUnderWay (KeyedShape part) known now = KeyedUnderWay part known.split now

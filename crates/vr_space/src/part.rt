@@ -48,6 +48,7 @@ ghost use Rattle.vr_space.specs.Part.{
   Nothing,
   Just,
   SameRecords,
+  SameStages,
   SetsOne,
   DueMore,
   DueMoreAt,
@@ -183,7 +184,7 @@ pub trait Part {
             space.old space.new) }
         ensures chain_stays { OnErr result (held_by (shape self.old) (known self.new)
             ≡ held_by (shape self.old) (known self.old)) }
-        // Fewer stages are left, so that the caller asks only so often; what is used is counted.
+        // Fewer stages of this part are left than before it; what is used is counted.
         ensures more { IsTrue B.tells → HasOwners (shape self.old) space.old
             → (owners grown : Owners) → MayGrow (shape self.old) space.old owners grown
             → IsAtRest (shape self.old) owners (B.seen blocks.old)
@@ -264,6 +265,9 @@ pub trait Part {
         ensures due { IsTrue B.tells → OnOk result
             (DueMoreAt (shape self.old) place.now (put self.new)
             (B.seen blocks.old) (B.seen blocks.new)) }
+        // No stage becomes due, at whichever place.
+        ensures stages { IsTrue B.tells → OnOk result (SameStages (shape self.old)
+            (known self.old) (known self.new) (B.seen blocks.old).cur (B.seen blocks.new).cur) }
         ensures put { OnOk result (All (InHeld (shape self.old) (known self.new)) (put self.new)) }
         ensures below { OnOk result (All (λ n. n < (B.seen blocks.new).count) (put self.new)) }
         ensures rests { IsTrue B.tells → (owners : Owners)

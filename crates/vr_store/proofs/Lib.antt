@@ -29,7 +29,9 @@ pub mod LaidParts
 pub mod Filtered
 pub mod EntryParts
 pub mod EntryAreas
-pub mod ChangedEntry
+pub mod ChangedEntries
+pub mod ManyChanges
+pub mod OneChange
 pub mod Idle
 pub mod StagesLeft
 pub mod CallerLemmas

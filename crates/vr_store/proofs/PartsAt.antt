@@ -9,8 +9,10 @@ use Rattle.vr_types.specs.declared.unit.PartNo.{PartNo}
 use Rattle.vr_space.specs.Known.{Known}
 use Rattle.vr_space.specs.Part.{Shape}
 use Rattle.vr_space.specs.Split.{AreaSplit, MoveNow}
+use Rattle.vr_log.specs.LogNow.{LogNow}
+use Rattle.vr_undo.specs.declared.record.KeptRecord.{KeptRecord}
 use Rattle.vr_store.specs.Parts.{OnlyMet, OnlySplit, but_met, but_split, with_part}
-use Rattle.vr_store.specs.Store.{PartNow, has_number, part_among, part_now}
+use Rattle.vr_store.specs.Store.{ChangedBy, PartNow, StoreNow, has_number, part_among, part_now}
 use Rattle.vr_store.specs.declared.parts.Laid.{Laid}
 use Rattle.vr_store.proofs.Among.{among-number}
 use Rattle.vr_store.proofs.PlacedParts.{among-with, found-at, map-with, none-found, others-with}
@@ -146,3 +148,9 @@ module _ (number : ℕ) (before after : PartNow) (old new : List PartNow)
     parts = ap (map but_split) at.is ∙ map-with but_split number before after is old at.found;
     others = others;
   }
+
+-- a store with these parts
+abbrev pub store-of : LogNow → List KeptRecord → List ChangedBy → List (Option PartNo)
+    → List PartNow → StoreNow
+store-of log undo changed space parts =
+    record { log = log; undo = undo; parts = parts; changed = changed; space = space }

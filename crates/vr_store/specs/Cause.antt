@@ -1,5 +1,5 @@
--- When a call that copies what a store has, defines a part, or changes an entry of the catalog, may
--- answer what it answers. The rules are this project's own.
+-- When a call that copies what a store has or hands it to a visitor, defines a part, or changes an
+-- entry of the catalog, may answer what it answers. The rules are this project's own.
 use Rattle.std.specs.Prelude.{◌≡◌, ◌<◌, ◌≤◌, Result, IsErrOf, OnOk}
 use Rattle.vr_types.specs.Faults.{Faults}
 use Rattle.vr_types.specs.declared.fault.DeviceFault.TheVariants.{Read, Write}

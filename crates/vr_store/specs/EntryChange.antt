@@ -11,16 +11,14 @@ use Rattle.vr_types.specs.Seen.{Seen}
 use Rattle.vr_types.specs.Space.{released}
 use Rattle.vr_types.specs.declared.unit.PartNo.{PartNo}
 use Rattle.vr_types.specs.declared.unit.Unit.{Unit as UnitOfRecovery}
-use Rattle.vr_space.specs.Part.{CanSet, HasKeptRoom, Knows}
+use Rattle.vr_space.specs.Part.{CanSet}
 use Rattle.vr_log.specs.Live.{live_in, need_of}
 use Rattle.vr_log.specs.LogNow.{LogNow}
-use Rattle.vr_log.specs.Standing.{LogStands}
 use Rattle.vr_log.specs.declared.record.LogRecord.{LogRecord}
 use Rattle.vr_log.specs.declared.record.LogRecord.TheVariants as records
 use Rattle.vr_history.specs.State.{State}
-use Rattle.vr_volume.specs.EntryChange.{CanChangeEntry, IsEntryChanged, StandsFirm, entry_kept}
+use Rattle.vr_volume.specs.EntryChange.{CanChangeEntry, IsEntryChanged, entry_kept}
 use Rattle.vr_volume.specs.EntryChange.{is_gone}
-use Rattle.vr_volume.specs.Rests.{RestsPastLog}
 use Rattle.vr_store.specs.Parts.{OnlyMet}
 use Rattle.vr_store.specs.Store.{IsStored, PartNow, StoreNow, has_number, part_among}
 use Rattle.vr_store.specs.Store.{shape_among}
@@ -91,16 +89,6 @@ pub record HasEntry (store : StoreNow) (place before : List ℕ) (now : Seen) : 
 abbrev pub IsEntrySettable : StoreNow → Image → List ℕ → List ℕ → Option (List ℕ) → Type 0
 IsEntrySettable store image place before bytes = IfSome (part_among store.parts 0)
     (λ (part : PartNow). CanSet part.shape part.known image (entry_kept place before) place bytes)
-
--- The log and the catalog stand so that the record may be replaced or taken away.
-pub record IsChangeReady (store : StoreNow) (place before : List ℕ) (bytes : Option (List ℕ))
-    (now : Seen) (catalog : PartNow) : Type 0 where
-  pub log : LogStands store.log now
-  pub rests : RestsPastLog store.log.geometry catalog.shape catalog.known now
-  pub room : HasKeptRoom catalog.shape [] now
-  pub firm : StandsFirm catalog.shape now place before
-  pub knows : Knows catalog.shape catalog.known now
-  pub can : CanSet catalog.shape catalog.known now.cur (entry_kept place before) place bytes
 
 -- The store without the part that goes, whose areas are free; nothing is kept of any unit.
 abbrev pub store_left : Option PartNo → StoreNow → StoreNow

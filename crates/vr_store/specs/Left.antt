@@ -1,5 +1,6 @@
 -- How many steps a unit of recovery may still wait for before a request of it is answered: each step
--- makes it less, whichever request it is of. So no request is asked again for ever.
+-- makes it less, whichever request it is of. What other events leave of it no clause says: a DEFINE,
+-- which lays a part, may add to it.
 use Rattle.std.specs.Prelude.{ℕ, ◌+◌, ◌*◌, List, [], ◌∷◌, length, filter}
 use Rattle.vr_types.specs.Space.{free_count}
 use Rattle.vr_types.specs.declared.unit.Unit.{Unit as UnitOfRecovery}

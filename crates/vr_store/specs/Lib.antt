@@ -9,3 +9,5 @@ pub mod PutBack
 pub mod LastImage
 pub mod Define
 pub mod EntryChange
+pub mod Visiting
+pub mod EntryChanges

@@ -1,118 +1,61 @@
 //! The record of an entry of the catalog is replaced, or taken away with a part of the entry, as
 //! one event.
 ghost use Rattle.std.specs.Prelude.{◌≡◌, ◌≢◌, ◌⊎◌, ◌<◌, ◌+◌, ◌^◌, [], ℕ, Option, None};
-ghost use Rattle.std.specs.Prelude.{IfErr, IfSome, IsTrue, OnErr, OnOk};
+ghost use Rattle.std.specs.Prelude.{IfErr, IfOk, IfSome, IsTrue, OnErr, OnOk};
 ghost use Rattle.vr_types.specs.Image.{Image};
 ghost use Rattle.vr_types.specs.Moments.{Guards};
 ghost use Rattle.vr_types.specs.declared.fault.DeviceFault.TheVariants.{Read as DeviceRead, Write};
 ghost use Rattle.vr_space.specs.Known.{HasMet};
 ghost use Rattle.vr_space.specs.Part.{IsGiven, IsPlaceOf, IsRecordOf, given};
-ghost use Rattle.vr_log.specs.Live.{live_in, need_of};
-ghost use Rattle.vr_log.specs.LogNow.{IsFullNo, IsFullWhere, with_record};
-ghost use Rattle.vr_log.specs.declared.no.LogNo.TheVariants.{Read};
+ghost use Rattle.vr_log.specs.Live.{live_in};
+ghost use Rattle.vr_log.specs.LogNow.{with_record};
 ghost use Rattle.vr_log.specs.declared.record.EndKind.TheVariants.{Committed};
 ghost use Rattle.vr_history.specs.State.{State};
-ghost use Rattle.vr_volume.specs.Cause.{HasChangeCause};
 ghost use Rattle.vr_volume.specs.Crashes.{RecoversTo};
 ghost use Rattle.vr_volume.specs.EndedLog.{IsEndedLog};
 ghost use Rattle.vr_store.specs.Cause.{HasDefineCause};
-ghost use Rattle.vr_store.specs.Define.{IsFullFor, IsMetAt};
-ghost use Rattle.vr_store.specs.EntryChange.{HasEntry, HasPartsLeft, HasShapesLeft, IsChangeReady};
+ghost use Rattle.vr_store.specs.Define.{IsFullFor};
+ghost use Rattle.vr_store.specs.EntryChange.{HasEntry, HasPartsLeft, HasShapesLeft};
 ghost use Rattle.vr_store.specs.EntryChange.{IsChangingEntry, IsEntrySettable, areas_left};
 ghost use Rattle.vr_store.specs.EntryChange.{entry_change_need, entry_was, store_left};
+ghost use Rattle.vr_store.specs.EntryChanges.{one_of};
 ghost use Rattle.vr_store.specs.Store.{IsSet, IsStored, part_among, shape_among};
 ghost use Rattle.vr_store.specs.declared.no.DefineNo.TheVariants.{Fault};
-ghost use Rattle.vr_types.specs.declared.unit.PartNo.{PartNo as PartNumber};
 
 use crate::no::DefineNo;
-use crate::parts::index_of;
-use crate::prepared::before_record;
 use crate::store::Store;
 use std::alloc::Global;
-use vr_log::{LogNo, LogRecord};
 use vr_space::Part;
-use vr_types::{Blocks, DeviceFault, PartNo, Place, Unit};
+use vr_types::{Blocks, OutOfMemory, PartNo, Place, Unit, bytes};
 use vr_undo::Undo;
+use vr_volume::EntryChange;
 
-impl<P: Part> Store<P> {
-    /// Makes these bytes the record of the catalog at a place where one stands, or takes that one
-    /// away: the unit logs the one that stood there, and commits. Where room was asked for there,
-    /// no read is made. `Full` says that the log is, and then nothing is done; `Write` is the
-    /// device's. A part that goes with the record is laid still: without it the store is that of
-    /// the state after the change.
-    fn change_record<B: Blocks>(
-        &mut self,
-        blocks: &mut B,
-        rec: &LogRecord,
-        unit: Unit,
-        place: &Place,
-        before: &[u8],
-        bytes: Option<&[u8]>,
-    ) -> Result<(), LogNo>
-        requires set { IsSet self.old (B.seen blocks.old) }
-        requires rec { rec.now ≡ entry_was unit place.now before.now }
-        requires catalog { part_among self.old.parts 0 ≢ None }
-        requires idle { live_in self.old.log.records ≡ [] }
-        requires place { IfSome (shape_among self.old.parts 0)
-            (λ shape. IsPlaceOf shape place.now) }
-        requires old { IfSome (shape_among self.old.parts 0)
-            (λ shape. IsRecordOf shape place.now before.now) }
-        requires item { IfSome (shape_among self.old.parts 0)
-            (λ shape. IsGiven shape place.now bytes) }
-        requires met { IfSome (part_among self.old.parts 0) (λ part. HasMet part.known place.now) }
-        requires ready { IsTrue B.tells → IfSome (part_among self.old.parts 0)
-            (IsChangeReady self.old place.now before.now (given bytes) (B.seen blocks.old)) }
-        ensures done { IsTrue B.tells → OnOk result ((volume : ℕ) (gone : Option PartNumber)
-            (old new : State)
-            → IsChangingEntry volume self.old unit place.now before.now (given bytes.entry) gone old
-            new (B.seen blocks.old)
-            → self.old.log.generation + 1 < 2 ^ 63
-            → IsStored volume (store_left gone self.new) new (B.seen blocks.new)) }
-        ensures moments { IsTrue B.tells → (volume : ℕ) (gone : Option PartNumber)
-            (old new : State)
-            → IsChangingEntry volume self.old unit place.now before.now (given bytes.entry) gone old
-            new (B.seen blocks.old)
-            → Guards (B.seen blocks.old) (B.seen blocks.new) (λ (image : Image).
-            RecoversTo self.old.log.geometry volume old [] image
-            ⊎ RecoversTo self.old.log.geometry volume new [] image) }
-        ensures set { OnOk result (IsSet self.new (B.seen blocks.new)) }
-        ensures parts { OnOk result (IsMetAt 0 self.old.parts self.new.parts) }
-        ensures log { OnOk result (IsEndedLog (with_record self.old.log rec.now) unit Committed
-            self.new.log) }
-        ensures begun { OnOk result (self.new.log.records ≡ []) }
-        ensures rest { self.new
-            ≡ record self.old { log = self.new.log; parts = self.new.parts } }
-        ensures full { IsFullWhere self.old.log
-            (need_of (live_in self.old.log.records) rec.now) result }
-        ensures unchanged { IfErr result (λ no. IsFullNo no
-            → (self.new ≡ self.old) × (blocks.new ≡ blocks.old)) }
-        ensures never_read { IfErr result (λ no. no ≢ Read) }
-        ensures cause { HasChangeCause (B.faults blocks.old) (B.faults blocks.new) result }
-    {
-        match index_of(&self.parts, PartNo(0)) {
-            Some(at) => {
-                let catalog = &mut self.parts[at].part;
-                vr_volume::change_entry(
-                    blocks,
-                    &mut self.log,
-                    catalog,
-                    rec,
-                    unit,
-                    place,
-                    before,
-                    bytes,
-                )?;
-                Ok(())
-            }
-            None => unreachable!("the catalog is laid"),
-        }
-    }
+/// The change of a record that stands at a place. Fails only if memory runs out.
+fn one_change(
+    alloc: Global,
+    place: &Place,
+    before: &[u8],
+    given_bytes: Option<&[u8]>,
+) -> Result<EntryChange, OutOfMemory>
+    ensures { IfOk result (λ change. change ≡ one_of place.now before.now (given given_bytes.entry)) }
+{
+    let place = place.copy(alloc)?;
+    let before = Some(bytes(alloc, before)?);
+    let bytes = match given_bytes {
+        Some(from) => Some(bytes(alloc, from)?),
+        None => None,
+    };
+    Ok(EntryChange {
+        place,
+        before,
+        bytes,
+    })
 }
 
 impl<P: Part + Drop> Store<P> {
     /// Takes out a part, where one is given, whose areas become free, and forgets what is kept of
     /// units: none is live, and what is put back has to be of a part that is laid.
-    fn let_go(&mut self, alloc: Global, gone: Option<PartNo>)
+    pub(crate) fn let_go(&mut self, alloc: Global, gone: Option<PartNo>)
         ensures { self.new ≡ store_left gone self.old }
     {
         self.undo = Undo::new(alloc);
@@ -191,15 +134,7 @@ impl<P: Part + Drop> Store<P> {
             (entry_change_need self.old.log unit place.now before.now) result }
         ensures cause { HasDefineCause (B.faults blocks.old) (B.faults blocks.new) result }
     {
-        let rec = before_record(alloc, unit, PartNo(0), place, Some(before))?;
-        match self.change_record(blocks, &rec, unit, place, before, bytes) {
-            Ok(()) => {
-                self.let_go(alloc, gone);
-                Ok(())
-            }
-            Err(LogNo::Full { .. }) => Err(DefineNo::Full),
-            Err(LogNo::Read) => Err(DefineNo::Fault(DeviceFault::Read)),
-            Err(LogNo::Write) => Err(DefineNo::Fault(DeviceFault::Write)),
-        }
+        let change = one_change(alloc, place, before, bytes)?;
+        self.change_entries(alloc, blocks, unit, &[change], gone)
     }
 }

@@ -7,12 +7,12 @@ ghost use Rattle.vr_store.specs.declared.no.LookNo.TheVariants.{Fault, Memory};
 use vr_start::StartNo;
 use vr_types::{DeviceFault, OutOfMemory};
 
-/// Why a record could not be copied.
+/// Why a record could not be copied, or be handed to a visitor.
 #[derive(Clone, Copy, PartialEq, Eq)]
 pub enum LookNo {
     /// A fault of the device.
     Fault(DeviceFault),
-    /// Out of memory for the copy.
+    /// Out of memory, for the copy or to the visitor.
     Memory,
 }
 

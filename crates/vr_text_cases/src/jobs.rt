@@ -27,7 +27,7 @@ const LINES: [&str; 16] = [
     "//* NOTE",
     "//SYSIN DD *",
     "//X DD *",
-    "  VERIFY DS(A)",
+    "  EXAMINE NAME(A)",
     "",
     "//C EXEC PGM=IDCAMS,X",
     " REPRO INFILE(X) ODS(A) /*",

@@ -126,7 +126,12 @@ fn first_unrun(nodes: &[Node]) -> Option<u32> {
                 matches!(define.order.what, NewEntry::Cluster { spanned: false, .. })
             }
             Command::Alter(order) => order.new_name.is_none(),
-            Command::Delete(_) | Command::ListCatalog(_) | Command::If(_) | Command::Set(_) => true,
+            Command::Delete(_)
+            | Command::Print(_)
+            | Command::ListCatalog(_)
+            | Command::Verify(_)
+            | Command::If(_)
+            | Command::Set(_) => true,
             _ => false,
         };
         if !runs {

@@ -9,4 +9,5 @@ pub mod Names
 pub mod Numbering
 pub mod Shown
 pub mod TraceLines
+pub mod Visitors
 pub mod Volumes

@@ -1,14 +1,14 @@
 //! The histories of a job's volumes as one, what a job prints, and what the crates that run its
-//! steps share. What a job prints is the listing, the lines of the merged history, and the one
-//! line of a job that ends otherwise; what is shared is a volume as the commands of IDCAMS see it,
-//! what they count of a data set, what a command leaves with its line, and why the steps ended
-//! before all was done. It stands on vr_types for requests and replies, on vr_catalog for the
-//! catalog of a volume, on vr_history for entries, histories and their merge, and on vr_text for
-//! literals. What the listing shows of a job's text is kept in types of its own, so that it doesn't
-//! rest on how texts are read; what a step of IDCAMS printed is a report that is handed in. It
-//! promises that the merged history is that of vr_history, that what is printed is by the byte what
-//! the definitions say, that the code of a step of decks is that of the replies to its decks, and
-//! that of a job the greatest of these and of the codes of the reports.
+//! steps share. What a job prints is the listing, the lines of the merged history, and the one line
+//! of a job that ends otherwise; what is shared is a volume as the commands of IDCAMS see it, what
+//! they count of a data set and what they hand its records to, what a command leaves with its line,
+//! and why the steps ended before all was done. It stands on vr_types for requests and replies, on
+//! vr_catalog for the catalog of a volume, on vr_history for entries, histories and their merge,
+//! and on vr_text for literals. What the listing shows of a job's text is kept in types of its own,
+//! so that it doesn't rest on how texts are read; what a step of IDCAMS printed is a report that is
+//! handed in. It promises that the merged history is that of vr_history, that what is printed is by
+//! the byte what the definitions say, that the code of a step of decks is that of the replies to
+//! its decks, and that of a job the greatest of these and of the codes of the reports.
 #![tactic(auto)]
 
 mod code;
@@ -25,6 +25,7 @@ mod report;
 mod shown;
 mod statistics;
 mod trace;
+mod visitor;
 
 pub use code::{job_code, step_code};
 pub use command::{Failure, Outcome, refused, write_outcome};
@@ -43,3 +44,4 @@ pub use report::{StepReport, StepReports};
 pub use shown::{ShownVolume, has_name, is_known};
 pub use statistics::Statistics;
 pub use trace::trace_lines;
+pub use visitor::RecordVisitor;

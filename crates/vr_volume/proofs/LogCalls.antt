@@ -235,6 +235,13 @@ module _ (log : LogNow) where
       by_test true = refl
       by_test false = refl
 
+  pub forced-generation : (forced_now log).generation ≡ log.generation
+  forced-generation = by_test (nat_eq log.forced (length log.records))
+    where
+      by_test : (same : Bool) → (cond same log whole).generation ≡ log.generation
+      by_test true = refl
+      by_test false = refl
+
   pub forced-sound : (forced_now log).broken ≡ log.broken
   forced-sound = by_test (nat_eq log.forced (length log.records))
     where

@@ -234,7 +234,7 @@ module _ (geometry : Geometry) (log more : LogNow) (old new : State) (change : C
   image = image_by change
 
   -- whether a place is the one that is changed
-  here-or : (part : ℕ) (place : List ℕ) → ((part ≡ change.part.0) × (place ≡ change.place))
+  pub here-or : (part : ℕ) (place : List ℕ) → ((part ≡ change.part.0) × (place ≡ change.place))
       ⊎ (is_image_of part place image ≡ false)
   here-or part place = by_test (is_image_of part place image) refl
     where
@@ -245,7 +245,7 @@ module _ (geometry : Geometry) (log more : LogNow) (old new : State) (change : C
           let there = is-there part place image is in inl (sym there.0, there.1)
       by_test false is = inr is
 
-  apart-from : (part : ℕ) (place : List ℕ) → is_image_of part place image ≡ false
+  pub apart-from : (part : ℕ) (place : List ℕ) → is_image_of part place image ≡ false
       → part ≡ change.part.0 → place ≡ change.place → ⊥
   apart-from part place is same at = true≢false (sym (is-own image)
       ∙ ap (λ (p : ℕ). is_image_of p change.place image) (sym same)
@@ -295,7 +295,7 @@ module _ (geometry : Geometry) (log more : LogNow) (old new : State) (change : C
   log-here : oldest (images_of more.records) change.part.0 change.place ≡ Some image
   log-here = oldest-now change.part.0 change.place ∙ at-place (images_of log.records) made.free
 
-  log-else : (part : ℕ) (place : List ℕ) → is_image_of part place image ≡ false
+  pub log-else : (part : ℕ) (place : List ℕ) → is_image_of part place image ≡ false
       → oldest (images_of more.records) part place ≡ oldest (images_of log.records) part place
   log-else part place is = oldest-now part place
       ∙ else-place (oldest (images_of log.records) part place) (is_image_of part place image) is

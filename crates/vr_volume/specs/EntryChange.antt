@@ -4,15 +4,13 @@
 -- DELETE, for what is there once the command is done; how it gets there is this project's own).
 use Rattle.std.specs.Prelude.{◌≡◌, ◌≢◌, ◌+◌, ℕ, Bool, false, List, [], ◌∷◌, length, Option, Some}
 use Rattle.std.specs.Prelude.{None, if◌then◌else◌, ◌==◌}
-use Rattle.std.specs.List.Sorted.{IsStrictlySortedBy}
 use Rattle.std.specs.Option.{option_map}
-use Rattle.vr_types.specs.Content.{Content, Item, Standing, item_at}
-use Rattle.vr_types.specs.Seen.{Seen}
+use Rattle.vr_types.specs.Content.{Content, Standing, item_at}
 use Rattle.vr_types.specs.declared.geometry.Geometry.{Geometry}
 use Rattle.vr_types.specs.declared.unit.Unit.{Unit as UnitOfRecovery}
 use Rattle.vr_space.specs.Owners.{Owners}
-use Rattle.vr_space.specs.Part.{IsPlaceOf, MayHold, Shape}
-use Rattle.vr_space.specs.Room.{AscendLengths, Lengths}
+use Rattle.vr_space.specs.Part.{IsPlaceOf}
+use Rattle.vr_space.specs.Room.{Lengths}
 use Rattle.vr_log.specs.LogNow.{LogNow}
 use Rattle.vr_history.specs.Effects.{with_change}
 use Rattle.vr_history.specs.State.{State}
@@ -30,16 +28,6 @@ pub record IsTakenFrom (part : ℕ) (owners shrunk : Owners) : Type 0 where
 -- what is kept while the record of an entry changes: the one that stands there
 abbrev pub entry_kept : List ℕ → List ℕ → Lengths
 entry_kept place before = (place, length before) ∷ []
-
--- the places of one ascend
-pub one_ascends : (place : List ℕ) (n : ℕ) → AscendLengths ((place, n) ∷ [])
-unfolding IsStrictlySortedBy
-one_ascends place n = (tt, tt)
-
--- whatever a crash leaves, this record stands at the place
-abbrev pub StandsFirm : Shape → Seen → List ℕ → List ℕ → Type 0
-StandsFirm shape now place bytes = (found : Option Item) → MayHold shape now.may place found
-    → found ≡ Some (Standing bytes)
 
 -- ---- the state
 

@@ -7,7 +7,7 @@ use Rattle.vr_space.specs.Owners.{Owners}
 use Rattle.vr_space.specs.Part.{InPart, Shape}
 use Rattle.vr_space.specs.Room.{Lengths}
 use Rattle.vr_log.specs.Content.{Content as LogContent}
-use Rattle.vr_log.specs.LogNow.{IsForced, IsLogOf, LogNow, with_record}
+use Rattle.vr_log.specs.LogNow.{IsForced, IsLogOf, LogNow, with_record, with_records}
 use Rattle.vr_log.specs.Standing.{InLog}
 use Rattle.vr_log.specs.declared.record.LogRecord.{LogRecord}
 use Rattle.vr_volume.specs.Laid.{shape_by}
@@ -43,3 +43,15 @@ pub record IsLogged (old : LogNow) (rec : LogRecord) (new : LogNow) : Type 0 whe
   pub sound : new.broken ≡ false
   pub less : (content : LogContent) → IsLogOf new content → IsLogOf (with_record old rec) content
   pub all : (content : LogContent) → IsLogOf new content → content.records ≡ old.records ++ rec ∷ []
+
+-- The same of several records: each image has them all, unless there is no record.
+pub record AreLogged (old : LogNow) (records : List LogRecord) (new : LogNow) : Type 0 where
+  pub geometry : new.geometry ≡ old.geometry
+  pub generation : new.generation ≡ old.generation
+  pub records_are : new.records ≡ old.records ++ records
+  pub forced : IsForced new
+  pub sound : new.broken ≡ false
+  pub less : (content : LogContent) → IsLogOf new content
+      → IsLogOf (with_records old records) content
+  pub all : (content : LogContent) → IsLogOf new content
+      → (content.records ≡ new.records) ⊎ (new.records ≡ [])

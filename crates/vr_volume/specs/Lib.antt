@@ -17,3 +17,4 @@ pub mod Durable
 pub mod Crashes
 pub mod Defining
 pub mod EntryChange
+pub mod EntryChanges

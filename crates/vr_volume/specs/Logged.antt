@@ -9,7 +9,7 @@ use Rattle.vr_types.specs.declared.unit.PartNo.{PartNo}
 use Rattle.vr_types.specs.declared.unit.Unit.{Unit as UnitOfRecovery}
 use Rattle.vr_space.specs.Part.{IsPlaceOf, Shape}
 use Rattle.vr_log.specs.Live.{is_in, live_in}
-use Rattle.vr_log.specs.LogNow.{LogNow}
+use Rattle.vr_log.specs.LogNow.{LogNow, with_record}
 use Rattle.vr_log.specs.declared.record.LogRecord.{LogRecord}
 use Rattle.vr_log.specs.declared.record.LogRecord.TheVariants.{Before, End}
 use Rattle.vr_volume.specs.Laid.{shape_by}
@@ -35,3 +35,12 @@ pub record IsFirstBefore (geometry : Geometry) (log : LogNow)
   pub shape : Shape
   pub laid : shape_by geometry (committed log.records 0) part.0 ≡ Some shape
   pub at : IsPlaceOf shape place
+
+-- Each record is such a before-image, by the log with those before it.
+abbrev pub AreFirstBefores : Geometry → LogNow → (List LogRecord → ℕ → Content) → List LogRecord
+    → Type 0
+AreFirstBefores geometry log committed [] = Unit {0}
+AreFirstBefores geometry log committed (Before unit part place old ∷ records) =
+    IsFirstBefore geometry log committed unit part place old
+    × AreFirstBefores geometry (with_record log (Before unit part place old)) committed records
+AreFirstBefores geometry log committed (End unit kind ∷ records) = ⊥

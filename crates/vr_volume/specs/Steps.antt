@@ -2,15 +2,16 @@
 -- before-images go: a first change of a place, a further one, a before-image that is put back, and
 -- the end of a unit. The rules are those of the record file.
 use Rattle.std.specs.Prelude.{◌≡◌, ◌≢◌, ◌+◌, ℕ, List, [], ◌∷◌, ◌++◌, Option, Some, None}
-use Rattle.std.specs.Prelude.{filter, if◌then◌else◌, ◌==◌}
+use Rattle.std.specs.Prelude.{All, filter, if◌then◌else◌, map, ◌==◌}
 use Rattle.std.specs.Option.{option_map}
 use Rattle.vr_types.specs.Content.{Item, Standing, item_at}
 use Rattle.vr_types.specs.declared.geometry.Geometry.{Geometry}
 use Rattle.vr_types.specs.declared.unit.PartNo.{PartNo}
 use Rattle.vr_types.specs.declared.unit.Unit.{Unit as UnitOfRecovery}
 use Rattle.vr_space.specs.Part.{IsPlaceOf, Shape}
-use Rattle.vr_log.specs.Live.{live_in, need_of}
+use Rattle.vr_log.specs.Live.{live_in, need_of, need_of_all}
 use Rattle.vr_log.specs.LogNow.{LogNow}
+use Rattle.vr_log.specs.declared.record.LogRecord.{LogRecord}
 use Rattle.vr_log.specs.declared.record.LogRecord.TheVariants.{Before}
 use Rattle.vr_history.specs.Effects.{is_other, last_kept, used_after, with_change, without_last}
 use Rattle.vr_history.specs.State.{BeforeImage, State}
@@ -58,6 +59,37 @@ pub record IsFirstChange (log : LogNow) (change : Changing) (old new : State) : 
   pub logged : new.logged ≡ old.logged ++ logged_of (image_by change) ∷ []
   pub used : new.used ≡ old.used + need_of (live_in log.records)
       (Before change.unit change.part change.place change.old)
+  pub numbers : new.numbers ≡ old.numbers
+
+-- the record of the log that such a change takes
+abbrev pub logged_by : Changing → LogRecord
+logged_by change = Before change.unit change.part change.place change.old
+
+-- each of another place
+abbrev pub AreOfOthers : List Changing → Type 0
+AreOfOthers [] = Unit {0}
+AreOfOthers (change ∷ changes) = All (λ (other : Changing).
+    other.part.0 ≡ change.part.0 → other.place ≢ change.place) changes × AreOfOthers changes
+
+-- Places may be logged together before any of them is changed: each is of its own, is one that no unit
+-- has logged, and has what is said. What they are given later isn't looked at.
+pub record MayBeLogged (geometry : Geometry) (log : LogNow) (state : State)
+    (changes : List Changing) : Type 0 where
+  pub of : All (IsChangeOf geometry state) changes
+  pub free : All (λ (change : Changing).
+      oldest (images_of log.records) change.part.0 change.place ≡ None) changes
+  pub items : All (λ (change : Changing). option_map Standing change.old
+      ≡ item_at (state.contents change.part.0) change.place) changes
+  pub others : AreOfOthers changes
+
+-- They are logged, and what stands at each is kept. Nothing of the contents changes.
+pub record AreKept (log : LogNow) (changes : List Changing) (old new : State) : Type 0 where
+  pub contents : new.contents ≡ old.contents
+  pub befores : new.befores ≡ old.befores ++ map image_by changes
+  pub logged : new.logged
+      ≡ old.logged ++ map (λ (change : Changing). logged_of (image_by change)) changes
+  pub used : new.used
+      ≡ old.used + need_of_all (live_in log.records) (map logged_by changes)
   pub numbers : new.numbers ≡ old.numbers
 
 -- A further change of a place for which a before-image is kept.

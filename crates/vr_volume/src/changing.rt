@@ -35,6 +35,7 @@ ghost use Rattle.vr_space.specs.Part.{
   OwnersAfter,
   OwnsClaimed,
   SameRecords,
+  SameStages,
   SetsOne,
   Shape,
   given,
@@ -88,6 +89,9 @@ pub fn set_free<B: Blocks, P: Part, K: Kept>(
         (B.seen blocks.old) (B.seen blocks.new) }
     ensures set { IsTrue B.tells → OnOk result (SetsOne (P.shape part.old) place.now
         (given bytes.entry) (B.seen blocks.old).cur (B.seen blocks.new).cur) }
+    // No stage becomes due, at whichever place.
+    ensures stages { IsTrue B.tells → OnOk result (SameStages (P.shape part.old)
+        (P.known part.old) (P.known part.new) (B.seen blocks.old).cur (B.seen blocks.new).cur) }
     ensures due { IsTrue B.tells → OnOk result
         (DueMoreAt (P.shape part.old) place.now (P.put part.new)
         (B.seen blocks.old) (B.seen blocks.new)) }

@@ -25,6 +25,7 @@ pub mod DeckRuns
 pub mod UtilityRuns
 pub mod Between
 pub mod Binding
+pub mod Puttings
 pub mod Reporting
 pub mod Sequences
 pub mod JobRuns

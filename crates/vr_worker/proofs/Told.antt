@@ -11,12 +11,14 @@ use Rattle.vr_history.specs.declared.entry.Entry.{Entry}
 use Rattle.vr_ledger.specs.Entries.{HasGrown}
 use Rattle.vr_ledger.specs.Turn.{TurnNow}
 use Rattle.vr_trace.specs.Laws.{deck_entries}
+use Rattle.vr_worker.specs.Deck.{AreTurns, HasRun}
 use Rattle.vr_worker.specs.Ready.{AreSameSeats, AreTold, HasTurnAt, HasTurns, HaveRun}
-use Rattle.vr_worker.specs.Ready.{IsSameSeat, IsToldAt, IsUnrun}
+use Rattle.vr_worker.specs.Ready.{IsReady, IsSameSeat, IsToldAt, IsUnrun}
 use Rattle.vr_worker.specs.declared.deck.Seat.{Seat}
 use Rattle.vr_trace.specs.declared.no.RunNo.{RunNo}
 use Rattle.vr_worker.proofs.Places.{at-push}
 use Rattle.vr_worker.proofs.Runs.{run-none}
+use Rattle.vr_worker.proofs.Turns.{turns-grown}
 
 -- what decks have stays, and stays
 same-then : {a b c : Seat} → IsSameSeat a b → IsSameSeat b c → IsSameSeat a c
@@ -85,6 +87,45 @@ turns-at tables count place {first = first} {now = now} inside same has = λ k s
       turn = λ turn. had.turns place turn (omega (arith, had.many, inside));
       within = omega (arith, had.many, inside);
     })
+
+-- and so each has after its thread ran
+pub turns-ran : (tables : ℕ → TableId) (decks : List ℕ) (count : ℕ) {first now : List Seat}
+    → All (IsReady tables decks count) first → HaveRun first now → All (HasTurns tables count) now
+turns-ran tables decks count {first = first} {now = now} ready ran = λ k seat near.
+    let within : k < length first = omega (arith, ran.count, near) in
+    let had = (ready k seat within).turns in
+    let old = get_or first k seat in
+    let new = get_or now k seat in
+    let run = ran.each k seat within in
+    record {
+      turns = subst (λ (deck : ℕ). AreTurns tables deck new.turns.items) (sym run.deck)
+          (turns-grown tables old.deck old.turns.items new.turns.items run.ran.made run.ran.turns
+          had.turns);
+      many = run.ran.turns.count ∙ had.many;
+    }
+
+-- what decks have after their threads ran is left as it is
+pub ran-then : {first now after : List Seat} → HaveRun first now → AreSameSeats now after
+    → HaveRun first after
+ran-then {first = first} {now = now} {after = after} ran same = record {
+  count = same.count ∙ ran.count;
+  each = λ place seat near.
+      let run = ran.each place seat near in
+      let one = same.each place seat (omega (arith, ran.count, near)) in
+      let old = get_or first place seat in
+      let new = get_or now place seat in
+      let left = get_or after place seat in
+      record {
+        deck = one.deck ∙ run.deck;
+        requests = one.requests ∙ run.requests;
+        ran = subst (λ (end : Result (Unit {0}) RunNo). HasRun old.deck old.requests.items end
+            old.last left.last old.turns.items left.turns.items) (sym one.end)
+            (subst (λ (last : ℕ). HasRun old.deck old.requests.items new.end old.last last
+            old.turns.items left.turns.items) (sym one.last)
+            (subst (HasRun old.deck old.requests.items new.end old.last new.last old.turns.items)
+            (sym one.turns) run.ran));
+      };
+}
 
 -- where no thread ran, each deck ran as far as that
 pub none-ran : (seats : List Seat) → All IsUnrun seats → HaveRun seats seats

@@ -85,11 +85,13 @@ module _ {V : Type 0} (number : V → ℕ) (entries : V → List Entry) (follows
   first-later = record { placed = placed; since = first-since }
 
   pub first-latched : (ledgers : List LedgerNow) → map history_of ledgers ≡ map entries volumes
-      → AllZip (IsLatched number entries follows (volume_at volumes) (table_at ledgers) decks)
-      volumes ledgers
-  first-latched ledgers same = zip-from (IsLatched number entries follows (volume_at volumes)
-      (table_at ledgers) decks) volumes ledgers (sym (as-many entries volumes ledgers same))
+      → AllZip (IsLatched number entries follows (length volumes) (volume_at volumes)
+      (table_at ledgers) decks) volumes ledgers
+  first-latched ledgers same = zip-from (IsLatched number entries follows (length volumes)
+      (volume_at volumes) (table_at ledgers) decks) volumes ledgers
+      (sym (as-many entries volumes ledgers same))
       (λ place volume ledger near. record {
+        within = omega (arith, placed place volume near, near);
         table = table-there ledgers place ledger
             (omega (arith, as-many entries volumes ledgers same, near))
             ∙ ap (table_at ledgers) (sym (placed place volume near));

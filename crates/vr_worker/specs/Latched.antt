@@ -1,6 +1,6 @@
 -- What a latch guards while the decks of a step run, and what is known of it whenever the latch is
 -- free. The rules are this project's own.
-use Rattle.std.specs.Prelude.{◌≡◌, ℕ, Bool, List, ◌++◌, All, Contains, IfSome, Option, map}
+use Rattle.std.specs.Prelude.{◌≡◌, ◌<◌, ℕ, Bool, List, ◌++◌, All, Contains, IfSome, Option, map}
 use Rattle.atomic_table.specs.Seated.{TableId}
 use Rattle.vr_types.specs.declared.request.Request.{Request}
 use Rattle.vr_history.specs.Merged.{IsStamped, last_stamp, part_of_deck}
@@ -29,11 +29,12 @@ pub record IsSince {V : Type 0} (entries : V → List Entry) (follows : V → V 
   pub grew : entries now ≡ entries first ++ more
   pub own : All (IsOfOne decks) more
 
--- The ledger is that of the volume's number, and has its history; and the volume is since the step
--- began.
+-- The volume is one of this many, the ledger is that of its number and has its history, and the
+-- volume is since the step began.
 pub record IsLatched {V : Type 0} (number : V → ℕ) (entries : V → List Entry)
-    (follows : V → V → Type 0) (start : ℕ → Option V) (ledgers : ℕ → TableId) (decks : List ℕ)
-    (volume : V) (ledger : LedgerNow) : Type 0 where
+    (follows : V → V → Type 0) (count : ℕ) (start : ℕ → Option V) (ledgers : ℕ → TableId)
+    (decks : List ℕ) (volume : V) (ledger : LedgerNow) : Type 0 where
+  pub within : number volume < count
   pub table : ledger.table ≡ ledgers (number volume)
   pub history : ledger.history ≡ entries volume
   pub since : IfSome (start (number volume))

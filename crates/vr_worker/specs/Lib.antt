@@ -1,5 +1,6 @@
 pub mod Asked
 pub mod Latched
+pub mod Placing
 pub mod Deck
 pub mod Decks
 pub mod Ready

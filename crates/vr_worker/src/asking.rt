@@ -1,5 +1,5 @@
 //! One request of a deck, asked at the latch of its volume event by event until it is answered.
-ghost use Rattle.std.specs.Prelude.{◌≡◌, ◌≢◌, ◌==◌, Contains, false};
+ghost use Rattle.std.specs.Prelude.{◌≡◌, ◌==◌, Contains, false};
 ghost use Rattle.vr_worker.specs.Asked.{MayAsk, is_done, is_ok};
 ghost use Rattle.vr_worker.specs.Latched.{HasTaken};
 
@@ -11,19 +11,38 @@ use vr_outside::{Gate, Spot};
 use vr_trace::RunNo;
 use vr_types::SharedRequest;
 
-/// Never returns. It may be called only where a latch guards a volume of another number than the one
-/// that is looked for. Latches are in the order of their volumes, so there is none; no type says at
-/// which place of a list a latch is.
-pub(crate) fn stay<R: Wait>(rt: &R, guarded: u32, wanted: usize)
-    requires other { guarded ≢ wanted }
-    ensures { ⊥ }
+/// One event of a request on the volume of this number, whose latch is held: whether the request
+/// was answered. It can't wait: it has no `Wait`. The latches are in the order of their volumes, so
+/// this is that volume's; no type says so. Were it another's, the deck would end as where memory
+/// runs out.
+fn event_held<V: Served + Send, N: Names<V>, G: Gate>(
+    held: &mut Latched<V, N>,
+    volume: u32,
+    turn: &mut Turn,
+    last: &mut u64,
+    line: u32,
+    request: &SharedRequest,
+    gate: &G,
+) -> Result<bool, RunNo>
+    requires own_ledger { turn.old.ledger ≡ N.ledgers volume }
+    requires deck { (turn.old.deck == 0) ≡ false }
+    requires named { Contains N.decks turn.old.deck }
+    requires may_ask { MayAsk request.now turn.old.entries }
+    ensures { HasTaken volume line request.now (is_done result) last.old last.new turn.old
+        turn.new }
 {
-    for _ in rt.forever() {}
-    unreachable!()
+    if held.number() != volume {
+        return Err(RunNo::Memory);
+    }
+    gate.pass(Spot::Holding {
+        deck: turn.deck(),
+        volume,
+    });
+    held.answer(turn, last, line, request)
 }
 
 /// One event of a request on the volume of this number, under its latch: whether the request was
-/// answered.
+/// answered. Nothing is done under the latch but that.
 fn event<R: Wait, V: Served + Send, N: Names<V>, G: Gate>(
     rt: &R,
     latch: &Mutex<Latched<V, N>>,
@@ -41,16 +60,7 @@ fn event<R: Wait, V: Served + Send, N: Names<V>, G: Gate>(
     ensures { HasTaken volume line request.now (is_done result) last.old last.new turn.old
         turn.new }
 {
-    let mut held = latch.lock(rt);
-    let guarded = held.number();
-    if guarded != volume {
-        stay(rt, guarded, volume as usize);
-    }
-    gate.pass(Spot::Holding {
-        deck: turn.deck(),
-        volume,
-    });
-    held.answer(turn, last, line, request)
+    event_held(&mut latch.lock(rt), volume, turn, last, line, request, gate)
 }
 
 /// Asks a request of the turn's deck on the volume of this number until it is answered. Each event

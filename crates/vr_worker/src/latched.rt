@@ -1,5 +1,5 @@
 //! What the latch of a volume guards while the decks of a step run.
-ghost use Rattle.std.specs.Prelude.{◌≡◌, ◌==◌, ℕ, List, Option, Contains, IfOk, IfSome, Some};
+ghost use Rattle.std.specs.Prelude.{◌≡◌, ◌<◌, ◌==◌, ℕ, List, Option, Contains, IfOk, IfSome, Some};
 ghost use Rattle.std.specs.Prelude.{None, [], false};
 ghost use Rattle.atomic_table.specs.Seated.{TableId};
 ghost use Rattle.vr_ledger.specs.Entries.{HasGrown};
@@ -13,9 +13,11 @@ use vr_ledger::{Ledger, Turn};
 use vr_trace::RunNo;
 use vr_types::SharedRequest;
 
-/// What a step knows of each volume by its number: the volume as the step began, and its ledger; and
-/// the decks of the step. One call fixes it.
+/// What a step knows of its volumes: how many there are; by its number, of each, the volume as the
+/// step began, and its ledger; and the decks of the step. One call fixes it.
 pub trait Names<V> {
+    ghost count: { ℕ };
+
     ghost start: { ℕ → Option V };
 
     ghost ledgers: { ℕ → TableId };
@@ -24,6 +26,8 @@ pub trait Names<V> {
 }
 
 impl<V> Names<V> for Brand {
+    ghost count = { 0 };
+
     ghost start = { λ number. None };
 
     ghost ledgers = { λ number. record {
@@ -54,14 +58,15 @@ impl<V: Served, N: Names<V>> Model for Latched<V, N> {
 
     ghost view = { λ latched. record { volume = latched.volume; ledger = latched.ledger } };
 
-    ghost invariant = { λ latched. IsLatched V.number V.entries V.follows N.start N.ledgers N.decks
-        latched.volume latched.ledger };
+    ghost invariant = { λ latched. IsLatched V.number V.entries V.follows N.count N.start N.ledgers
+        N.decks latched.volume latched.ledger };
 }
 
 impl<V: Served, N: Names<V>> Latched<V, N> {
     /// A volume as a step begins, with a ledger of its history.
     pub fn new(volume: V, ledger: Ledger) -> Latched<V, N>
-        requires { IsLatched V.number V.entries V.follows N.start N.ledgers N.decks volume ledger }
+        requires { IsLatched V.number V.entries V.follows N.count N.start N.ledgers N.decks volume
+            ledger }
         ensures { result ≡ record { volume = volume; ledger = ledger } }
     {
         Latched {
@@ -71,9 +76,10 @@ impl<V: Served, N: Names<V>> Latched<V, N> {
         }
     }
 
-    /// The number of the volume.
+    /// The number of the volume, which is one of the step's.
     pub fn number(&self) -> u32
-        ensures { result ≡ V.number self.now.volume }
+        ensures number { result ≡ V.number self.now.volume }
+        ensures within { result < N.count }
     {
         self.volume.number()
     }
@@ -138,6 +144,15 @@ impl<V: Served, N: Names<V>> Latched<V, N> {
         }
         self.ledger.record(turn, self.volume.history());
         answer
+    }
+
+    /// No other latch guards a volume of this number: it may be called only where that contradicts
+    /// what is known.
+    pub fn refute_twin(&mut self, twin: Latched<V, N>)
+        requires same { V.number twin.volume ≡ V.number self.old.volume }
+        ensures { ⊥ }
+    {
+        self.ledger.refute_twin(twin.ledger);
     }
 
     /// The volume alone, as the step ends.

@@ -24,6 +24,7 @@ mod cataloged;
 mod deck;
 mod decks;
 mod latched;
+mod placing;
 mod readying;
 mod running;
 mod served;

@@ -3,12 +3,13 @@ ghost use Rattle.std.specs.Prelude.{◌≡◌, ◌<◌, ◌≤◌, [], All, IfOk
 ghost use Rattle.std.specs.List.{AllZip};
 ghost use Rattle.std.specs.Prelude.{vec_capacity};
 ghost use Rattle.vr_worker.specs.Latched.{IsLatched, IsSince};
+ghost use Rattle.vr_worker.specs.Placing.{ArePut, AreWhole, taken};
 ghost use Rattle.vr_worker.specs.Ready.{AreLater, AreSameSeats, AreTold, HasTurnAt, HasTurns};
 ghost use Rattle.vr_worker.specs.Ready.{HaveRun, IsReady, IsSameSeat, IsToldAt, IsUnrun};
 
-use crate::asking::stay;
 use crate::deck::{Seat, run_deck};
 use crate::latched::{Latched, Names};
+use crate::placing::{no_places, put_all};
 use crate::served::Served;
 use std::alloc::Global;
 use std::sync::{Mutex, Wait};
@@ -18,10 +19,12 @@ use vr_ledger::Ledger;
 use vr_outside::Gate;
 use vr_types::OutOfMemory;
 
-/// Room for the latches of volumes, and for the volumes that come back.
+/// Room for the latches of volumes, places for what they guard, and room for the volumes that come
+/// back.
 #[derive(Drop)]
 struct Room<V: Served, N: Names<V>> {
     latches: Vec<Mutex<Latched<V, N>>>,
+    places: Vec<Option<Latched<V, N>>>,
     back: Vec<V>,
 }
 
@@ -29,12 +32,19 @@ struct Room<V: Served, N: Names<V>> {
 fn make_room<V: Served, N: Names<V>>(alloc: Global, count: usize) -> Result<Room<V, N>, OutOfMemory>
     ensures latches { IfOk result (λ room. (room.latches.items ≡ [])
         × (count ≤ vec_capacity room.latches)) }
+    ensures places { IfOk result (λ room. ArePut V.number count room.places.items) }
+    ensures none { IfOk result (λ room. taken room.places.items ≡ 0) }
     ensures back { IfOk result (λ room. (room.back.items ≡ [])
         × (count ≤ vec_capacity room.back)) }
 {
     let latches = Vec::with_capacity(alloc, count)?;
+    let places = no_places(alloc, count)?;
     let back = Vec::with_capacity(alloc, count)?;
-    Ok(Room { latches, back })
+    Ok(Room {
+        latches,
+        places,
+        back,
+    })
 }
 
 /// Puts each volume behind a latch, with its ledger, in room that was made.
@@ -45,8 +55,8 @@ fn latch_all<V: Served, N: Names<V>>(
 )
     requires none { latches.old.items ≡ [] }
     requires room { length volumes.items ≤ vec_capacity latches.old }
-    requires latched { AllZip (IsLatched V.number V.entries V.follows N.start N.ledgers N.decks)
-        volumes.items ledgers.items }
+    requires latched { AllZip (IsLatched V.number V.entries V.follows N.count N.start N.ledgers
+        N.decks) volumes.items ledgers.items }
     ensures { length latches.new.items ≡ length volumes.items }
 {
     let mut ledgers = ledgers.into_iter();
@@ -104,13 +114,13 @@ fn tell_all<V: Served, N: Names<V>>(latched: &mut Latched<V, N>, place: usize, s
     }
 }
 
-/// The volume that the latch at a place guards, once the threads have ended.
-fn take_out<R: Wait, V: Served + Send, N: Names<V>>(
-    rt: &R,
-    latch: Mutex<Latched<V, N>>,
+/// The volume at a place alone, once the threads have ended.
+fn take_out<V: Served, N: Names<V>>(
+    mut latched: Latched<V, N>,
     place: usize,
     seats: &mut [Seat],
 ) -> V
+    requires place { V.number latched.volume ≡ place }
     requires turns { All (HasTurnAt N.ledgers place) seats.old }
     ensures place { V.number result ≡ place }
     ensures since { IfSome (N.start place)
@@ -118,33 +128,32 @@ fn take_out<R: Wait, V: Served + Send, N: Names<V>>(
     ensures told { All (IsToldAt place (V.entries result)) seats.new }
     ensures seats { AreSameSeats seats.old seats.new }
 {
-    let mut latched = latch.into_inner();
-    let guarded = latched.number();
-    if guarded as usize != place {
-        stay(rt, guarded, place);
-    }
     tell_all(&mut latched, place, seats);
     latched.into_volume()
 }
 
-/// The volumes that the latches guard, in their order, in room that was made.
-fn take_all<R: Wait, V: Served + Send, N: Names<V>>(
-    rt: &R,
-    latches: Vec<Mutex<Latched<V, N>>>,
+/// The volumes that are at their places, in their order, in room that was made.
+fn take_all<V: Served, N: Names<V>>(
+    places: Vec<Option<Latched<V, N>>>,
     seats: &mut [Seat],
     mut back: Vec<V>,
 ) -> Vec<V>
     requires none { back.items ≡ [] }
-    requires room { length latches.items ≤ vec_capacity back }
-    requires turns { All (HasTurns N.ledgers (length latches.items)) seats.old }
-    ensures count { length result.items ≡ length latches.items }
+    requires room { length places.items ≤ vec_capacity back }
+    requires whole { AreWhole V.number 0 places.items }
+    requires many { length places.items ≡ N.count }
+    requires turns { All (HasTurns N.ledgers N.count) seats.old }
+    ensures count { length result.items ≡ length places.items }
     ensures later { AreLater V.number V.entries V.follows N.start N.decks result.items }
     ensures told { All (AreTold V.entries result.items) seats.new }
     ensures seats { AreSameSeats seats.old seats.new }
 {
-    for latch in latches {
+    for one in places {
+        let Some(latched) = one else {
+            unreachable!();
+        };
         let place = back.len();
-        let volume = take_out(rt, latch, place, seats);
+        let volume = take_out(latched, place, seats);
         back.push_reserved(volume);
     }
     back
@@ -161,19 +170,27 @@ fn run_in<R: Threads + Wait + Sync, V: Served + Send, N: Names<V> + Send + Sync,
 ) -> Vec<V>
     requires latches { (room.latches.items ≡ [])
         × (length volumes.items ≤ vec_capacity room.latches) }
+    requires places { ArePut V.number (length volumes.items) room.places.items }
+    requires none { taken room.places.items ≡ 0 }
     requires back { (room.back.items ≡ []) × (length volumes.items ≤ vec_capacity room.back) }
-    requires latched { AllZip (IsLatched V.number V.entries V.follows N.start N.ledgers N.decks)
-        volumes.items ledgers.items }
+    requires many { length volumes.items ≡ N.count }
+    requires latched { AllZip (IsLatched V.number V.entries V.follows N.count N.start N.ledgers
+        N.decks) volumes.items ledgers.items }
     requires ready { All (IsReady N.ledgers N.decks (length volumes.items)) seats.old }
     ensures count { length result.items ≡ length volumes.items }
     ensures later { AreLater V.number V.entries V.follows N.start N.decks result.items }
     ensures ran { HaveRun seats.old seats.new }
     ensures told { All (AreTold V.entries result.items) seats.new }
 {
-    let Room { mut latches, back } = room;
+    let Room {
+        mut latches,
+        mut places,
+        back,
+    } = room;
     latch_all(&mut latches, volumes, ledgers);
     run_each(rt, latches.as_slice(), seats, gate);
-    take_all(rt, latches, seats, back)
+    put_all(latches, places.as_mut_slice());
+    take_all(places, seats, back)
 }
 
 /// Runs the decks over the volumes. Where memory is refused no thread starts, and the volumes are
@@ -191,8 +208,9 @@ pub(crate) fn run_named<
     seats: &mut [Seat],
     gate: &G,
 ) -> Vec<V>
-    requires latched { AllZip (IsLatched V.number V.entries V.follows N.start N.ledgers N.decks)
-        volumes.items ledgers.items }
+    requires many { length volumes.items ≡ N.count }
+    requires latched { AllZip (IsLatched V.number V.entries V.follows N.count N.start N.ledgers
+        N.decks) volumes.items ledgers.items }
     requires first { AreLater V.number V.entries V.follows N.start N.decks volumes.items }
     requires ready { All (IsReady N.ledgers N.decks (length volumes.items)) seats.old }
     requires told { All (AreTold V.entries volumes.items) seats.old }

@@ -1,5 +1,3 @@
-use Rattle.std.proofs.lemmas.List.Elements.{recursion_from_All}
-use Rattle.vr_event.specs.Volume.{IsServedCluster}
 use Rattle.vr_recover.specs.Recovered.{standing_all}
 use Rattle.vr_job.proofs.Readying.{handed-from, handed-ready, from-same, ready-same}
 use Rattle.vr_job.specs.Opened.{opened_now}
@@ -16,8 +14,7 @@ returns-clause-ready g c =
     c.in_ok-found.ensures.parts c.in_ok-found.ensures.log f.space o.space now
     c.in_ok-found.ensures.space
     (handed-ready o.geometry o.catalog.value o.parts.items o.log o.space now
-    c.in_ok-opened.ensures.handed
-    (recursion_from_All IsServedCluster o.catalog.value c.in_ok-opened.ensures.handed.clusters))
+    c.in_ok-opened.ensures.handed)
 
 pub returns-clause-from : goal.returns-clause-from
 returns-clause-from g c told =

@@ -123,6 +123,9 @@ returns-clause-set g c told = (done g c told).set
 pub returns-clause-due : goal.returns-clause-due
 returns-clause-due g c told = (done g c told).due
 
+pub returns-clause-stages : goal.returns-clause-stages
+returns-clause-stages g c told place = refl
+
 pub returns-clause-put : goal.returns-clause-put
 returns-clause-put g c =
     subst (All (InHeld (NumberedShape c.args.self.now.chain.part) (known g c)))

@@ -340,7 +340,10 @@ returns-in-Ok-clause-splits g c told =
     (sym c.enter_stage.ensures.store)
     (counts-staged part c.in-Ok.kind before.store store before.file new.file.entries c.args.after
     c.args.unit c.args.line c.splits_interval.result c.area_taken-taken.result
-    (c.in-Ok.ensures.more told) c.advance.ensures.parts (c.in-Ok.ensures.kind told) owners
+    (c.in-Ok.ensures.more told) c.advance.ensures.parts
+    (subst (λ (v : VolumeNow g.row.B.Denot). part_among v.store.parts part.0 ≢ None)
+    (sym c.self.view_is) c.requires.at.laid)
+    (c.in-Ok.ensures.kind told) owners
     (c.area_taken-taken.ensures part before.store.space store.space c.least_free-least.ensures
     c.free_areas-free.ensures c.free_areas.ensures
     (owners-claimed part c.in-Ok.kind before.store.space store.space owners))

@@ -10,10 +10,9 @@ use Rattle.vr_record_file.specs.Now.{state_now}
 use Rattle.vr_event.specs.Opening.{owned_in}
 use Rattle.vr_volume.specs.Laid.{shape_in}
 use Rattle.vr_store.specs.Store.{IsSet, IsStored, StoreNow, part_now, shape_among}
-use Rattle.vr_event.specs.Volume.{AreServedClusters}
 use Rattle.vr_event.proofs.Areas.{owned-same, unlaid-same}
 use Rattle.vr_event.proofs.Opened.{free-owned, opened-stored}
-use Rattle.vr_event.proofs.Served.{served_are}
+use Rattle.vr_event.proofs.Served.{served_are, served_same}
 use Rattle.vr_event.proofs.volume.Volume.new.Goals as goal
 
 pub returns-clause-held : goal.returns-clause-held
@@ -27,7 +26,7 @@ returns-clause-held g c told contents catalog served geometry records sound coun
     ap (state_of file.geometry opening) c.new-2.ensures.entries in
     record {
       file = c.new-2.ensures.state contents (owned_in space) catalog
-          (served_are c.args.catalog served) parts;
+          (served_are c.args.geometry c.args.catalog served) parts;
       free = ap (λ (s : StoreNow). free_count s.space) c.new.ensures
           ∙ free-owned space (area_count file.geometry)
           (count ∙ sym (ap area_count c.new-2.ensures.geometry))
@@ -51,7 +50,8 @@ returns-clause-whole g c served set geometry laid =
     let file = c.new-2.result in
     let seen = g.B.Blocks.seen c.args.blocks in
     record {
-      served = subst AreServedClusters (sym c.new-2.ensures.catalog) served;
+      served = served_same c.args.geometry file.geometry c.args.catalog file.catalog
+          c.new-2.ensures.geometry c.new-2.ensures.catalog served;
       geometry = λ going. ap (λ (s : StoreNow). s.log.geometry) c.new.ensures ∙ geometry
           ∙ sym c.new-2.ensures.geometry;
       laid = λ going part. ap (λ (s : StoreNow). shape_among s.parts part) c.new.ensures ∙ laid part

@@ -14,17 +14,18 @@ use Rattle.vr_event.proofs.Staged.{last-claimed, last-laid, last-shape, staged-o
 use Rattle.vr_event.proofs.Staged.{stepped-entered}
 use Rattle.vr_event.proofs.Stepped.{known-with}
 use Rattle.vr_event.proofs.Wholes.{held-moved}
-use Rattle.std.proofs.Common.{◌<◌, ◌≢◌, inl, Some}
+use Rattle.std.proofs.Common.{◌<◌, inl, Some}
 use Rattle.vr_store.specs.Store.{StoreNow}
 use Rattle.vr_store.specs.Left.{left_for}
-use Rattle.vr_types.specs.Faults.{Faults}
-use Rattle.std.specs.Prelude.{option_map, is_some}
+use Rattle.std.specs.Prelude.{option_map}
 use Rattle.vr_types.specs.Space.{free_count}
 use Rattle.vr_history.specs.State.{BeforeImage}
 use Rattle.vr_store.specs.Parts.{HasMoreAt, OnlySplit}
-use Rattle.vr_store.specs.LastImage.{last_of_unit, stage_told, OnLast}
-use Rattle.vr_event.specs.Nearer.{CountsSplits, EntersSplits}
-use Rattle.vr_event.proofs.CountedSplits.{KeepsUsed, adds-told, at-last, counts-stage, keeps-stored, splits-answered, one-read, no-reads}
+use Rattle.vr_store.specs.LastImage.{IsDueAtLast, last_of_unit, stage_told}
+use Rattle.vr_event.specs.Nearer.{CountsSplits, EntersSplits, HasKeyed}
+use Rattle.vr_event.proofs.CountedSplits.{KeepsUsed, adds-told, at-last, counts-stage, keeps-stored}
+use Rattle.vr_event.proofs.CountedSplits.{no-reads, one-read, splits-answered}
+use Rattle.vr_event.proofs.DueSplits.{last-keyed}
 use Rattle.vr_event.proofs.SplitCounts.{split_entered}
 use Rattle.vr_event.proofs.volume.Volume.stage_back.Goals as goal
 
@@ -226,11 +227,19 @@ returns-in-Ok-clause-splits g c told =
     (counts-stage part (stage_told split) before.store store before.file new.file c.args.after unit
     c.args.line c.is_some.result taken free now c.enter_stage.ensures.leaves
     (at-last (λ n. OnlySplit n before.store.parts store.parts) before.store unit part numbers
-    c.advance_last.ensures.parts).others
+    c.advance_last.ensures.parts)
     (at-last (λ n. HasMoreAt n (stage_told split) before.store.parts store.parts free now)
     before.store unit part numbers (c.in-Ok.ensures.more told))
     (adds-told part before.store.space store.space split taken space by
-    ∙ ap (λ (b : Bool). split_entered b taken) (sym c.is_some.ensures))))
+    ∙ ap (λ (b : Bool). split_entered b taken) (sym c.is_some.ensures))
+    (at-last (λ n. HasKeyed before.store.parts n) before.store unit part numbers
+    (last-keyed before.store (g.B.Blocks.seen before.blocks).cur unit c.args.length
+    (last-shape before.store (g.B.Blocks.seen before.blocks) unit
+    ((subst (IsWhole g.B.Blocks.seen) (sym c.self.view_is) c.requires.whole).set
+    (ap (λ (v : VolumeNow g.row.B.Denot). v.file.stopped) c.self.view_is ∙ c.requires.going)))
+    (subst (λ (v : VolumeNow g.row.B.Denot).
+    IsDueAtLast v.store (g.B.Blocks.seen v.blocks).cur unit c.args.length) (sym c.self.view_is)
+    (c.requires.due told))))))
 
 pub returns-in-Err-Read-clause-splits : goal.returns-in-Err-Read-clause-splits
 returns-in-Err-Read-clause-splits g c told =

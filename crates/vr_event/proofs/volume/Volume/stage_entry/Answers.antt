@@ -213,6 +213,10 @@ returns-in-Ok-clause-less g c told =
           (counts-staged catalog_part c.in-Ok.kind before.store c.advance.new.self before.file
           final.file.entries c.args.after c.args.unit c.args.line c.splits_interval.result
           c.area_taken-taken.result (c.in-Ok.ensures.more told) c.advance.ensures.parts
+          (catalog-there before.store.parts before.file.geometry
+          ((subst (IsWhole seen) (sym c.self.view_is) c.requires.whole).laid
+          (ap (λ (v : VolumeNow g.row.B.Denot). v.file.stopped) c.self.view_is
+          ∙ c.requires.going) 0))
           (subst (λ (r : Result StageKind DeviceFault). IfSome (shape_among before.store.parts 0)
           (λ (shape : Shape). IfOk r (IsStageOf shape))) c.in-Ok.is
           (c.advance.ensures.kind told))

@@ -5,6 +5,7 @@ use Rattle.vr_types.specs.declared.reply.Reply.TheVariants.{Refused}
 use Rattle.vr_record_file.specs.Now.{FileNow, MayBeAsked}
 use Rattle.vr_event.specs.Volume.{AreServedClusters, IsFileHeld, VolumeNow}
 use Rattle.vr_event.proofs.Entries.{held-known}
+use Rattle.vr_event.proofs.Served.{served_same}
 use Rattle.vr_event.proofs.Wholes.{whole-stopped}
 use Rattle.vr_event.proofs.volume.Volume.stop.Goals as goal
 
@@ -27,15 +28,16 @@ pub returns-clause-whole : goal.returns-clause-whole
 returns-clause-whole g c served =
     let old : FileNow = c.self.inside.file in
     let new : FileNow = c.fail_write.new.self in
-    let before : AreServedClusters old.catalog =
-    subst (λ (v : VolumeNow g.row.B.Denot). AreServedClusters v.file.catalog) (sym c.self.view_is)
-    served in
+    let before : AreServedClusters old.geometry old.catalog =
+    subst (λ (v : VolumeNow g.row.B.Denot). AreServedClusters v.file.geometry v.file.catalog)
+    (sym c.self.view_is) served in
     whole-stopped g.B.Blocks.seen (record {
       blocks = c.self.inside.blocks;
       number = c.self.inside.number;
       store = c.self.inside.store;
       file = new;
-    }) (subst AreServedClusters (sym (ap (λ (f : FileNow). f.catalog)
-    c.fail_write.ensures.leaves)) before)
+    }) (served_same old.geometry new.geometry old.catalog new.catalog
+    (ap (λ (f : FileNow). f.geometry) c.fail_write.ensures.leaves)
+    (ap (λ (f : FileNow). f.catalog) c.fail_write.ensures.leaves) before)
     (λ going. none-some _ (sym going ∙ ap (λ (f : FileNow). f.stopped)
     c.fail_write.ensures.leaves))

@@ -5,7 +5,8 @@ use Rattle.vr_types.specs.Blocks.{Keeps}
 use Rattle.vr_types.specs.Seen.{Left}
 use Rattle.vr_types.specs.declared.fault.DeviceFault.TheVariants.{Read}
 use Rattle.vr_space.specs.Areas.{IsChainOn, KeyedChain}
-use Rattle.vr_space.specs.Part.{DueMoreAt, InHeld, KeyedShape, Knows, Stands, given, part_no}
+use Rattle.vr_space.specs.Part.{DueMoreAt, InHeld, KeyedShape, Knows, SameStages, Stands, given}
+use Rattle.vr_space.specs.Part.{part_no}
 use Rattle.vr_space.specs.Room.{Lengths}
 use Rattle.vr_space.proofs.CallerLemmas.{resting-stands}
 use Rattle.vr_attach.specs.Areas.{AreasNow}
@@ -302,6 +303,40 @@ returns-clause-rests g c told owners still =
     (subst (λ (key : List ℕ). IsSetIn chain.part (known_in chain splits new) put key item a b)
     c.as_slice.ensures (c.in_ok-put.ensures.done told kept splits ready)) in
     done.rests owners still
+
+pub returns-clause-stages : goal.returns-clause-stages
+returns-clause-stages g c told =
+    let now = c.args.self.now in
+    let chain : AreasNow = c.self.inside.areas in
+    let a = g.B.Blocks.seen c.args.blocks.now in
+    let b = g.B.Blocks.seen c.set_over.new.blocks in
+    let place = c.args.place.now in
+    let at : List ℕ = c.as_slice.result.now in
+    let item = given c.args.bytes in
+    let same : chain.part ≡ now.part = ap (λ (keyed : Owned). keyed.part) c.self.view_is in
+    let kept : Lengths = g.K.Kept.kept c.args._kept.now (part_no (KeyedShape now.part)) in
+    let splits : Splitting = c.self.inside.splits in
+    let old = mets c.self.inside.slots in
+    let new = mets c.set_over.new.slots in
+    let ready : IsReadyIn chain.part (known_in chain splits old) kept at item a =
+    subst (λ (key : List ℕ). IsReadyIn chain.part (known_in chain splits old) kept key item a)
+    (sym c.as_slice.ensures)
+    (subst (λ (keyed : Owned). IsReadyIn keyed.part (known_of keyed) kept place item a)
+    (sym c.self.view_is)
+    (record {
+      rests = c.requires.rests told;
+      room = c.requires.room told;
+      knows = c.requires.knows told;
+      can = c.requires.can told;
+      valid = c.requires.record;
+    })) in
+    let put : List ℕ = put_of c.in_ok-put.put in
+    let done : IsSetIn now.part (known_in chain splits new) put place item a b =
+    subst (λ (part : KeyedChain). IsSetIn part (known_in chain splits new) put place item a b) same
+    (subst (λ (key : List ℕ). IsSetIn chain.part (known_in chain splits new) put key item a b)
+    c.as_slice.ensures (c.in_ok-put.ensures.done told kept splits ready)) in
+    subst (λ (keyed : Owned). SameStages (KeyedShape now.part) (known_of keyed)
+    (known_in chain splits new) a.cur b.cur) c.self.view_is done.stages
 
 pub returns-clause-knows : goal.returns-clause-knows
 returns-clause-knows g c told =

@@ -20,3 +20,9 @@ returns-in-Chained-clause-due g c = rw c.in-Chained.is c.set-in-Chained.ensures.
 
 pub returns-in-Chained-clause-room : goal.returns-in-Chained-clause-room
 returns-in-Chained-clause-room g c = rw c.in-Chained.is c.set-in-Chained.ensures.room
+
+pub returns-in-Keyed-clause-stages : goal.returns-in-Keyed-clause-stages
+returns-in-Keyed-clause-stages g c = rw c.in-Keyed.is c.set.ensures.stages
+
+pub returns-in-Chained-clause-stages : goal.returns-in-Chained-clause-stages
+returns-in-Chained-clause-stages g c = rw c.in-Chained.is c.set-in-Chained.ensures.stages

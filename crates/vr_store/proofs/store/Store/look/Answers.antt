@@ -4,13 +4,10 @@ use Rattle.vr_types.specs.Content.{record_at}
 use Rattle.vr_types.proofs.CallerLemmas.{keeps-none}
 use Rattle.vr_space.specs.Part.{IsPlaceOf, Shape, record_read}
 use Rattle.vr_history.specs.State.{State}
-use Rattle.vr_log.specs.LogNow.{LogNow}
-use Rattle.vr_undo.specs.declared.record.KeptRecord.{KeptRecord}
-use Rattle.vr_types.specs.declared.unit.PartNo.{PartNo}
-use Rattle.vr_store.specs.Store.{ChangedBy, IsSet, IsStored, PartNow, StoreNow, changed_by}
+use Rattle.vr_store.specs.Store.{IsSet, IsStored, StoreNow, changed_by}
 use Rattle.vr_store.specs.Store.{part_now}
 use Rattle.vr_store.proofs.PutNothing.{set-keeps, stored-keeps}
-use Rattle.vr_store.proofs.PartsAt.{laid-found, laid-same, none-laid}
+use Rattle.vr_store.proofs.PartsAt.{laid-found, laid-same, none-laid, store-of}
 use Rattle.vr_store.proofs.Recorded.{at-shape, knows-at, none-read, record-read, set-at, stand-at}
 use Rattle.vr_store.proofs.store.Store.look.Goals as goal
 
@@ -35,11 +32,6 @@ copy_at-requires g c =
           (g.met.B.Blocks.cur_may c.args.blocks.now told) (c.requires.stands told);
       knows = λ told. knows-at store a c.requires.set number part found (c.requires.stands told);
     }
-
-abbrev store-of : LogNow → List KeptRecord → List ChangedBy → List (Option PartNo)
-    → List PartNow → StoreNow
-store-of log undo changed space parts =
-    record { log = log; undo = undo; parts = parts; changed = changed; space = space }
 
 pub returns-in-Some : goal.returns-in-Some
 returns-in-Some g c =

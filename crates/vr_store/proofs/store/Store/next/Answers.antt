@@ -1,13 +1,10 @@
-use Rattle.std.proofs.Common.{Bool, false, List, ◌≤◌, Option, ap, refl, sym, subst, ◌∙◌, map}
+use Rattle.std.proofs.Common.{Bool, false, ◌≤◌, Option, ap, refl, sym, subst, ◌∙◌, map}
 use Rattle.std.proofs.lemmas.Result.{IfOk-weaker}
 use Rattle.vr_types.proofs.CallerLemmas.{keeps-none}
-use Rattle.vr_types.specs.declared.unit.PartNo.{PartNo}
 use Rattle.vr_space.specs.Part.{NextIs, Shape, place_length}
-use Rattle.vr_log.specs.LogNow.{LogNow}
-use Rattle.vr_undo.specs.declared.record.KeptRecord.{KeptRecord}
 use Rattle.vr_store.specs.Next.{IsNextAt, NextOf}
-use Rattle.vr_store.specs.Store.{ChangedBy, PartNow, StoreNow, changed_by, part_now}
-use Rattle.vr_store.proofs.PartsAt.{laid-found, laid-same, none-laid}
+use Rattle.vr_store.specs.Store.{PartNow, StoreNow, changed_by, part_now}
+use Rattle.vr_store.proofs.PartsAt.{laid-found, laid-same, none-laid, store-of}
 use Rattle.vr_store.proofs.Recorded.{at-shape, knows-at, set-at, stand-at}
 use Rattle.vr_store.proofs.store.Store.next.Goals as goal
 
@@ -32,11 +29,6 @@ next-requires g c =
           (g.met.B.Blocks.cur_may c.args.blocks.now told) (c.requires.stands told);
       knows = λ told. knows-at store a c.requires.set number part found (c.requires.stands told);
     }
-
-abbrev store-of : LogNow → List KeptRecord → List ChangedBy → List (Option PartNo)
-    → List PartNow → StoreNow
-store-of log undo changed space parts =
-    record { log = log; undo = undo; parts = parts; changed = changed; space = space }
 
 pub returns-in-Some-clause-next : goal.returns-in-Some-clause-next
 returns-in-Some-clause-next g c told =

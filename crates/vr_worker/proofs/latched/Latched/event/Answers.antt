@@ -19,6 +19,7 @@ invariant_of-self g c =
     let event = c.answer-answer.ensures in
     let same : V.number new ≡ V.number old = event.number in
     record {
+      within = omega (arith, same, c.self.invariant.within);
       table = c.record.ensures.table ∙ c.self.invariant.table
           ∙ ap g.N.Names.ledgers (sym same);
       history = c.record.ensures.history ∙ c.history-3.ensures;
