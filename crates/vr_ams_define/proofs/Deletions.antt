@@ -8,8 +8,8 @@ use Rattle.vr_history.specs.declared.entry.Entry.{Entry}
 use Rattle.vr_trace.specs.Shown.{Shown}
 use Rattle.vr_trace.specs.declared.command.Failure.{Failure}
 use Rattle.vr_ams_define.specs.Answers.{Answering}
-use Rattle.vr_ams_define.specs.ChangeSteps.{AreDeletedSome}
-use Rattle.vr_ams_define.specs.Deleted.{AreDeleted, IsOneDeleted, deleted_line, deleted_lines}
+use Rattle.vr_ams_define.specs.EditSteps.{AreDeletedSome}
+use Rattle.vr_ams_define.specs.Deleted.{AreDeleted, IsOneDeleted}
 use Rattle.vr_ams_define.specs.Grown.{AreRunOn}
 use Rattle.vr_ams_define.proofs.GrownLemmas.{run-again, run-nothing}
 
@@ -18,44 +18,39 @@ pub record HasDeleted {V : Type 0} (shown : V → Shown) (geometry : V → Geome
     (answers : Answering V) (history : V → List Entry) (goes : V → V → Type 0) (line : ℕ)
     (kind : Option EntryKind) (names : List (List ℕ)) (count : ℕ) (old new : List V)
     (lines : List ℕ) (failures : List (Option Failure)) : Type 0 where
-  pub ran : AreDeleted shown answers line kind (take count names) old new failures
-  pub lines_are : lines ≡ deleted_lines (take count names) failures
+  pub ran : AreDeleted shown answers line kind (take count names) old new failures lines
   pub grew : AreRunOn history goes (line ∷ []) old new
   pub shapes : map geometry new ≡ map geometry old
 
 -- ---- one name more
 
 module _ {V : Type 0} (shown : V → Shown) (answers : Answering V) (line : ℕ)
-    (kind : Option EntryKind) (name : List ℕ) (mid : List V) (failure : Option Failure) where
-  deleted-then : (new : List V) → IsOneDeleted shown answers line kind name mid new failure
-      → (names : List (List ℕ)) (old : List V) (failures : List (Option Failure))
-      → AreDeleted shown answers line kind names old mid failures
+    (kind : Option EntryKind) (name : List ℕ) (mid new : List V) (failure : Option Failure)
+    (more : List ℕ) (one : IsOneDeleted shown answers line kind name mid new failure more) where
+  deleted-then : (names : List (List ℕ)) (old : List V) (failures : List (Option Failure))
+      (lines : List ℕ) → AreDeleted shown answers line kind names old mid failures lines
       → AreDeleted shown answers line kind (names ++ name ∷ []) old new (failures ++ failure ∷ [])
-  deleted-then new one [] old [] ran = (
+      (lines ++ more)
+  deleted-then [] old [] lines ran = (
     new,
-    subst (λ (from : List V). IsOneDeleted shown answers line kind name from new failure) ran.0
-        one,
-    (refl, refl),
+    more,
+    [],
+    subst (λ (from : List V). IsOneDeleted shown answers line kind name from new failure more)
+        ran.0 one,
+    (refl, refl, refl),
+    ap (λ (them : List ℕ). them ++ more) ran.2 ∙ sym (append-nil more),
   )
-  deleted-then new one [] old (other ∷ failures) ran =
+  deleted-then [] old (other ∷ failures) lines ran =
       let none = ran.1 in absurd (cc)
-  deleted-then new one (first ∷ names) old [] ran = absurd ran
-  deleted-then new one (first ∷ names) old (other ∷ failures) (between, this, rest) =
-      (between, this, deleted-then new one names between failures rest)
-
-  lines-then : (names : List (List ℕ)) (old : List V) (failures : List (Option Failure))
-      → AreDeleted shown answers line kind names old mid failures
-      → deleted_lines (names ++ name ∷ []) (failures ++ failure ∷ [])
-      ≡ deleted_lines names failures ++ deleted_line name failure
-  lines-then [] old [] ran = append-nil (deleted_line name failure)
-  lines-then [] old (other ∷ failures) ran =
-      let none = ran.1 in absurd (cc)
-  lines-then (first ∷ names) old [] ran = absurd ran
-  lines-then (first ∷ names) old (other ∷ failures) (between, this, rest) =
-      ap (λ (them : List ℕ). deleted_line first other ++ them)
-      (lines-then names between failures rest)
-      ∙ sym (append_assoc (deleted_line first other) (deleted_lines names failures)
-      (deleted_line name failure))
+  deleted-then (first ∷ names) old [] lines ran = absurd ran
+  deleted-then (first ∷ names) old (other ∷ failures) lines (between, this, rest, ended, ran, is) = (
+    between,
+    this,
+    rest ++ more,
+    ended,
+    deleted-then names between failures rest ran,
+    ap (λ (them : List ℕ). them ++ more) is ∙ append_assoc this rest more,
+  )
 
 -- ---- the loop
 
@@ -76,8 +71,7 @@ module _ {V : Type 0} (shown : V → Shown) (geometry : V → Geometry) (answers
   pub none-deleted : (lines : List ℕ) (failures : List (Option Failure)) → lines ≡ []
       → failures ≡ [] → Deleted 0 old lines failures
   none-deleted lines failures no-lines no-failures = record {
-    ran = (refl, no-failures);
-    lines_are = no-lines;
+    ran = (refl, no-failures, no-lines);
     grew = run-nothing history goes nowhere (line ∷ []) old;
     shapes = refl;
   }
@@ -95,61 +89,52 @@ module _ {V : Type 0} (shown : V → Shown) (geometry : V → Geometry) (answers
     left-now new same = record {
       count = count;
       failures = failures;
+      lines = lines;
       between = now;
       ran = come.ran;
       shows = same;
     }
 
-    module _ (new : List V) (failure : Option Failure)
-        (one : IsOneDeleted shown answers line kind name now new failure) where
+    module _ (new : List V) (failure : Option Failure) (more : List ℕ)
+        (one : IsOneDeleted shown answers line kind name now new failure more) where
       ran-next : AreDeleted shown answers line kind (take (count + 1) names) old new
-          (failures ++ failure ∷ [])
+          (failures ++ failure ∷ []) (lines ++ more)
       ran-next = subst (λ (them : List (List ℕ)).
-          AreDeleted shown answers line kind them old new (failures ++ failure ∷ []))
+          AreDeleted shown answers line kind them old new (failures ++ failure ∷ [])
+          (lines ++ more))
           (sym (take-one names count name near at))
-          (deleted-then shown answers line kind name now failure new one (take count names) old
-          failures come.ran)
-
-      lines-next : lines ++ deleted_line name failure
-          ≡ deleted_lines (take (count + 1) names) (failures ++ failure ∷ [])
-      lines-next = ap (λ (them : List ℕ). them ++ deleted_line name failure) come.lines_are
-          ∙ sym (lines-then shown answers line kind name now failure (take count names) old
-          failures come.ran)
-          ∙ ap (λ (them : List (List ℕ)). deleted_lines them (failures ++ failure ∷ []))
-          (sym (take-one names count name near at))
+          (deleted-then shown answers line kind name now new failure more one (take count names)
+          old failures lines come.ran)
 
       -- the name came to its end, and this can't be noted
       pub left-next : AreDeletedSome shown answers line kind names old new
       left-next = record {
         count = count + 1;
         failures = failures ++ failure ∷ [];
+        lines = lines ++ more;
         between = new;
         ran = ran-next;
         shows = refl;
       }
 
       pub one-deleted : (lines-new : List ℕ) (failures-new : List (Option Failure))
-          → lines-new ≡ lines ++ deleted_line name failure
-          → failures-new ≡ failures ++ failure ∷ []
+          → lines-new ≡ lines ++ more → failures-new ≡ failures ++ failure ∷ []
           → AreRunOn history goes (line ∷ []) now new → map geometry new ≡ map geometry now
           → Deleted (count + 1) new lines-new failures-new
       one-deleted lines-new failures-new lines-are failures-are grew shapes = record {
         ran = subst (λ (them : List (Option Failure)).
-            AreDeleted shown answers line kind (take (count + 1) names) old new them)
-            (sym failures-are) ran-next;
-        lines_are = lines-are ∙ lines-next
-            ∙ ap (deleted_lines (take (count + 1) names)) (sym failures-are);
+            AreDeleted shown answers line kind (take (count + 1) names) old new them lines-new)
+            (sym failures-are)
+            (subst (λ (them : List ℕ). AreDeleted shown answers line kind
+            (take (count + 1) names) old new (failures ++ failure ∷ []) them) (sym lines-are)
+            ran-next);
         grew = grew-now new grew;
         shapes = shapes ∙ come.shapes;
       }
 
   module _ (count : ℕ) (now : List V) (lines : List ℕ) (failures : List (Option Failure))
       (come : Deleted count now lines failures) (past : length names ≤ count) where
-    pub all-deleted : AreDeleted shown answers line kind names old now failures
+    pub all-deleted : AreDeleted shown answers line kind names old now failures lines
     all-deleted = subst (λ (them : List (List ℕ)).
-        AreDeleted shown answers line kind them old now failures)
+        AreDeleted shown answers line kind them old now failures lines)
         (take_all count names past) come.ran
-
-    pub all-lines : lines ≡ deleted_lines names failures
-    all-lines = come.lines_are
-        ∙ ap (λ (them : List (List ℕ)). deleted_lines them failures) (take_all count names past)

@@ -29,6 +29,13 @@ shown-at shown volumes number spare within =
     slice_get-map shown volumes number
     ∙ ap (option_map shown) (slice_get-get_or volumes number spare within)
 
+-- as it is read
+pub shown-on : {V T : Type 0} (shown : V → T) (volumes : List V) (number : ℕ) (one : V)
+    → number < length volumes → one ≡ get_or volumes number one
+    → slice_get (map shown volumes) number ≡ Some (shown one)
+shown-on {V} shown volumes number one within is =
+    shown-at shown volumes number one within ∙ ap (λ (it : V). Some (shown it)) (sym is)
+
 failure-at : {V : Type 0} (shown : V → Shown) (geometry : V → Geometry) (volumes : List V)
     (number : ℕ) (spare : V) (order : Define) → number < length volumes
     → failure_on (slice_get (map shown volumes) number) (slice_get (map geometry volumes) number)

@@ -1,38 +1,27 @@
--- The entry that an ALTER or a DELETE changes: where it is, and what its volume was asked.
-use Rattle.std.proofs.Common.{◌≡◌, ◌∙◌, ◌+◌, ◌<◌, ◌≤◌, ℕ, Bool, true, false, List, [], ◌∷◌, length}
-use Rattle.std.proofs.Common.{map, Option, Some, None, refl, sym, ap, subst, get_or, arith, inl}
-use Rattle.std.proofs.Common.{inr}
-use Rattle.std.proofs.Common.{if◌then◌else◌, not, Result, Ok, Err, IfOk, IfErr, IsErr}
-use Rattle.std.specs.Prelude.{slice_set}
+-- The entry of a name: where it is, and that a catalog may be asked about it.
+use Rattle.std.proofs.Common.{◌≡◌, ◌∙◌, ◌+◌, ◌<◌, ◌≤◌, ℕ, Bool, true, false, List, length, map}
+use Rattle.std.proofs.Common.{Option, Some, None, refl, sym, ap, subst, get_or, arith, inl, inr}
+use Rattle.std.proofs.Common.{not, Result, Ok, Err, IfErr, slice_get}
 use Rattle.std.specs.List.{position, position_or_len}
-use Rattle.std.specs.Option.{option_or}
+use Rattle.std.specs.Option.{option_and_then, option_or}
 use Rattle.std.specs.Result.{IsErrAnd}
 use Rattle.std.proofs.lemmas.Bool.{cases_lt}
 use Rattle.std.proofs.lemmas.Bool.Decides.{nat_tests}
 use Rattle.std.proofs.lemmas.List.Sums.{position_or_len_is}
-use Rattle.std.proofs.lemmas.List.{length-map}
-use Rattle.std.proofs.lemmas.Option.{same_Some, slice_get-get_or, slice_get_within}
 use Rattle.vr_catalog.specs.Catalog.{entry_named}
-use Rattle.vr_catalog.specs.Entry.{is_entry}
 use Rattle.vr_catalog.specs.declared.entry.CatEntry.{CatEntry}
-use Rattle.vr_catalog.specs.declared.entry.EntryKind.{EntryKind}
-use Rattle.vr_catalog.specs.declared.entry.EntryKind.TheVariants.{Cluster, Alternate, Path}
+use Rattle.vr_edits.specs.Edits.{IsEntryThere}
 use Rattle.vr_trace.specs.Shown.{Shown, has_name}
 use Rattle.vr_trace.specs.declared.command.Failure.{Failure}
-use Rattle.vr_trace.specs.declared.no.RunNo.{RunNo}
-use Rattle.vr_ams_define.specs.Altered.{entry_at, failure_on, is_cluster, kind_failure}
-use Rattle.vr_ams_define.specs.Altered.{name_failure, place_of, IsChangeAsked}
-use Rattle.vr_ams_define.specs.Answers.{Answering, HasChanged}
-use Rattle.vr_ams_define.specs.ChangeSteps.{HasAsked, IsNamed, IsRefusedBy, IsTargetOn, IsThere}
-use Rattle.vr_ams_define.specs.ChangeSteps.{IsTold}
-use Rattle.vr_ams_define.specs.EntryChanges.{IsClusterThere}
+use Rattle.vr_ams_define.specs.Altered.{entry_at, entry_of_name, failure_on, is_sound, name_failure}
+use Rattle.vr_ams_define.specs.Altered.{place_of, unsound_failure}
+use Rattle.vr_ams_define.specs.Deleted.{catalog_of}
+use Rattle.vr_ams_define.specs.EditSteps.{IsNamed, IsRefusedBy, IsTargetOn}
 use Rattle.vr_ams_define.specs.Failures.{failure_if, stopped_failure}
-use Rattle.vr_ams_define.specs.Steps.{IsUndone}
-use Rattle.vr_ams_define.specs.declared.answer.Changed.{Changed}
 use Rattle.vr_ams_define.specs.declared.refusal.DefineNo.{DefineNo}
 use Rattle.vr_ams_define.specs.declared.refusal.DefineNo.TheVariants.{Refused, Ended}
 use Rattle.vr_ams_define.specs.declared.target.Target.{Target}
-use Rattle.vr_ams_define.proofs.Named.{first-named}
+use Rattle.vr_ams_define.proofs.Named.{sound-there}
 use Rattle.vr_ams_define.proofs.OnVolume.{shown-at}
 
 -- ---- the lowest volume with a name
@@ -86,42 +75,31 @@ module _ (volumes : List Shown) (name : List ℕ) (count : ℕ)
   place-none past = position-past Names volumes count spare past
       (λ k near. without k spare (omega (arith, near, past)) near)
 
--- ---- an entry that may be changed
+-- ---- an entry that can be used
 
-or-none : {T : Type 0} (one other : Option T) → option_or one other ≡ None
+pub or-none : {T : Type 0} (one other : Option T) → option_or one other ≡ None
     → (one ≡ None) × (other ≡ None)
 or-none None other none = (refl, none)
 or-none (Some x) other none = absurd (cc)
 
-no-cause : (cause : Bool) (failure : Failure) → failure_if cause failure ≡ None → cause ≡ false
+pub no-cause : (cause : Bool) (failure : Failure) → failure_if cause failure ≡ None
+    → cause ≡ false
 no-cause true failure none = absurd (cc)
 no-cause false failure none = refl
 
-not-false : (is : Bool) → not is ≡ false → is ≡ true
+pub not-false : (is : Bool) → not is ≡ false → is ≡ true
 not-false true none = refl
 not-false false none = absurd (cc)
 
-cluster-is : (kind : EntryKind) (failure : Option Failure) (other : Failure)
-    → (if is_cluster kind then failure else Some other) ≡ None
-    → (kind ≡ Cluster) × (failure ≡ None)
-cluster-is Cluster failure other none = (refl, none)
-cluster-is Alternate failure other none = absurd (cc)
-cluster-is Path failure other none = absurd (cc)
-
--- its volume hasn't stopped, and it is that of a cluster, the first of its name
+-- its volume hasn't stopped, and it is one that an edit may have
 target-is : (volume : Shown) (name : List ℕ) (entry : CatEntry) → IsTargetOn volume name entry
-    → (volume.stopped ≡ false) × IsClusterThere volume.catalog entry
+    → (volume.stopped ≡ false) × IsEntryThere volume.catalog entry
 target-is volume name entry is =
-    let both = or-none (stopped_failure volume) (kind_failure entry) is.allowed in
-    let kind = cluster-is entry.entry_kind _ _ both.1 in
-    let first = first-named volume.catalog name entry is.named in (
+    let both = or-none (stopped_failure volume) (unsound_failure volume.catalog entry)
+    is.allowed in (
       no-cause volume.stopped _ both.0,
-      record {
-        there = first.0;
-        named = first.1;
-        cluster = kind.0;
-        entry_is = not-false (is_entry entry) (no-cause (not (is_entry entry)) _ kind.1);
-      },
+      sound-there volume.catalog name entry is.named
+          (not-false (is_sound volume.catalog entry) (no-cause _ _ both.1)),
     )
 
 module _ {V : Type 0} (shown : V → Shown) (volumes : List V) (name : List ℕ) (place : ℕ)
@@ -129,9 +107,6 @@ module _ {V : Type 0} (shown : V → Shown) (volumes : List V) (name : List ℕ)
     (place_is : place_of (map shown volumes) name ≡ Some place) where
   abbrev One : Shown
   One = shown (get_or volumes place spare)
-
-  entry-at : entry_at (map shown volumes) place name ≡ entry_named One.catalog name
-  entry-at = rw (shown-at shown volumes place spare within) refl
 
   failure-at : name_failure (map shown volumes) name
       ≡ failure_on (Some One) (entry_named One.catalog name)
@@ -141,19 +116,11 @@ module _ {V : Type 0} (shown : V → Shown) (volumes : List V) (name : List ℕ)
       → IsNamed (map shown volumes) name (record { place = place; entry = entry })
   named-at entry is = record {
     place_is = place_is;
-    entry_is = entry-at ∙ is.named;
+    volume = One;
+    volume_is = shown-at shown volumes place spare within;
+    is_on = is;
     allowed = failure-at ∙ ap (failure_on (Some One)) is.named ∙ is.allowed;
   }
-
-  pub there-at : (entry : CatEntry) → IsTargetOn One name entry
-      → IsThere (map shown volumes) (record { place = place; entry = entry })
-  there-at entry is =
-      let both = target-is One name entry is in record {
-        volume = One;
-        volume_is = shown-at shown volumes place spare within;
-        going = both.0;
-        there = both.1;
-      }
 
   pub refused-at : (end : DefineNo)
       → IsRefusedBy (failure_on (Some One) (entry_named One.catalog name)) end
@@ -161,67 +128,31 @@ module _ {V : Type 0} (shown : V → Shown) (volumes : List V) (name : List ℕ)
   refused-at end refused = subst (λ (first : Option Failure). IsRefusedBy first end)
       (sym failure-at) refused
 
--- ---- its volume, which is asked
+-- ---- what is known of it
 
-pub near-there : {V : Type 0} (shown : V → Shown) (volumes : List V) (target : Target)
-    → IsThere (map shown volumes) target → target.place < length volumes
-near-there shown volumes target there = omega (
-  arith,
-  slice_get_within (map shown volumes) target.place there.volume there.volume_is,
-  length-map volumes shown,
-)
+module _ (volumes : List Shown) (name : List ℕ) (target : Target)
+    (named : IsNamed volumes name target) where
+  -- its volume hasn't stopped
+  pub going-on : named.volume.stopped ≡ false
+  going-on = (target-is named.volume name target.entry named.is_on).0
 
-module _ {V : Type 0} (shown : V → Shown) (volumes : List V) (target : Target) (spare : V)
-    (there : IsThere (map shown volumes) target) where
-  near : target.place < length volumes
-  near = near-there shown volumes target there
+  -- an edit may have it
+  pub there-on : IsEntryThere named.volume.catalog target.entry
+  there-on = (target-is named.volume name target.entry named.is_on).1
 
-  volume-shows : there.volume ≡ shown (get_or volumes target.place spare)
-  volume-shows = same_Some there.volume (shown (get_or volumes target.place spare))
-      (sym there.volume_is ∙ shown-at shown volumes target.place spare near)
+  pub entry-is : entry_of_name volumes name ≡ Some target.entry
+  entry-is =
+      ap (option_and_then (λ (place : ℕ). entry_at volumes place name)) named.place_is
+      ∙ ap (option_and_then (λ (volume : Shown). entry_named volume.catalog name))
+      named.volume_is
+      ∙ named.is_on.named
 
-  pub going-there : (shown (get_or volumes target.place spare)).stopped ≡ false
-  going-there = subst (λ (one : Shown). one.stopped ≡ false) volume-shows there.going
+  pub catalog-is : catalog_of volumes name ≡ Some named.volume.catalog
+  catalog-is = rw (named.place_is, named.volume_is) refl
 
-  pub cluster-there : IsClusterThere (shown (get_or volumes target.place spare)).catalog
-      target.entry
-  cluster-there = subst (λ (one : Shown). IsClusterThere one.catalog target.entry) volume-shows
-      there.there
-
-  pub asked-there : (answers : Answering V) (line : ℕ) (to : Option CatEntry) (new : V)
-      (result : Result Changed RunNo)
-      → IfOk result (HasChanged shown answers line target.entry to
-      (get_or volumes target.place spare) new)
-      → IfOk result (HasAsked shown answers line target to volumes
-      (slice_set volumes target.place new))
-  asked-there answers line to new (Err error) changed = tt
-  asked-there answers line to new (Ok answer) changed = record {
-    before = get_or volumes target.place spare;
-    before_is = slice_get-get_or volumes target.place spare near;
-    after = new;
-    changed = changed;
-    others = refl;
-  }
-
--- ---- what the volume was asked for, by the name
-
--- the volume of the name was asked for the change of its entry
-pub asked-named : {V : Type 0} (shown : V → Shown) (answers : Answering V) (line : ℕ)
-    (name : List ℕ) (target : Target) (to : CatEntry → Option CatEntry) (old new : List V)
-    (answer : Changed) → IsNamed (map shown old) name target
-    → HasAsked shown answers line target (to target.entry) old new answer
-    → IsChangeAsked shown answers line name to old new answer
-asked-named shown answers line name target to old new answer named asked = record {
-  place = target.place;
-  place_is = named.place_is;
-  entry = target.entry;
-  entry_is = named.entry_is;
-  before = asked.before;
-  before_is = asked.before_is;
-  after = asked.after;
-  changed = asked.changed;
-  others = asked.others;
-}
+  -- what comes after the causes that go by the name
+  pub after-name : (more : Option Failure) → option_or (name_failure volumes name) more ≡ more
+  after-name more = ap (λ (first : Option Failure). option_or first more) named.allowed
 
 -- ---- why it is refused
 
@@ -237,35 +168,3 @@ pub refused-more : (first more : Option Failure) (no : DefineNo) → IsRefusedBy
 refused-more first more (Refused failure) refused =
     ap (λ (it : Option Failure). option_or it more) refused
 refused-more first more (Ended end) refused = tt
-
--- no volume was asked
-pub undone-before : {V : Type 0} (shown : V → Shown) (first : Option Failure) (volumes : List V)
-    (no : DefineNo) → IsRefusedBy first no → IsUndone (map shown) first volumes volumes no
-undone-before shown first volumes (Refused failure) refused = (refused, refl)
-undone-before shown first volumes (Ended end) refused = refl
-
--- why it is refused, or what it came to
-pub told-as : {V : Type 0} (shown : V → Shown) (first : Option Failure) (old new : List V)
-    (P : Option Failure → Type 0) (end : Result (Option Failure) DefineNo)
-    (result : Result (Option Failure) RunNo) → IfOk end P
-    → IfErr end (IsUndone (map shown) first old new)
-    → ((failure : Failure) → first ≡ Some failure → new ≡ old → P (Some failure))
-    → IfOk result (IsTold end) → IfOk result P
-told-as shown first old new P end (Err error) done undone refused told = tt
-told-as shown first old new P (Ok failure) (Ok outcome) done undone refused told =
-    subst P (sym told) done
-told-as shown first old new P (Err (Refused failure)) (Ok outcome) done undone refused told =
-    subst P (sym told) (refused failure undone.0 undone.1)
-told-as shown first old new P (Err (Ended end)) (Ok outcome) done undone refused told =
-    absurd told
-
--- where stamps or memory ran out, what the volumes show stays
-pub same-ended : {V : Type 0} (shown : V → Shown) (first : Option Failure) (old new : List V)
-    (end : Result (Option Failure) DefineNo) (result : Result (Option Failure) RunNo)
-    → IfErr end (IsUndone (map shown) first old new)
-    → IfErr result (λ no. end ≡ Err (Ended no)) → IsErr result
-    → map shown new ≡ map shown old
-same-ended shown first old new end (Ok failure) undone ended none = absurd (cc)
-same-ended shown first old new end (Err error) undone ended none = subst
-    (λ (end : Result (Option Failure) DefineNo). IfErr end (IsUndone (map shown) first old new))
-    ended undone

@@ -1,28 +1,26 @@
--- What an ALTER of Access Method Services Commands comes to: FREESPACE and SHAREOPTIONS of a
--- cluster. NEWNAME isn't run yet. Which faults there are, and their order, is this project's own.
-use Rattle.std.specs.Prelude.{◌≡◌, ◌⊎◌, ℕ, Bool, true, false, List, [], map, slice_get, slice_set}
-use Rattle.std.specs.Prelude.{Option, Some, None, if◌then◌else◌, not}
-use Rattle.std.specs.List.{position}
+-- What an ALTER of Access Method Services Commands comes to: NEWNAME, FREESPACE and SHAREOPTIONS of
+-- an entry. Which faults there are, and their order, is this project's own.
+use Rattle.std.specs.Prelude.{◌≡◌, ◌==◌, ◌&&◌, ℕ, Bool, List, map, slice_get, Option, Some, None}
+use Rattle.std.specs.Prelude.{if◌then◌else◌, not}
+use Rattle.std.specs.List.{count_by, position}
 use Rattle.std.specs.Option.{option_and_then, option_or}
-use Rattle.vr_types.specs.declared.reply.Refusal.TheVariants.{LogFull}
 use Rattle.vr_catalog.specs.Alter.{altered, alters_data}
 use Rattle.vr_catalog.specs.Catalog.{entry_named}
+use Rattle.vr_catalog.specs.Define.{is_path_kind}
 use Rattle.vr_catalog.specs.Entry.{is_entry}
 use Rattle.vr_catalog.specs.declared.entry.CatEntry.{CatEntry}
-use Rattle.vr_catalog.specs.declared.entry.EntryKind.{EntryKind}
-use Rattle.vr_catalog.specs.declared.entry.EntryKind.TheVariants.{Cluster, Alternate, Path}
 use Rattle.vr_catalog.specs.declared.fault.CatFault.TheVariants.{CatalogFull, NotFound, WrongKind}
-use Rattle.vr_catalog.specs.declared.order.Alter.{Alter}
-use Rattle.vr_trace.specs.Commands.{done, refused}
+use Rattle.vr_catalog.specs.declared.order.Alter.{Alter as Order}
+use Rattle.vr_edits.specs.Edits.{is_of_part}
+use Rattle.vr_edits.specs.declared.edit.CatalogEdit.{CatalogEdit}
+use Rattle.vr_edits.specs.declared.edit.CatalogEdit.TheVariants.{Alter, Rename}
 use Rattle.vr_trace.specs.Shown.{Shown, has_name}
 use Rattle.vr_trace.specs.declared.command.Failure.{Failure}
 use Rattle.vr_trace.specs.declared.command.Outcome.{Outcome}
-use Rattle.vr_ams_define.specs.Answers.{Answering, HasChanged}
-use Rattle.vr_ams_define.specs.Failures.{catalog_failure, failure_if, fault_failure, held_failure}
-use Rattle.vr_ams_define.specs.Failures.{stopped_failure, volume_failure}
-use Rattle.vr_ams_define.specs.declared.answer.Changed.{Changed}
-use Rattle.vr_ams_define.specs.declared.answer.Changed.TheVariants.{Again, Done, Fault, Full, Held}
-use Rattle.vr_ams_define.specs.declared.answer.Changed.TheVariants.{Live}
+use Rattle.vr_ams_define.specs.Answers.{Answering}
+use Rattle.vr_ams_define.specs.Asked.{IsEdited}
+use Rattle.vr_ams_define.specs.Failures.{catalog_failure, failure_if, stopped_failure}
+use Rattle.vr_ams_define.specs.Failures.{name_failure as taken_failure}
 
 -- ---- the entry of a name
 
@@ -35,22 +33,27 @@ abbrev pub entry_at : List Shown → ℕ → List ℕ → Option CatEntry
 entry_at volumes place name =
     option_and_then (λ (volume : Shown). entry_named volume.catalog name) (slice_get volumes place)
 
--- ALTER and DELETE of clusters alone are run: the volumes of today have no other entries.
-abbrev pub is_cluster : EntryKind → Bool
-is_cluster Cluster = true
-is_cluster Alternate = false
-is_cluster Path = false
+abbrev pub entry_of_name : List Shown → List ℕ → Option CatEntry
+entry_of_name volumes name =
+    option_and_then (λ (place : ℕ). entry_at volumes place name) (place_of volumes name)
 
--- 3: it is not the entry of a cluster, or no record spells it, as one does of each that a catalog
--- has
-abbrev pub kind_failure : CatEntry → Option Failure
-kind_failure entry =
-    if is_cluster entry.entry_kind then failure_if (not (is_entry entry)) (catalog_failure WrongKind)
-    else Some (catalog_failure WrongKind)
+-- no other entry has its part
+abbrev pub is_alone : List CatEntry → CatEntry → Bool
+is_alone entries entry = count_by (is_of_part entry) entries == 1
+
+-- as it is of each that a catalog has: a record spells it, and it is the one of its part
+abbrev pub is_sound : List CatEntry → CatEntry → Bool
+is_sound entries entry = is_entry entry && is_alone entries entry
+
+-- 3: it isn't
+abbrev pub unsound_failure : List CatEntry → CatEntry → Option Failure
+unsound_failure entries entry =
+    failure_if (not (is_sound entries entry)) (catalog_failure WrongKind)
 
 -- 903 goes before it
 abbrev pub failure_on : Option Shown → Option CatEntry → Option Failure
-failure_on (Some volume) (Some entry) = option_or (stopped_failure volume) (kind_failure entry)
+failure_on (Some volume) (Some entry) =
+    option_or (stopped_failure volume) (unsound_failure volume.catalog entry)
 failure_on volume entry = Some (catalog_failure NotFound)
 
 -- 2: the name is on no volume
@@ -59,88 +62,58 @@ target_failure volumes (Some place) name =
     failure_on (slice_get volumes place) (entry_at volumes place name)
 target_failure volumes None name = Some (catalog_failure NotFound)
 
--- why a change of the entry of a name is refused before its volume is asked: 2, 903 and 3, in this
--- order
+-- why the entry of a name can't be used: 2, 903 and 3, in this order
 abbrev pub name_failure : List Shown → List ℕ → Option Failure
 name_failure volumes name = target_failure volumes (place_of volumes name) name
 
--- ---- a volume that is asked
-
--- Why it refuses a change, by its answer, which is its last: 901 where a lock or a live unit of
--- recovery is in the way, 902 where the log is full, 904 and 905 where the device failed.
-abbrev pub failure_by : Changed → Option Failure
-failure_by Done = None
-failure_by Again = None
-failure_by Held = Some held_failure
-failure_by Live = Some held_failure
-failure_by Full = Some (volume_failure (LogFull 0 0 0))
-failure_by (Fault fault) = Some (fault_failure fault)
-
--- The lowest volume with the name was asked for the change of its entry, and the others are as they
--- were.
-pub record IsChangeAsked {V : Type 0} (shown : V → Shown) (answers : Answering V) (line : ℕ)
-    (name : List ℕ) (to : CatEntry → Option CatEntry) (old new : List V) (answer : Changed) : Type 0
-  where
-    pub place : ℕ
-    pub place_is : place_of (map shown old) name ≡ Some place
-    pub entry : CatEntry
-    pub entry_is : entry_at (map shown old) place name ≡ Some entry
-    pub before : V
-    pub before_is : slice_get old place ≡ Some before
-    pub after : V
-    pub changed : HasChanged shown answers line entry (to entry) before after answer
-    pub others : new ≡ slice_set old place after
-
 -- ---- ALTER
 
--- 14, as of a definition: no record spells the entry with what it is given, since a number of that
--- isn't one that a parser lets through
-abbrev pub altered_failure : Option CatEntry → Alter → Option Failure
-altered_failure None order = None
-altered_failure (Some entry) order = failure_if (not (is_entry (altered entry order)))
-    (catalog_failure CatalogFull)
+-- a path has neither FREESPACE nor SHAREOPTIONS
+abbrev pub is_path_altered : CatEntry → Order → Bool
+is_path_altered entry order = is_path_kind entry.entry_kind && alters_data order
 
--- why the command is refused before a volume is asked: 2, 903, 3 and 14, in this order
-abbrev pub alter_failure : List Shown → Alter → Option Failure
-alter_failure volumes order = option_or (name_failure volumes order.name) (option_and_then
-    (λ (place : ℕ). altered_failure (entry_at volumes place order.name) order)
-    (place_of volumes order.name))
+-- 1: NEWNAME is in use on some volume
+abbrev pub new_name_failure : List Shown → Option (List ℕ) → Option Failure
+new_name_failure volumes None = None
+new_name_failure volumes (Some name) = taken_failure volumes name
 
--- The command is refused by its first cause, and no volume is asked.
-pub record IsAlterRefused {V : Type 0} (shown : V → Shown) (order : Alter) (old new : List V)
-    (outcome : Outcome) : Type 0 where
-  pub failure : Failure
-  pub first_is : alter_failure (map shown old) order ≡ Some failure
-  pub outcome_is : outcome ≡ refused failure
-  pub same : new ≡ old
+abbrev pub early_failure : List Shown → CatEntry → Order → Option Failure
+early_failure volumes entry order = option_or
+    (failure_if (is_path_altered entry order) (catalog_failure WrongKind))
+    (new_name_failure volumes order.new_name)
 
--- There is nothing to alter: nothing is asked, and nothing is entered.
-pub record IsNothingAltered {V : Type 0} (shown : V → Shown) (order : Alter) (old new : List V)
-    (outcome : Outcome) : Type 0 where
-  pub allowed : alter_failure (map shown old) order ≡ None
-  pub none : alters_data order ≡ false
-  pub outcome_is : outcome ≡ done []
-  pub same : new ≡ old
+-- 14, as of a definition: no record spells the entry with what it is given, since a name or a number
+-- of that isn't one that a parser lets through
+abbrev pub altered_failure : CatEntry → Order → Option Failure
+altered_failure entry order =
+    failure_if (not (is_entry (altered entry order))) (catalog_failure CatalogFull)
 
--- The outcome by the volume's answer.
-abbrev pub outcome_by : Option Failure → Outcome
-outcome_by None = done []
-outcome_by (Some failure) = refused failure
+-- what may be in the way of what the entry is given: 3, 1 and 14
+abbrev pub given_failure : List Shown → Option CatEntry → Order → Option Failure
+given_failure volumes None order = None
+given_failure volumes (Some entry) order =
+    option_or (early_failure volumes entry order) (altered_failure entry order)
 
-pub record IsAlterAnswered {V : Type 0} (shown : V → Shown) (answers : Answering V) (line : ℕ)
-    (order : Alter) (old new : List V) (outcome : Outcome) : Type 0 where
-  pub allowed : alter_failure (map shown old) order ≡ None
-  pub some : alters_data order ≡ true
-  pub answer : Changed
-  pub asked : IsChangeAsked shown answers line order.name
-      (λ (entry : CatEntry). Some (altered entry order)) old new answer
-  pub outcome_is : outcome ≡ outcome_by (failure_by answer)
+-- why the command is refused before a volume is asked: 2, 903, 3, 1 and 14, in this order
+abbrev pub alter_failure : List Shown → Order → Option Failure
+alter_failure volumes order = option_or (name_failure volumes order.name)
+    (given_failure volumes (entry_of_name volumes order.name) order)
 
--- An ALTER without NEWNAME on a line, over volumes that show this and answer so, leaves these
--- volumes with this outcome.
-abbrev pub IsAlteredBy : {V : Type 0} → (V → Shown) → Answering V → ℕ → Alter → List V → List V
+-- with NEWNAME it is renamed, whatever else it is given; one that is given nothing isn't edited
+abbrev pub edit_of : Option (List ℕ) → CatEntry → Order → Option CatalogEdit
+edit_of (Some name) entry order = Some (Rename entry (altered entry order))
+edit_of None entry order =
+    if alters_data order then Some (Alter entry (altered entry order)) else None
+
+abbrev pub alter_edit : List Shown → Order → Option CatalogEdit
+alter_edit volumes order = option_and_then
+    (λ (entry : CatEntry). edit_of order.new_name entry order)
+    (entry_of_name volumes order.name)
+
+-- An ALTER on a line, over volumes that show this and answer so, leaves these volumes with this
+-- outcome.
+abbrev pub IsAlteredBy : {V : Type 0} → (V → Shown) → Answering V → ℕ → Order → List V → List V
     → Outcome → Type 0
 IsAlteredBy shown answers line order old new outcome =
-    IsAlterRefused shown order old new outcome
-    ⊎ (IsNothingAltered shown order old new outcome
-    ⊎ IsAlterAnswered shown answers line order old new outcome)
+    IsEdited shown answers line (alter_failure (map shown old) order)
+    (place_of (map shown old) order.name) (alter_edit (map shown old) order) old new outcome

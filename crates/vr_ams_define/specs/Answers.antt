@@ -1,11 +1,12 @@
--- What a volume answers to a DEFINE of a cluster, to ALTER and DELETE, to LISTCAT ALL, and to
+-- What a volume answers to a DEFINE of a cluster, to an edit of its catalog, to LISTCAT ALL, and to
 -- PRINT, and what it shows then. The rules are this project's own.
 use Rattle.std.specs.Prelude.{◌≡◌, ◌≢◌, ℕ, Bool, List, Option, true}
 use Rattle.vr_types.specs.declared.fault.DeviceFault.TheVariants.{Read, Write}
 use Rattle.vr_catalog.specs.declared.entry.CatEntry.{CatEntry}
+use Rattle.vr_edits.specs.declared.edit.CatalogEdit.{CatalogEdit}
 use Rattle.vr_trace.specs.Shown.{Shown}
 use Rattle.vr_trace.specs.Visitors.{Visited, visited_by}
-use Rattle.vr_ams_define.specs.EntryChanges.{IsShownChanged}
+use Rattle.vr_ams_define.specs.Edited.{IsShownEdited}
 use Rattle.vr_ams_define.specs.declared.answer.Changed.{Changed}
 use Rattle.vr_ams_define.specs.declared.answer.Changed.TheVariants as changes
 use Rattle.vr_ams_define.specs.declared.answer.Counted.{Counted}
@@ -45,13 +46,13 @@ IsShownRead reads.Done old new = new ≡ old
 IsShownRead (reads.Fault Read) old new = new ≡ old
 IsShownRead (reads.Fault Write) old new = new.stopped ≡ true
 
--- What a volume was asked for, and its answer: the definition of an entry, the numbers of one, a
--- change of one, to the other where it is altered, and to none where it is deleted, or the records
--- of one from a place on, where there is one, with those that it has there.
+-- What a volume was asked for, and its answer: the definition of a cluster, the numbers of one, an
+-- edit of its catalog, or the records of a cluster from a place on, where there is one, with those
+-- that it has there.
 pub data Exchange : Type 0 where
   Defining : CatEntry → Defined → Exchange
   Counting : CatEntry → Counted → Exchange
-  Changing : CatEntry → Option CatEntry → Changed → Exchange
+  Editing : CatalogEdit → Changed → Exchange
   Reading : CatEntry → Option (List ℕ) → List Visited → ReadBack → Exchange
 
 -- how a volume may answer on a line, and be then
@@ -83,11 +84,11 @@ pub record HasAnswered {V : Type 0} (shown : V → Shown) (answers : Answering V
   pub last : answer ≢ Again
   pub left : IsShownAfter answer entry (shown old) (shown new)
 
--- So it was asked for a change.
-pub record HasChanged {V : Type 0} (shown : V → Shown) (answers : Answering V) (line : ℕ)
-    (entry : CatEntry) (to : Option CatEntry) (old new : V) (answer : Changed) : Type 0 where
+-- So it was asked for an edit.
+pub record HasEdited {V : Type 0} (shown : V → Shown) (answers : Answering V) (line : ℕ)
+    (edit : CatalogEdit) (old new : V) (answer : Changed) : Type 0 where
   pub before : V
-  pub stages : HasStaged answers line (Changing entry to changes.Again) old before
-  pub answered : answers before line (Changing entry to answer) new
+  pub stages : HasStaged answers line (Editing edit changes.Again) old before
+  pub answered : answers before line (Editing edit answer) new
   pub last : answer ≢ changes.Again
-  pub left : IsShownChanged answer entry to (shown old) (shown new)
+  pub left : IsShownEdited answer edit (shown old) (shown new)

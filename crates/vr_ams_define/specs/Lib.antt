@@ -1,4 +1,4 @@
-pub mod EntryChanges
+pub mod Edited
 pub mod NewCluster
 pub mod Answers
 pub mod Chosen
@@ -7,6 +7,8 @@ pub mod Grown
 pub mod Outcomes
 pub mod Steps
 pub mod Runs
+pub mod Asked
 pub mod Altered
+pub mod Over
 pub mod Deleted
-pub mod ChangeSteps
+pub mod EditSteps

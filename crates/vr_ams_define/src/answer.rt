@@ -1,4 +1,5 @@
-//! What a volume answers to a DEFINE of a cluster, to ALTER and DELETE, to LISTCAT ALL, to PRINT.
+//! What a volume answers to a DEFINE of a cluster, to an edit of its catalog, to LISTCAT ALL, to
+//! PRINT.
 
 use vr_trace::Statistics;
 use vr_types::{AreaNo, DeviceFault};
@@ -39,18 +40,22 @@ pub enum ReadBack {
     Fault(DeviceFault),
 }
 
-/// What one event of a change of an entry, by ALTER or DELETE, came to.
+/// What one event of an edit of the catalog, by ALTER, DELETE, or DEFINE of an alternate index or a
+/// path, came to.
 #[derive(Clone, Copy)]
 pub enum Changed {
-    /// The entry is altered, or it is deleted with its records, and its areas are free.
+    /// The catalog has the edit. With a cluster that is deleted its records went, and its areas are
+    /// free.
     Done,
     /// A stage was done that has to come first: ask again.
     Again,
-    /// A lock of a unit of recovery is on the place of the record.
+    /// The catalog has no room for the new record, and no area is free for it.
+    NoRoom,
+    /// A lock of a unit of recovery is on the place of a record.
     Held,
     /// A unit of recovery is live on the volume.
     Live,
-    /// The log has no room for the change.
+    /// The log has no room for the edit.
     Full,
     /// The device failed. A write that fails stops the volume.
     Fault(DeviceFault),

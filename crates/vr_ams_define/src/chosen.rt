@@ -14,7 +14,7 @@ fn short_serial(number: usize) -> [u8; 5]
 }
 
 /// Whether a cluster may be defined on the volume of this number.
-fn may_define_on(volume: &Option<Bytes>, number: usize) -> bool
+pub(crate) fn may_define_on(volume: &Option<Bytes>, number: usize) -> bool
     ensures { result ≡ stated.may_define_on volume.now number }
 {
     match volume {

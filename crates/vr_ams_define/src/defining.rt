@@ -3,7 +3,6 @@ ghost use Rattle.std.specs.Prelude.{◌≡◌, ◌∷◌, [], false, true, IfErr
 ghost use Rattle.vr_catalog.specs.Entry.{is_entry};
 ghost use Rattle.vr_catalog.specs.declared.changes.Change.TheVariants.{Add};
 ghost use Rattle.vr_catalog.specs.declared.entry.CatEntry.{CatEntry};
-ghost use Rattle.vr_catalog.specs.declared.entry.EntryKind.TheVariants.{Cluster};
 ghost use Rattle.vr_ams_define.specs.Answers.{HasAnswered};
 ghost use Rattle.vr_ams_define.specs.Failures.{entry_failure, record_failure};
 ghost use Rattle.vr_ams_define.specs.NewCluster.{IsNewCluster};
@@ -20,7 +19,7 @@ use std::alloc::Global;
 use vr_catalog::{CatEntry, CatFault, Change, Changes, Define, define};
 
 /// The entry that the one change adds.
-fn added(changes: &Changes) -> &CatEntry
+pub(crate) fn added(changes: &Changes) -> &CatEntry
     requires { (entry : CatEntry) × (changes.now ≡ Add entry ∷ []) }
     ensures { changes.now ≡ Add result.now ∷ [] }
 {
@@ -39,7 +38,6 @@ fn enter<V: OwnedVolume>(
     after: u64,
 ) -> Result<Defined, DefineNo>
     requires going { (V.shown volume.old).stopped ≡ false }
-    requires cluster { entry.now.entry_kind ≡ Cluster }
     requires new { is_entry entry.now ≡ true
         → IsNewCluster (V.geometry volume.old) (V.shown volume.old).catalog entry.now }
     ensures recorded { OnOk result (is_entry entry.now ≡ true) }

@@ -1,106 +1,99 @@
-//! DELETE of clusters.
-ghost use Rattle.std.specs.Prelude.{◌≡◌, ◌++◌, ◌∷◌, [], map, None, IfErr, IfOk, IsErr, OnOk};
-ghost use Rattle.vr_ams_define.specs.ChangeSteps.{AreDeletedSome, IsNamed, IsRefusedBy, IsThere};
+//! DELETE.
+ghost use Rattle.std.specs.Prelude.{◌≡◌, ◌++◌, ◌∷◌, [], map, IfErr, IfOk, IsErr, OnOk};
+ghost use Rattle.vr_ams_define.specs.Altered.{place_of};
 ghost use Rattle.vr_ams_define.specs.Deleted as stated;
+ghost use Rattle.vr_ams_define.specs.EditSteps.{AreDeletedSome, IsPlanned, IsRefusedBy, planned_lines};
 ghost use Rattle.vr_ams_define.specs.Grown.{AreRunOn};
-ghost use Rattle.vr_ams_define.specs.Steps.{IsUndone};
 
+use crate::carrying::{Planned, carry_out};
 use crate::failure::catalog_failure;
-use crate::outcome::failure_of;
+use crate::gone::{gone_with, may_go, write_planned};
 use crate::owned::OwnedVolume;
 use crate::refusal::DefineNo;
-use crate::target::{Target, change_target, failure_by, find_target};
+use crate::target::find_target;
 use std::alloc::Global;
 use vr_catalog::{CatFault, EntryKind};
-use vr_trace::{Failure, NEW_LINE, Outcome, RunNo, ShownVolume};
+use vr_edits::CatalogEdit;
+use vr_trace::{Failure, Outcome, RunNo};
 use vr_types::{Bytes, Name, OutOfMemory};
 
-/// Whether a DELETE that says this of the kind of entries deletes clusters.
-fn allows_clusters(kind: Option<EntryKind>) -> bool
-    ensures { result ≡ stated.allows_clusters kind }
+/// Whether a DELETE that says this of the kind of entries deletes those of this kind.
+fn allows(said: Option<EntryKind>, kind: EntryKind) -> bool
+    ensures { result ≡ stated.allows said kind }
 {
-    match kind {
-        None | Some(EntryKind::Cluster) => true,
-        Some(EntryKind::Alternate) | Some(EntryKind::Path) => false,
+    match said {
+        None => true,
+        Some(said) => said == kind,
     }
 }
 
-/// The cluster of a name, or why its deletion is refused.
-fn find_deletion<V: ShownVolume>(
+/// The edit that deletes the entry of a name, or why that is refused.
+fn plan_delete<V: OwnedVolume>(
     alloc: Global,
     volumes: &[V],
     name: &Name,
     kind: Option<EntryKind>,
-) -> Result<Target, DefineNo>
-    ensures named { IfOk result (IsNamed (map V.shown volumes.now) name.now) }
-    ensures there { IfOk result (IsThere (map V.shown volumes.now)) }
-    ensures allowed { OnOk result
-        (stated.delete_failure (map V.shown volumes.now) kind name.now ≡ None) }
+) -> Result<Option<Planned>, DefineNo>
+    ensures planned { IfOk result (IsPlanned (map V.shown volumes.now) (map V.geometry volumes.now)
+        (stated.delete_failure (map V.shown volumes.now) kind name.now)
+        (place_of (map V.shown volumes.now) name.now)
+        (stated.delete_edit (map V.shown volumes.now) name.now)) }
     ensures refused { IfErr result
         (IsRefusedBy (stated.delete_failure (map V.shown volumes.now) kind name.now)) }
 {
     let target = find_target(alloc, volumes, name)?;
-    if !allows_clusters(kind) {
+    if !allows(kind, target.entry.entry_kind) {
         return Err(DefineNo::Refused(catalog_failure(CatFault::WrongKind)));
     }
-    Ok(target)
+    let catalog = volumes[target.place].catalog();
+    let gone = gone_with(alloc, catalog, name)?;
+    if !may_go(alloc, catalog, &gone)? {
+        return Err(DefineNo::Refused(catalog_failure(CatFault::WrongKind)));
+    }
+    Ok(Some(Planned {
+        place: target.place,
+        edit: CatalogEdit::Delete(gone),
+    }))
 }
 
-/// Deletes the cluster of a name, if nothing refuses that, or shows why it is refused.
-fn delete_on<V: OwnedVolume>(
-    alloc: Global,
-    volumes: &mut [V],
-    line: u32,
-    name: &Name,
-    kind: Option<EntryKind>,
-) -> Result<Option<Failure>, DefineNo>
-    ensures deleted { IfOk result (stated.IsOneDeleted V.shown V.answers line kind name.now
-        volumes.old volumes.new) }
-    ensures undone { IfErr result (IsUndone (map V.shown)
-        (stated.delete_failure (map V.shown volumes.old) kind name.now) volumes.old volumes.new) }
-    ensures ran { AreRunOn V.history V.goes (line ∷ []) volumes.old volumes.new }
-    ensures geometry { map V.geometry volumes.new ≡ map V.geometry volumes.old }
+/// What one name of a DELETE came to: why it is refused, if it is, and its detail lines.
+#[derive(Drop)]
+struct NameEnd {
+    why: Option<Failure>,
+    lines: Bytes,
+}
+
+/// The detail lines of a name, by why it is refused, if it is.
+fn end_by(alloc: Global, why: Option<Failure>, lines: Bytes) -> NameEnd
+    ensures { (result.why ≡ why) × (result.lines ≡ stated.lines_by why lines) }
 {
-    let target = find_deletion(alloc, volumes, name, kind)?;
-    let answer = change_target(volumes, line, &target, None)?;
-    Ok(failure_by(answer))
+    match why {
+        None => NameEnd { why, lines },
+        Some(_) => NameEnd {
+            why,
+            lines: Bytes::new(alloc),
+        },
+    }
 }
 
-/// Deletes the cluster of a name, or tells why that is refused.
+/// Deletes the entry of a name, with what stands over it, or tells why that is refused.
 fn delete_one<V: OwnedVolume>(
     alloc: Global,
     volumes: &mut [V],
     line: u32,
     name: &Name,
     kind: Option<EntryKind>,
-) -> Result<Option<Failure>, RunNo>
-    ensures deleted { IfOk result (stated.IsOneDeleted V.shown V.answers line kind name.now
-        volumes.old volumes.new) }
+) -> Result<NameEnd, RunNo>
+    ensures deleted { IfOk result (λ end. stated.IsOneDeleted V.shown V.answers line kind name.now
+        volumes.old volumes.new end.why end.lines) }
     ensures unchanged { IsErr result → map V.shown volumes.new ≡ map V.shown volumes.old }
     ensures ran { AreRunOn V.history V.goes (line ∷ []) volumes.old volumes.new }
     ensures geometry { map V.geometry volumes.new ≡ map V.geometry volumes.old }
 {
-    let end = delete_on(alloc, volumes, line, name, kind);
-    failure_of(end)
-}
-
-/// Adds a line of a keyword and a name.
-fn write_named(out: &mut Bytes, keyword: &[u8], name: &Name) -> Result<(), OutOfMemory>
-    ensures { OnOk result (out.new ≡ out.old ++ (keyword.now ++ name.now ++ 10 ∷ [])) }
-{
-    out.extend(keyword)?;
-    out.extend(name.as_slice())?;
-    out.push(NEW_LINE)
-}
-
-/// Adds the detail line of a name that is deleted, and none of one that is refused.
-fn write_deleted(out: &mut Bytes, name: &Name, failure: Option<Failure>) -> Result<(), OutOfMemory>
-    ensures { OnOk result (out.new ≡ out.old ++ stated.deleted_line name.now failure) }
-{
-    match failure {
-        None => write_named(out, b"DELETED CLUSTER ", name),
-        Some(_) => Ok(()),
-    }
+    let plan = plan_delete(alloc, volumes, name, kind);
+    let lines = write_planned(alloc, &plan)?;
+    let why = carry_out(volumes, line, &plan)?;
+    Ok(end_by(alloc, why, lines))
 }
 
 /// The condition code of a name, by why it is refused, if it is.
@@ -154,19 +147,18 @@ struct Deletions {
 
 impl Deletions {
     /// Adds what one name came to.
-    fn add(&mut self, name: &Name, failure: Option<Failure>) -> Result<(), OutOfMemory>
-        ensures lines { OnOk result
-            (self.new.lines ≡ self.old.lines ++ stated.deleted_line name.now failure) }
+    fn add(&mut self, end: &NameEnd) -> Result<(), OutOfMemory>
+        ensures lines { OnOk result (self.new.lines ≡ self.old.lines ++ end.now.lines) }
         ensures failures { OnOk result
-            (self.new.failures.items ≡ self.old.failures.items ++ failure ∷ []) }
+            (self.new.failures.items ≡ self.old.failures.items ++ end.now.why ∷ []) }
     {
-        write_deleted(&mut self.lines, name, failure)?;
-        self.failures.push(failure)?;
+        self.lines.extend(end.lines.as_slice())?;
+        self.failures.push(end.why)?;
         Ok(())
     }
 }
 
-/// Deletes the clusters of names, one after another.
+/// Deletes the entries of names, one after another.
 fn delete_each<V: OwnedVolume>(
     alloc: Global,
     volumes: &mut [V],
@@ -175,9 +167,7 @@ fn delete_each<V: OwnedVolume>(
     kind: Option<EntryKind>,
 ) -> Result<Deletions, RunNo>
     ensures deleted { IfOk result (λ deletions. stated.AreDeleted V.shown V.answers line kind
-        names.now volumes.old volumes.new deletions.failures.items) }
-    ensures lines { IfOk result (λ deletions.
-        deletions.lines ≡ stated.deleted_lines names.now deletions.failures.items) }
+        names.now volumes.old volumes.new deletions.failures.items deletions.lines) }
     ensures left { IsErr result → AreDeletedSome V.shown V.answers line kind names.now volumes.old
         volumes.new }
     ensures ran { AreRunOn V.history V.goes (line ∷ []) volumes.old volumes.new }
@@ -188,22 +178,23 @@ fn delete_each<V: OwnedVolume>(
         failures: Vec::new(alloc),
     };
     for name in names {
-        let failure = delete_one(alloc, volumes, line, name, kind)?;
-        deletions.add(name, failure)?;
+        let end = delete_one(alloc, volumes, line, name, kind)?;
+        deletions.add(&end)?;
     }
     Ok(deletions)
 }
 
-/// DELETE of Access Method Services Commands, of clusters with their records, over the volumes,
-/// volume 0 first, which no deck has: each name is a unit of its own, in order. One is refused, and
-/// its cluster stays, with the first of these: fault 2 where no volume has the name; 903 where the
-/// lowest that has it has stopped; 3 where that is no cluster's name, where no record spells its
-/// entry, or where the command deletes entries of another kind (`kind`). Else the volume is asked:
+/// DELETE of Access Method Services Commands over the volumes, volume 0 first, which no deck has:
+/// each name is a unit of its own, in order, and its entry goes with what stands over it, a cluster
+/// with its records. One is refused, and its entry stays, with the first of these: fault 2 where no
+/// volume has the name; 903 where the lowest that has it has stopped; 3 where no record spells its
+/// entry, or another entry has its part, where the command deletes entries of another kind (`kind`),
+/// or where more than one entry stands over it (these are deleted first). Else the volume is asked:
 /// fault 901 where a lock or a live unit of recovery is in the way, 902 where its log is full, 904
-/// and 905 where its device fails. Each name that is deleted has a detail line. The code of the
-/// command is the greatest, and its fault that of the first name that gave this code. What is
-/// entered comes after all that the volumes have. Where stamps or memory run out, the volumes show
-/// what the names so far left.
+/// and 905 where its device fails. Each entry that is deleted has a detail line, in the order of the
+/// catalog. The code of the command is the greatest, and its fault that of the first name that gave
+/// this code. What is entered comes after all that the volumes have. Where stamps or memory run out,
+/// the volumes show what the names so far left.
 pub fn delete_entries<V: OwnedVolume>(
     alloc: Global,
     volumes: &mut [V],

@@ -95,7 +95,7 @@ fn stopped_at<V: ShownVolume>(volumes: &[V], number: Option<usize>) -> Option<Fa
 }
 
 /// The failure of a name that is in use on some volume.
-fn name_failure<V: ShownVolume>(volumes: &[V], name: &Name) -> Option<Failure>
+pub(crate) fn name_failure<V: ShownVolume>(volumes: &[V], name: &Name) -> Option<Failure>
     ensures { result ≡ stated.name_failure (map V.shown volumes.now) name.now }
 {
     failure_if(

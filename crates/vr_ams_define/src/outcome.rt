@@ -1,13 +1,10 @@
 //! Outcomes of commands.
-ghost use Rattle.std.specs.Prelude.{◌≡◌, [], Err, IfErr, IfOk};
-ghost use Rattle.vr_ams_define.specs.Altered as stated;
-ghost use Rattle.vr_ams_define.specs.ChangeSteps.{IsTold};
-ghost use Rattle.vr_ams_define.specs.declared.refusal.DefineNo.TheVariants.{Ended};
+ghost use Rattle.std.specs.Prelude.{◌≡◌, []};
+ghost use Rattle.vr_ams_define.specs.Asked as stated;
 ghost use Rattle.vr_trace.specs.Commands.{done as done_with};
 
-use crate::refusal::DefineNo;
 use std::alloc::Global;
-use vr_trace::{Failure, Outcome, RunNo, refused};
+use vr_trace::{Failure, Outcome, refused};
 use vr_types::Bytes;
 
 /// The outcome of a command that was done, and has no detail line.
@@ -28,17 +25,5 @@ pub(crate) fn outcome_by(alloc: Global, failure: Option<Failure>) -> Outcome
     match failure {
         None => done(alloc),
         Some(failure) => refused(alloc, failure),
-    }
-}
-
-/// Why a change is refused, if it is, by what it came to.
-pub(crate) fn failure_of(end: Result<Option<Failure>, DefineNo>) -> Result<Option<Failure>, RunNo>
-    ensures told { IfOk result (IsTold end) }
-    ensures ended { IfErr result (λ no. end ≡ Err (Ended no)) }
-{
-    match end {
-        Ok(failure) => Ok(failure),
-        Err(DefineNo::Refused(failure)) => Ok(Some(failure)),
-        Err(DefineNo::Ended(no)) => Err(no),
     }
 }

@@ -1,19 +1,21 @@
 //! A volume that the utilities have for themselves.
-ghost use Rattle.std.specs.Prelude.{◌≡◌, ℕ, List, false, Contains, IfOk, IfSome, IsErr};
+ghost use Rattle.std.specs.Prelude.{◌≡◌, ℕ, List, false, Contains, IfOk, IsErr};
 ghost use Rattle.std.specs.Option.{option_copied};
 ghost use Rattle.vr_catalog.specs.declared.entry.EntryKind.TheVariants.{Cluster};
+ghost use Rattle.vr_edits.specs.Edits.{MayEdit};
 ghost use Rattle.vr_history.specs.Merged.{last_stamp};
 ghost use Rattle.vr_history.specs.declared.entry.Entry.{Entry};
 ghost use Rattle.vr_types.specs.declared.geometry.Geometry.{Geometry};
 ghost use Rattle.vr_ams_define.specs.Answers.{Exchange, HasRead, IsShownAfter, IsShownCounted};
 ghost use Rattle.vr_ams_define.specs.Answers.{IsShownRead};
-ghost use Rattle.vr_ams_define.specs.Answers.Exchange.{Changing, Counting, Defining};
-ghost use Rattle.vr_ams_define.specs.EntryChanges.{IsAltered, IsClusterThere, IsShownChanged};
+ghost use Rattle.vr_ams_define.specs.Answers.Exchange.{Counting, Defining, Editing};
+ghost use Rattle.vr_ams_define.specs.Edited.{IsShownEdited};
 ghost use Rattle.vr_ams_define.specs.Grown.{HasEntered};
 ghost use Rattle.vr_ams_define.specs.NewCluster.{IsNewCluster};
 
 use crate::answer::{Changed, Counted, Defined, ReadBack};
 use vr_catalog::CatEntry;
+use vr_edits::CatalogEdit;
 use vr_trace::{RecordVisitor, RunNo, ShownVolume};
 use vr_types::{Geometry, Place};
 
@@ -106,26 +108,19 @@ pub trait OwnedVolume: ShownVolume {
         ensures goes { goes self.old self.new }
         ensures geometry { geometry self.new ≡ geometry self.old };
 
-    /// Alters a cluster of the catalog, to an entry that differs in FREESPACE or SHAREOPTIONS
-    /// alone, or deletes it, with its records, where there is none, as one event of a command whose
-    /// first word is on line `line` of the job; or does a stage of a split of the catalog that has
-    /// to come before (`Again`). What it enters comes after stamp `after`. Where it is refused, or
-    /// no stamps are left, or no unit of recovery of the utilities (`Stamps`), or memory runs out
-    /// (`Memory`), the volume shows what it showed; a write that fails stops it.
-    fn change(
-        &mut self,
-        line: u32,
-        entry: &CatEntry,
-        to: Option<&CatEntry>,
-        after: u64,
-    ) -> Result<Changed, RunNo>
+    /// Makes an edit of the catalog, as one event of a command whose first word is on line `line`
+    /// of the job: all of it or, where the volume answers anything else than `Done`, nothing. With
+    /// a cluster that is deleted go its records. Or it does a stage of a split of the catalog that
+    /// has to come before (`Again`). What it enters comes after stamp `after`. Where it is refused,
+    /// or no stamps are left, or no unit of recovery of the utilities (`Stamps`), or memory runs
+    /// out (`Memory`), the volume shows what it showed; a write that fails stops it.
+    fn edit(&mut self, line: u32, edit: &CatalogEdit, after: u64) -> Result<Changed, RunNo>
         requires going { (Self.shown self.old).stopped ≡ false }
-        requires entry { IsClusterThere (Self.shown self.old).catalog entry.now }
-        requires to { IfSome (option_copied to) (IsAltered entry.now) }
-        ensures changed { IfOk result (λ answer. answers self.old line
-            (Changing entry.now (option_copied to.entry) answer) self.new) }
-        ensures shown { IfOk result (λ answer. IsShownChanged answer entry.now
-            (option_copied to.entry) (Self.shown self.old) (Self.shown self.new)) }
+        requires edit { MayEdit (geometry self.old) (Self.shown self.old).catalog edit.now }
+        ensures changed { IfOk result (λ answer.
+            answers self.old line (Editing edit.now answer) self.new) }
+        ensures shown { IfOk result (λ answer.
+            IsShownEdited answer edit.now (Self.shown self.old) (Self.shown self.new)) }
         ensures refused { IsErr result → Self.shown self.new ≡ Self.shown self.old }
         ensures entered { HasEntered line after (history self.old) (history self.new) }
         ensures goes { goes self.old self.new }

@@ -1,10 +1,9 @@
-//! Whether a record of the catalog spells the entry of a cluster.
+//! Whether a record of the catalog spells an entry.
 ghost use Rattle.std.specs.Prelude.{◌≡◌, IfOk};
 ghost use Rattle.vr_catalog.specs.Entry as stated;
-ghost use Rattle.vr_catalog.specs.declared.entry.EntryKind.TheVariants.{Cluster};
 
 use std::alloc::Global;
-use vr_catalog::{CatEntry, FreeSpace, ShareOptions, SpaceUnit};
+use vr_catalog::{CatEntry, EntryKind, FreeSpace, ShareOptions, SpaceUnit};
 use vr_types::{AreaNo, Kind, Name, NameFault, OutOfMemory, PartNo, dataset_name};
 
 /// Whether a text is the name of a data set, in capitals.
@@ -154,25 +153,103 @@ fn is_area_or_none(area: Option<AreaNo>) -> bool
     }
 }
 
-/// Whether a catalog may have the entry of a cluster, its names aside.
-fn is_allowed(entry: &CatEntry) -> bool
-    requires { entry.now.entry_kind ≡ Cluster }
-    ensures { result ≡ stated.is_allowed entry.now }
+fn is_cluster(entry: &CatEntry) -> bool
+    ensures { result ≡ stated.is_cluster entry.now }
 {
-    is_part(entry.part)
-        && is_area_or_none(entry.first_area)
-        && entry.related.is_none()
+    entry.related.is_none()
         && !entry.unique
         && !entry.built
         && are_keys_of(entry.kind, entry.key_length, entry.key_offset)
         && has_data(entry)
 }
 
-/// Whether a record spells the entry of a cluster. It does where its names and numbers are those
-/// that a parser lets through.
+/// Whether an entry stands over a part that isn't the catalog's.
+fn is_related(related: Option<PartNo>) -> bool
+    ensures { result ≡ stated.is_related related }
+{
+    match related {
+        None => false,
+        Some(part) => is_part(part),
+    }
+}
+
+fn is_alternate(entry: &CatEntry) -> bool
+    ensures { result ≡ stated.is_alternate entry.now }
+{
+    entry.kind == Some(Kind::Keyed)
+        && is_related(entry.related)
+        && !entry.spanned
+        && entry.built == entry.first_area.is_some()
+        && are_keys(entry.key_length, entry.key_offset)
+        && has_data(entry)
+}
+
+fn has_no_shares(entry: &CatEntry) -> bool
+    ensures { result ≡ stated.has_no_shares entry.now }
+{
+    entry.free_space.interval == 0
+        && entry.free_space.area == 0
+        && entry.share_options.regions == 0
+        && entry.share_options.systems == 0
+}
+
+fn has_no_names(entry: &CatEntry) -> bool
+    ensures { result ≡ stated.has_no_names entry.now }
+{
+    entry.data_name.is_none()
+        && entry.index_name.is_none()
+        && entry.storage_class.is_none()
+        && entry.data_class.is_none()
+        && entry.management_class.is_none()
+}
+
+fn has_no_data(entry: &CatEntry) -> bool
+    ensures { result ≡ stated.has_no_data entry.now }
+{
+    entry.key_length == 0
+        && entry.key_offset == 0
+        && entry.average == 0
+        && entry.maximum == 0
+        && entry.interval_size == 0
+        && entry.space == SpaceUnit::Unstated
+        && is_space(entry.space, entry.primary, entry.secondary)
+        && has_no_shares(entry)
+        && has_no_names(entry)
+}
+
+fn is_path(entry: &CatEntry) -> bool
+    ensures { result ≡ stated.is_path entry.now }
+{
+    entry.kind.is_none()
+        && is_related(entry.related)
+        && !entry.spanned
+        && !entry.unique
+        && !entry.built
+        && entry.first_area.is_none()
+        && has_no_data(entry)
+}
+
+fn is_of_kind(entry: &CatEntry) -> bool
+    ensures { result ≡ stated.is_of_kind entry.now.entry_kind entry.now }
+{
+    match entry.entry_kind {
+        EntryKind::Cluster => is_cluster(entry),
+        EntryKind::Alternate => is_alternate(entry),
+        EntryKind::Path => is_path(entry),
+    }
+}
+
+/// Whether a catalog may have the entry, its names aside.
+fn is_allowed(entry: &CatEntry) -> bool
+    ensures { result ≡ stated.is_allowed entry.now }
+{
+    is_part(entry.part) && is_area_or_none(entry.first_area) && is_of_kind(entry)
+}
+
+/// Whether a record spells the entry. It does where its names and numbers are those that a parser
+/// lets through.
 #[tactic(auto, unfolding(vr_catalog::specs::Entry::is_entry))]
 pub(crate) fn has_record(alloc: Global, entry: &CatEntry) -> Result<bool, OutOfMemory>
-    requires { entry.now.entry_kind ≡ Cluster }
     ensures { IfOk result (λ has. has ≡ stated.is_entry entry.now) }
 {
     Ok(are_names(alloc, entry)? && is_allowed(entry))

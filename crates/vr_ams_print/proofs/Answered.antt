@@ -16,17 +16,18 @@ use Rattle.vr_ams_print.specs.Record.{printed_line}
 use Rattle.vr_ams_print.specs.Steps.{HasHandedOver, IsSource, after_record, is_done}
 use Rattle.vr_ams_print.specs.Steps.{most_of, started}
 use Rattle.vr_ams_print.specs.declared.printing.Printing.{Printing}
-use Rattle.vr_ams_print.specs.declared.source.Source.{Source}
+use Rattle.vr_ams_print.specs.declared.source.FoundCluster.{FoundCluster}
 use Rattle.vr_ams_print.proofs.Selected.{print-is}
 use Rattle.vr_ams_print.proofs.Sources.{asked-named}
 
 -- it handed its records over, from the first to the last
 pub print-answered : {V : Type 0} (shown : V → Shown) (answers : Answering V) (line : ℕ)
-    (command : PrintCommand) (source : Source) (alloc : Global) (old new : List V)
+    (command : PrintCommand) (source : FoundCluster) (alloc : Global) (old new : List V)
     (before left : Printing) (answer : ReadBack) (outcome : Outcome)
     → IsSource (has_keys command.from command.to) (map shown old) command.source source
     → before ≡ started alloc source.kind command → answer ≡ reads.Done
-    → HasHandedOver answers line source (first_place command.from) before left old new answer
+    → HasHandedOver answers after_record is_done line source (first_place command.from) before left
+    old new answer
     → length left.lines < 2 ^ 64
     → outcome ≡ done (left.lines ++ printed_line (most_of command.to - left.left))
     → IsPrintAnswered shown answers line command old new outcome
@@ -42,7 +43,8 @@ print-answered shown answers line command source alloc old new before left answe
           left ≡ visited_by after_record is_done all.records it) made all.visited) few ended;
     }
   where
-    all : HasHandedOver answers line source (first_place command.from) before left old new
-        reads.Done
+    all : HasHandedOver answers after_record is_done line source (first_place command.from) before
+        left old new reads.Done
     all = subst (λ (it : ReadBack).
-        HasHandedOver answers line source (first_place command.from) before left old new it) is read
+        HasHandedOver answers after_record is_done line source (first_place command.from) before
+        left old new it) is read

@@ -2,6 +2,6 @@ mod Answered
 mod EachByte
 mod Numbered
 mod Selected
-mod Sources
+pub mod Sources
 mod Worked
 mod WorkedPrints

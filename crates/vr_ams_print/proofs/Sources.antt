@@ -28,9 +28,8 @@ use Rattle.vr_ams_print.specs.Outcomes.{IsAsked}
 use Rattle.vr_ams_print.specs.Sources.{kind_of, kind_of_found, kind_read}
 use Rattle.vr_ams_print.specs.Sources.{unless}
 use Rattle.vr_ams_print.specs.Steps.{HasHandedOver, IsAskedAt, IsCountedStill, IsShownStill}
-use Rattle.vr_ams_print.specs.Steps.{IsSource, IsThere, after_record, is_done}
-use Rattle.vr_ams_print.specs.declared.printing.Printing.{Printing}
-use Rattle.vr_ams_print.specs.declared.source.Source.{Source}
+use Rattle.vr_ams_print.specs.Steps.{IsSource, IsThere}
+use Rattle.vr_ams_print.specs.declared.source.FoundCluster.{FoundCluster}
 
 -- ---- a data set that is read is there
 
@@ -46,7 +45,7 @@ cluster-is keyed Alternate has kind is = absurd (cc)
 cluster-is keyed Path has kind is = absurd (cc)
 
 -- its volume is there, and hasn't stopped, and it is a cluster's
-pub there-of : (keyed : Bool) (volumes : List Shown) (name : List ℕ) (source : Source)
+pub there-of : (keyed : Bool) (volumes : List Shown) (name : List ℕ) (source : FoundCluster)
     → IsSource keyed volumes name source → IsThere volumes source
 there-of keyed volumes name source found =
     by (slice_get volumes source.place) refl found.entry_is kind-found
@@ -71,7 +70,7 @@ there-of keyed volumes name source found =
 
 -- ---- its volume
 
-module _ {V : Type 0} (shown : V → Shown) (volumes : List V) (source : Source)
+module _ {V : Type 0} (shown : V → Shown) (volumes : List V) (source : FoundCluster)
     (there : IsThere (map shown volumes) source) where
   pub within : source.place < length volumes
   within = omega (
@@ -117,19 +116,19 @@ module _ {V : Type 0} (shown : V → Shown) (volumes : List V) (source : Source)
     asked-so answers line exchange new (Err why) answered = tt
 
     -- it handed its records over
-    pub handed-so : (answers : Answering V) (line : ℕ) (from : Option (List ℕ))
-        (before left : Printing) (new : V) (result : Result ReadBack RunNo)
-        → IfOk result (HasRead answers after_record is_done line source.entry from One new before
-        left)
-        → IfOk result (HasHandedOver answers line source from before left volumes
+    pub handed-so : {R : Type 0} (answers : Answering V) (next : R → List ℕ → List ℕ → R)
+        (done : R → Bool) (line : ℕ) (from : Option (List ℕ)) (before left : R) (new : V)
+        (result : Result ReadBack RunNo)
+        → IfOk result (HasRead answers next done line source.entry from One new before left)
+        → IfOk result (HasHandedOver answers next done line source from before left volumes
         (slice_set volumes source.place new))
-    handed-so answers line from before left new (Ok answer) read = record {
+    handed-so answers next done line from before left new (Ok answer) read = record {
       records = read.records;
       asked = asked-there answers line (Reading source.entry from read.records answer) new
           read.answered;
       visited = read.visited;
     }
-    handed-so answers line from before left new (Err why) read = tt
+    handed-so answers next done line from before left new (Err why) read = tt
 
     -- what the volumes show then
     module _ (new : V) where
@@ -158,7 +157,7 @@ module _ {V : Type 0} (shown : V → Shown) (volumes : List V) (source : Source)
 
 -- it was asked, by its name
 pub asked-named : {V : Type 0} (shown : V → Shown) (answers : Answering V) (line : ℕ)
-    (keyed : Bool) (name : List ℕ) (source : Source) (exchange : CatEntry → Exchange)
+    (keyed : Bool) (name : List ℕ) (source : FoundCluster) (exchange : CatEntry → Exchange)
     (old new : List V) → IsSource keyed (map shown old) name source
     → IsAskedAt answers line source (exchange source.entry) old new
     → IsAsked shown answers line keyed name source.kind exchange old new

@@ -24,35 +24,35 @@ use Rattle.vr_ams_define.specs.declared.answer.ReadBack.TheVariants as reads
 use Rattle.vr_ams_print.specs.Printed.{is_up_to, skipped, text_of}
 use Rattle.vr_ams_print.specs.Sources.{kind_of_found, source_kind}
 use Rattle.vr_ams_print.specs.declared.printing.Printing.{Printing}
-use Rattle.vr_ams_print.specs.declared.source.Source.{Source}
+use Rattle.vr_ams_print.specs.declared.source.FoundCluster.{FoundCluster}
 
 -- ---- the data set
 
 -- The volume has the entry under the name, and it may be read.
-pub record IsSourceOn (keyed : Bool) (volume : Shown) (place : ℕ) (name : List ℕ) (source : Source)
+pub record IsSourceOn (keyed : Bool) (volume : Shown) (place : ℕ) (name : List ℕ) (source : FoundCluster)
     : Type 0 where
   pub place_is : source.place ≡ place
   pub entry_is : entry_named volume.catalog name ≡ Some source.entry
   pub kind_is : kind_of_found keyed (Some volume) (Some source.entry) ≡ Ok source.kind
 
-abbrev pub IsFoundOn : Bool → Shown → ℕ → List ℕ → Result Source Failure → Type 0
+abbrev pub IsFoundOn : Bool → Shown → ℕ → List ℕ → Result FoundCluster Failure → Type 0
 IsFoundOn keyed volume place name (Ok source) = IsSourceOn keyed volume place name source
 IsFoundOn keyed volume place name (Err failure) =
     kind_of_found keyed (Some volume) (entry_named volume.catalog name) ≡ Err failure
 
 -- The entry is that of the name, on the lowest volume that has it, and may be read.
-pub record IsSource (keyed : Bool) (volumes : List Shown) (name : List ℕ) (source : Source) : Type 0
+pub record IsSource (keyed : Bool) (volumes : List Shown) (name : List ℕ) (source : FoundCluster) : Type 0
   where
     pub place_is : place_of volumes name ≡ Some source.place
     pub entry_is : entry_at volumes source.place name ≡ Some source.entry
     pub kind_is : source_kind keyed volumes name ≡ Ok source.kind
 
-abbrev pub IsFound : Bool → List Shown → List ℕ → Result Source Failure → Type 0
+abbrev pub IsFound : Bool → List Shown → List ℕ → Result FoundCluster Failure → Type 0
 IsFound keyed volumes name (Ok source) = IsSource keyed volumes name source
 IsFound keyed volumes name (Err failure) = source_kind keyed volumes name ≡ Err failure
 
 -- The volume of the number hasn't stopped, and has the entry, which is a cluster's.
-pub record IsThere (volumes : List Shown) (source : Source) : Type 0 where
+pub record IsThere (volumes : List Shown) (source : FoundCluster) : Type 0 where
   pub volume : Shown
   pub volume_is : slice_get volumes source.place ≡ Some volume
   pub going : volume.stopped ≡ false
@@ -60,7 +60,7 @@ pub record IsThere (volumes : List Shown) (source : Source) : Type 0 where
   pub cluster : source.entry.entry_kind ≡ Cluster
 
 -- The volume of the data set was asked about it, and the others are as they were.
-pub record IsAskedAt {V : Type 0} (answers : Answering V) (line : ℕ) (source : Source)
+pub record IsAskedAt {V : Type 0} (answers : Answering V) (line : ℕ) (source : FoundCluster)
     (exchange : Exchange) (old new : List V) : Type 0 where
   pub before : V
   pub before_is : slice_get old source.place ≡ Some before
@@ -117,12 +117,12 @@ started alloc kind command = record {
 }
 
 -- The volume of the data set was asked for its records, and handed them over.
-pub record HasHandedOver {V : Type 0} (answers : Answering V) (line : ℕ) (source : Source)
-    (from : Option (List ℕ)) (before left : Printing) (old new : List V) (answer : ReadBack)
-    : Type 0 where
+pub record HasHandedOver {V R : Type 0} (answers : Answering V) (next : R → List ℕ → List ℕ → R)
+    (done : R → Bool) (line : ℕ) (source : FoundCluster) (from : Option (List ℕ)) (before left : R)
+    (old new : List V) (answer : ReadBack) : Type 0 where
   pub records : List Visited
   pub asked : IsAskedAt answers line source (Reading source.entry from records answer) old new
-  pub visited : left ≡ visited_by after_record is_done records before
+  pub visited : left ≡ visited_by next done records before
 
 -- Only a fault of the device changes what the volumes show.
 abbrev pub IsShownStill : Result ReadBack RunNo → List Shown → List Shown → Type 0

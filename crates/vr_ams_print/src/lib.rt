@@ -17,11 +17,14 @@ mod lines;
 mod print;
 mod printing;
 mod record;
+mod selection;
 mod source;
 mod texts;
 mod verify;
 
 pub use laws::each_byte_is_shown_once;
-pub use print::print_records;
+pub use print::{print_records, read_source};
 pub use record::{write_printed, write_record};
+pub use selection::{first_place, has_keys, is_within, last_key, most_of, skipped};
+pub use source::{FoundCluster, find_source};
 pub use verify::verify_cluster;

@@ -6,67 +6,29 @@ ghost use Rattle.vr_ams_print.specs.Outcomes.{IsPrintAnswered, IsPrintedBy};
 ghost use Rattle.vr_ams_print.specs.Printed as stated;
 ghost use Rattle.vr_ams_print.specs.Steps.{HasHandedOver, IsShownStill, IsSource, IsThere};
 
-use crate::printing::{Printing, most_of};
-use crate::source::{Source, find_source};
+use crate::printing::Printing;
+use crate::selection::{first_place, has_keys, most_of};
+use crate::source::{FoundCluster, find_source};
 use std::alloc::Global;
 use vr_ams_define::{OwnedVolume, ReadBack, fault_failure, last_of};
-use vr_amsparse::{From, PrintCommand, To};
-use vr_trace::{Outcome, RunNo, refused};
-use vr_types::{OutOfMemory, Place};
+use vr_amsparse::PrintCommand;
+use vr_trace::{Outcome, RecordVisitor, RunNo, refused};
+use vr_types::Place;
 
-/// Whether the first record is that of a key.
-fn is_from_key(from: &From) -> bool
-    ensures { result ≡ stated.is_from_key from.now }
-{
-    match from {
-        From::Key(_) => true,
-        From::Start | From::Skip(_) => false,
-    }
-}
-
-/// Whether the last record is that of a key.
-fn is_to_key(to: &To) -> bool
-    ensures { result ≡ stated.is_to_key to.now }
-{
-    match to {
-        To::Key(_) => true,
-        To::End | To::Count(_) => false,
-    }
-}
-
-/// Whether it reads by keys.
-fn has_keys(command: &PrintCommand) -> bool
-    ensures { result ≡ stated.has_keys command.now.from command.now.to }
-{
-    is_from_key(&command.from) || is_to_key(&command.to)
-}
-
-/// Where reading begins, with FROMKEY.
-fn first_place(alloc: Global, from: &From) -> Result<Option<Place>, OutOfMemory>
-    ensures { IfOk result (λ place. place ≡ stated.first_place from.now) }
-{
-    match from {
-        From::Start | From::Skip(_) => Ok(None),
-        From::Key(key) => {
-            let bytes = Vec::from_slice(alloc, key.as_slice())?;
-            Ok(Some(Place::from_vec(bytes)))
-        }
-    }
-}
-
-/// Has the volume of a data set hand its records over, from a place on where there is one. What
-/// that enters comes after all that the volumes have.
-fn read_source<V: OwnedVolume>(
+/// Has the volume of a cluster hand its records over, from a place on where there is one. What that
+/// enters comes after all that the volumes have. Where stamps or memory run out, no volume shows
+/// anything else than it showed.
+pub fn read_source<V: OwnedVolume, R: RecordVisitor>(
     volumes: &mut [V],
     line: u32,
-    source: &Source,
+    source: &FoundCluster,
     from: Option<&Place>,
-    printing: &mut Printing,
+    visitor: &mut R,
 ) -> Result<ReadBack, RunNo>
     requires there { IsThere (map V.shown volumes.old) source.now }
     requires within { source.now.place < length volumes.old }
-    ensures read { IfOk result (HasHandedOver V.answers line source.now (option_copied from.entry)
-        printing.old printing.new volumes.old volumes.new) }
+    ensures read { IfOk result (HasHandedOver V.answers R.after R.done line source.now
+        (option_copied from.entry) visitor.old visitor.new volumes.old volumes.new) }
     ensures shown { IsShownStill result (map V.shown volumes.old) (map V.shown volumes.new) }
     ensures grew { AreRunOn V.history V.goes (line ∷ []) volumes.old volumes.new }
     ensures geometry { map V.geometry volumes.new ≡ map V.geometry volumes.old }
@@ -74,7 +36,7 @@ fn read_source<V: OwnedVolume>(
     let after = last_of(volumes);
     let number = source.place;
     let volume = &mut volumes[number];
-    volume.read(line, &source.entry, from, after, printing)
+    volume.read(line, &source.entry, from, after, visitor)
 }
 
 /// Prints the records of a data set.
@@ -83,7 +45,7 @@ fn print_source<V: OwnedVolume>(
     volumes: &mut [V],
     line: u32,
     command: &PrintCommand,
-    source: &Source,
+    source: &FoundCluster,
 ) -> Result<Outcome, RunNo>
     requires found { IsSource (stated.has_keys command.now.from command.now.to)
         (map V.shown volumes.old) command.now.source source.now }
@@ -121,7 +83,7 @@ pub fn print_records<V: OwnedVolume>(
     ensures grew { AreRunOn V.history V.goes (line ∷ []) volumes.old volumes.new }
     ensures geometry { map V.geometry volumes.new ≡ map V.geometry volumes.old }
 {
-    let keyed = has_keys(command);
+    let keyed = has_keys(&command.from, &command.to);
     match find_source(alloc, keyed, volumes, &command.source)? {
         Err(failure) => Ok(refused(alloc, failure)),
         Ok(source) => print_source(alloc, volumes, line, command, &source),

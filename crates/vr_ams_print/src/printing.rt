@@ -1,13 +1,13 @@
 //! The records that are handed to PRINT.
 ghost use Rattle.std.specs.Prelude.{◌≡◌, ◌++◌, ◌-◌, ◌<◌, ◌^◌, length, IfOk};
 ghost use Rattle.vr_trace.specs.Commands.{done};
-ghost use Rattle.vr_ams_print.specs.Printed.{skipped as skipped_by};
 ghost use Rattle.vr_ams_print.specs.Record.{printed_line};
 ghost use Rattle.vr_ams_print.specs.Steps as stated;
 
 use crate::record::{write_printed, write_record};
+use crate::selection::{is_within, last_key, most_of, skipped};
 use std::alloc::Global;
-use vr_amsparse::{From, PrintCommand, PrintForm, To};
+use vr_amsparse::{PrintCommand, PrintForm};
 use vr_trace::{Outcome, RecordVisitor};
 use vr_types::{Bytes, Kind, OutOfMemory};
 
@@ -26,50 +26,6 @@ pub(crate) struct Printing {
     pub(crate) over: bool,
     pub(crate) lines: Bytes,
     pub(crate) alloc: Global,
-}
-
-/// How many records SKIP passes over.
-fn skipped(from: &From) -> u64
-    ensures { result ≡ skipped_by from.now }
-{
-    match from {
-        From::Start | From::Key(_) => 0,
-        From::Skip(count) => *count,
-    }
-}
-
-/// How many records may be printed. Where COUNT doesn't say, no lines have room for as many.
-pub(crate) fn most_of(to: &To) -> u64
-    ensures { result ≡ stated.most_of to.now }
-{
-    match to {
-        To::End | To::Key(_) => u64::MAX,
-        To::Count(count) => *count,
-    }
-}
-
-/// A copy of the key of TOKEY.
-fn last_key(alloc: Global, to: &To) -> Result<Option<Bytes>, OutOfMemory>
-    ensures { IfOk result (λ last. last ≡ stated.last_key to.now) }
-{
-    match to {
-        To::End | To::Count(_) => Ok(None),
-        To::Key(key) => Ok(Some(key.copy(alloc)?)),
-    }
-}
-
-/// Whether the record of a place isn't past the key of TOKEY.
-fn is_within(last: &Option<Bytes>, place: &[u8], bytes: &[u8]) -> bool
-    ensures { result ≡ stated.is_within last.now (place.now, bytes.now) }
-{
-    match last {
-        None => true,
-        Some(key) => {
-            let size = key.len().min(place.len());
-            let cut = &place[..size];
-            cut.cmp(key.as_slice()).is_le()
-        }
-    }
 }
 
 impl Printing {

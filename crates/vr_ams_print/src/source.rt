@@ -9,12 +9,12 @@ use vr_catalog::{CatEntry, CatFault, EntryKind};
 use vr_trace::{Failure, ShownVolume};
 use vr_types::{Kind, Name, OutOfMemory};
 
-/// A cluster that is read: the number of its volume, 0 for the first, its entry, and its kind.
+/// The cluster of a name: the number of its volume, 0 for the first, its entry, and its kind.
 #[derive(Drop)]
-pub(crate) struct Source {
-    pub(crate) place: usize,
-    pub(crate) entry: CatEntry,
-    pub(crate) kind: Kind,
+pub struct FoundCluster {
+    pub place: usize,
+    pub entry: CatEntry,
+    pub kind: Kind,
 }
 
 /// The kind of a cluster.
@@ -70,7 +70,7 @@ fn find_on<V: ShownVolume>(
     volume: &V,
     place: usize,
     name: &Name,
-) -> Result<Result<Source, Failure>, OutOfMemory>
+) -> Result<Result<FoundCluster, Failure>, OutOfMemory>
     ensures { IfOk result (IsFoundOn keyed (V.shown volume.now) place name.now) }
 {
     let Some(entry) = volume.catalog().find(name) else {
@@ -80,20 +80,20 @@ fn find_on<V: ShownVolume>(
         Err(failure) => Ok(Err(failure)),
         Ok(kind) => {
             let entry = entry.copy(alloc)?;
-            Ok(Ok(Source { place, entry, kind }))
+            Ok(Ok(FoundCluster { place, entry, kind }))
         }
     }
 }
 
 /// The data set of a name, of the lowest volume that has it, or why it isn't read, by keys or not:
 /// fault 2 where no volume has the name, 903 where its volume has stopped, 3 where it is no
-/// cluster's, or that of one without keys where it is read by keys.
-pub(crate) fn find_source<V: ShownVolume>(
+/// cluster's, or that of one without keys where it is read by keys. Out of memory is its one error.
+pub fn find_source<V: ShownVolume>(
     alloc: Global,
     keyed: bool,
     volumes: &[V],
     name: &Name,
-) -> Result<Result<Source, Failure>, OutOfMemory>
+) -> Result<Result<FoundCluster, Failure>, OutOfMemory>
     ensures { IfOk result (IsFound keyed (map V.shown volumes.now) name.now) }
 {
     let Some(place) = place_of(volumes, name) else {

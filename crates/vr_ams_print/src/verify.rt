@@ -6,7 +6,7 @@ ghost use Rattle.vr_trace.specs.Commands.{done};
 ghost use Rattle.vr_ams_print.specs.Outcomes.{IsVerifiedBy, IsVerifyAnswered, records_line};
 ghost use Rattle.vr_ams_print.specs.Steps.{IsAskedAt, IsCountedStill, IsSource, IsThere};
 
-use crate::source::{Source, find_source};
+use crate::source::{FoundCluster, find_source};
 use std::alloc::Global;
 use vr_ams_define::{Counted, OwnedVolume, fault_failure, last_of};
 use vr_trace::{NEW_LINE, Outcome, RunNo, refused, write_field};
@@ -30,7 +30,7 @@ fn counted_outcome(alloc: Global, count: u64) -> Result<Outcome, OutOfMemory>
 fn count_source<V: OwnedVolume>(
     volumes: &mut [V],
     line: u32,
-    source: &Source,
+    source: &FoundCluster,
 ) -> Result<Counted, RunNo>
     requires there { IsThere (map V.shown volumes.old) source.now }
     requires within { source.now.place < length volumes.old }
@@ -52,7 +52,7 @@ fn verify_source<V: OwnedVolume>(
     volumes: &mut [V],
     line: u32,
     name: &Name,
-    source: &Source,
+    source: &FoundCluster,
 ) -> Result<Outcome, RunNo>
     requires found { IsSource false (map V.shown volumes.old) name.now source.now }
     ensures verified { IfOk result

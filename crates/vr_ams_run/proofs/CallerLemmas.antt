@@ -1,7 +1,7 @@
 -- What crates above cite of reports: the code of a step is 16 at most.
 use Rattle.std.proofs.Common.{◌≡◌, ◌≤◌, ℕ, Bool, true, false, List, [], ◌∷◌, Option, Some, None}
 use Rattle.std.proofs.Common.{arith, inl, inr, map, subst, sym, Result, Ok, Err, IfErr}
-use Rattle.std.specs.Prelude.{not, ◌&&◌, length, if◌then◌else◌, IfSome, is_some, slice_get}
+use Rattle.std.specs.Prelude.{codes, not, ◌&&◌, length, if◌then◌else◌, IfSome, slice_get}
 use Rattle.std.specs.Option.{option_and_then, option_map, option_or}
 use Rattle.std.proofs.Math.Nat.{max-le, min-le_right}
 use Rattle.vr_types.specs.declared.fault.DeviceFault.{DeviceFault}
@@ -10,7 +10,7 @@ use Rattle.vr_types.specs.declared.geometry.Geometry.{Geometry}
 use Rattle.vr_types.specs.declared.unit.Kind.{Kind}
 use Rattle.vr_types.specs.declared.reply.Refusal.TheVariants.{Stopped}
 use Rattle.vr_catalog.specs.Alter.{altered as altered_entry}
-use Rattle.vr_catalog.specs.Define.{define_fault, new_entry}
+use Rattle.vr_catalog.specs.Define.{define_fault, is_path_kind, new_entry, related_name}
 use Rattle.vr_catalog.specs.Entry.{is_entry}
 use Rattle.vr_catalog.specs.Fault.{fault_code}
 use Rattle.vr_catalog.specs.declared.entry.CatEntry.{CatEntry}
@@ -19,6 +19,9 @@ use Rattle.vr_catalog.specs.declared.fault.CatFault.{CatFault}
 use Rattle.vr_catalog.specs.declared.fault.CatFault.TheVariants as faults
 use Rattle.vr_catalog.specs.declared.order.Alter.{Alter}
 use Rattle.vr_catalog.specs.declared.order.Define.{Define}
+use Rattle.vr_catalog.specs.declared.order.NewEntry.{NewEntry}
+use Rattle.vr_catalog.specs.declared.order.NewEntry.TheVariants.{Cluster, Alternate, Path}
+use Rattle.vr_edits.specs.declared.edit.CatalogEdit.{CatalogEdit}
 use Rattle.vr_amsparse.specs.declared.command.CodeVariable.{CodeVariable}
 use Rattle.vr_amsparse.specs.declared.command.CodeVariable.TheVariants.{LastCode, MaxCode}
 use Rattle.vr_amsparse.specs.declared.command.Command.{Command}
@@ -46,6 +49,7 @@ use Rattle.vr_ams_define.specs.declared.answer.Defined.{Defined}
 use Rattle.vr_ams_define.specs.declared.answer.Defined.TheVariants.{Done, Again, NoArea, NoRoom}
 use Rattle.vr_ams_define.specs.declared.answer.Defined.TheVariants.{Held, Full, Fault}
 use Rattle.vr_ams_define.specs.Altered as altered
+use Rattle.vr_ams_define.specs.Asked as asked
 use Rattle.vr_ams_define.specs.Answers.{Answering}
 use Rattle.vr_ams_define.specs.Chosen.{chosen}
 use Rattle.vr_ams_define.specs.Deleted as deleted
@@ -53,7 +57,7 @@ use Rattle.vr_ams_define.specs.Failures.{catalog_failure, early_failure, failure
 use Rattle.vr_ams_define.specs.Failures.{failure_on, fault_failure, name_failure, record_failure}
 use Rattle.vr_ams_define.specs.Failures.{stopped_failure, volume_at, volume_failure}
 use Rattle.vr_ams_define.specs.Outcomes.{IsDefined, IsOutcome}
-use Rattle.vr_ams_define.specs.Runs.{is_plain_cluster}
+use Rattle.vr_ams_define.specs.Over as over
 use Rattle.vr_ams_print.specs.Outcomes.{IsPrintedBy, IsRefused, IsVerifiedBy, print_outcome}
 use Rattle.vr_ams_print.specs.Outcomes.{verify_outcome}
 use Rattle.vr_ams_print.specs.Printed.{has_keys}
@@ -62,7 +66,7 @@ use Rattle.vr_ams_run.specs.declared.codes.Codes.{Codes}
 use Rattle.vr_ams_run.specs.declared.going.Going.{Going}
 use Rattle.vr_ams_run.specs.Codes.{set_to}
 use Rattle.vr_ams_run.specs.ListedAll.{IsListedAll}
-use Rattle.vr_ams_run.specs.Running.{AlterRun, CommandRun, DefineRun, IsReport, ListRun}
+use Rattle.vr_ams_run.specs.Running.{CommandRun, DefineRun, IsAlteredAs, IsOverAs, IsReport, ListRun}
 use Rattle.vr_ams_run.specs.Running.{NodeRunWhere, NodesRun, Stage, first_stage, list_run}
 use Rattle.vr_ams_run.specs.Running.{reaches}
 
@@ -210,25 +214,21 @@ all-few shown answers line names old new outcome came = elim came [
   ]
 ]
 
--- ---- changes of entries
+-- ---- edits of a catalog
 
-kind-mild : (entry : CatEntry) → IfSome (altered.kind_failure entry) IsMild
-kind-mild entry = by (altered.is_cluster entry.entry_kind) (not (is_entry entry))
-  where
-    by : (cluster unspelled : Bool) → IfSome (if cluster
-        then failure_if unspelled (catalog_failure faults.WrongKind)
-        else Some (catalog_failure faults.WrongKind)) IsMild
-    by true unspelled = if-mild unspelled (catalog_failure faults.WrongKind) (omega arith)
-    by false unspelled = omega arith
+sound-mild : (entries : List CatEntry) (entry : CatEntry)
+    → IfSome (altered.unsound_failure entries entry) IsMild
+sound-mild entries entry = if-mild (not (altered.is_sound entries entry))
+    (catalog_failure faults.WrongKind) (omega arith)
 
--- what a change of an entry is refused for on its volume
 entry-mild : (volume : Option Shown) (entry : Option CatEntry)
     → IfSome (altered.failure_on volume entry) IsMild
 entry-mild None entry = omega arith
 entry-mild (Some volume) None = omega arith
 entry-mild (Some volume) (Some entry) =
-    first-mild (stopped_failure volume) (altered.kind_failure entry)
-    (if-mild volume.stopped (volume_failure (Stopped 0)) (omega arith)) (kind-mild entry)
+    first-mild (stopped_failure volume) (altered.unsound_failure volume.catalog entry)
+    (if-mild volume.stopped (volume_failure (Stopped 0)) (omega arith))
+    (sound-mild volume.catalog entry)
 
 target-mild : (volumes : List Shown) (place : Option ℕ) (name : List ℕ)
     → IfSome (altered.target_failure volumes place name) IsMild
@@ -240,76 +240,138 @@ named-mild : (volumes : List Shown) (name : List ℕ)
     → IfSome (altered.name_failure volumes name) IsMild
 named-mild volumes name = target-mild volumes (altered.place_of volumes name) name
 
-altered-mild : (entry : Option CatEntry) (order : Alter)
-    → IfSome (altered.altered_failure entry order) IsMild
-altered-mild None order = tt
-altered-mild (Some entry) order = if-mild (not (is_entry (altered_entry entry order)))
-    (catalog_failure faults.CatalogFull) (omega arith)
+taken-mild : (volumes : List Shown) (name : List ℕ)
+    → IfSome (name_failure volumes name) IsMild
+taken-mild volumes name =
+    if-mild (is_known volumes name) (catalog_failure faults.NameTaken) (omega arith)
+
+new-name-mild : (volumes : List Shown) (name : Option (List ℕ))
+    → IfSome (altered.new_name_failure volumes name) IsMild
+new-name-mild volumes None = tt
+new-name-mild volumes (Some name) = taken-mild volumes name
+
+given-mild : (volumes : List Shown) (entry : Option CatEntry) (order : Alter)
+    → IfSome (altered.given_failure volumes entry order) IsMild
+given-mild volumes None order = tt
+given-mild volumes (Some entry) order =
+    first-mild (altered.early_failure volumes entry order) (altered.altered_failure entry order)
+    (first-mild (failure_if (altered.is_path_altered entry order)
+    (catalog_failure faults.WrongKind)) (altered.new_name_failure volumes order.new_name)
+    (if-mild (altered.is_path_altered entry order) (catalog_failure faults.WrongKind)
+    (omega arith)) (new-name-mild volumes order.new_name))
+    (if-mild (not (is_entry (altered_entry entry order))) (catalog_failure faults.CatalogFull)
+    (omega arith))
 
 -- whatever an ALTER is refused for
 alter-mild : (volumes : List Shown) (order : Alter)
     → IfSome (altered.alter_failure volumes order) IsMild
-alter-mild volumes order = first-mild (altered.name_failure volumes order.name) (at
-    (altered.place_of volumes order.name)) (named-mild volumes order.name)
-    (by (altered.place_of volumes order.name))
-  where
-    at : Option ℕ → Option Failure
-    at place = option_and_then (λ (place : ℕ). altered.altered_failure (altered.entry_at volumes
-        place order.name) order) place
+alter-mild volumes order = first-mild (altered.name_failure volumes order.name)
+    (altered.given_failure volumes (altered.entry_of_name volumes order.name) order)
+    (named-mild volumes order.name)
+    (given-mild volumes (altered.entry_of_name volumes order.name) order)
 
-    by : (place : Option ℕ) → IfSome (at place) IsMild
-    by None = tt
-    by (Some place) = altered-mild (altered.entry_at volumes place order.name) order
+base-mild : (volumes : List Shown) (name : Option (List ℕ))
+    → IfSome (over.base_failure volumes name) IsMild
+base-mild volumes None = omega arith
+base-mild volumes (Some name) = named-mild volumes name
+
+over-on-mild : (volumes : List Shown) (geometries : List Geometry) (base : Option CatEntry)
+    (place : Option ℕ) (order : Define) (volume : Option (List ℕ))
+    → IfSome (over.over_failure_on volumes geometries base place order volume) IsMild
+over-on-mild volumes geometries None place order volume = tt
+over-on-mild volumes geometries (Some base) None order volume = tt
+over-on-mild volumes geometries (Some base) (Some place) order volume =
+    first-mild (over.early_failure volumes base place order volume)
+    (failure_on (slice_get volumes place) (slice_get geometries place) order)
+    (first-mild (over.path_failure base)
+    (option_or (name_failure volumes order.name) (over.volume_failure volume place))
+    (if-mild (is_path_kind base.entry_kind) (catalog_failure faults.WrongKind) (omega arith))
+    (first-mild (name_failure volumes order.name) (over.volume_failure volume place)
+    (taken-mild volumes order.name)
+    (if-mild (not (over.is_volume_of volume place)) (catalog_failure faults.NoVolume)
+    (omega arith))))
+    (on-mild (slice_get volumes place) (slice_get geometries place) order)
+
+-- whatever a DEFINE of an alternate index or a path is refused for
+over-mild : (volumes : List Shown) (geometries : List Geometry) (order : Define)
+    (volume : Option (List ℕ)) → IfSome (over.over_failure volumes geometries order volume) IsMild
+over-mild volumes geometries order volume =
+    first-mild (over.base_failure volumes (related_name order.what))
+    (over.over_failure_on volumes geometries
+    (option_and_then (altered.entry_of_name volumes) (related_name order.what))
+    (over.base_place volumes order) order volume)
+    (base-mild volumes (related_name order.what))
+    (over-on-mild volumes geometries
+    (option_and_then (altered.entry_of_name volumes) (related_name order.what))
+    (over.base_place volumes order) order volume)
+
+kind-mild : (kind : Option EntryKind) (entry : Option CatEntry)
+    → IfSome (deleted.kind_failure kind entry) IsMild
+kind-mild kind None = tt
+kind-mild kind (Some entry) = if-mild (not (deleted.allows kind entry.entry_kind))
+    (catalog_failure faults.WrongKind) (omega arith)
+
+gone-mild : (entries : Option (List CatEntry)) (name : List ℕ)
+    → IfSome (deleted.gone_failure entries name) IsMild
+gone-mild None name = tt
+gone-mild (Some entries) name =
+    if-mild (not (deleted.may_go entries (deleted.gone_with entries name)))
+    (catalog_failure faults.WrongKind) (omega arith)
 
 -- whatever the deletion of a name is refused for
 delete-mild : (volumes : List Shown) (kind : Option EntryKind) (name : List ℕ)
     → IfSome (deleted.delete_failure volumes kind name) IsMild
-delete-mild volumes kind name = first-mild (altered.name_failure volumes name) (at
-    (deleted.allows_clusters kind)) (named-mild volumes name) (by (deleted.allows_clusters kind))
-  where
-    at : Bool → Option Failure
-    at allowed = if allowed then None else Some (catalog_failure faults.WrongKind)
-
-    by : (allowed : Bool) → IfSome (at allowed) IsMild
-    by true = tt
-    by false = omega arith
+delete-mild volumes kind name = first-mild (altered.name_failure volumes name)
+    (option_or (deleted.kind_failure kind (altered.entry_of_name volumes name))
+    (deleted.gone_failure (deleted.catalog_of volumes name) name)) (named-mild volumes name)
+    (first-mild (deleted.kind_failure kind (altered.entry_of_name volumes name))
+    (deleted.gone_failure (deleted.catalog_of volumes name) name)
+    (kind-mild kind (altered.entry_of_name volumes name))
+    (gone-mild (deleted.catalog_of volumes name) name))
 
 fault-few : (fault : DeviceFault) → IsMild (fault_failure fault)
 fault-few Read = omega arith
 fault-few Write = omega arith
 
--- whatever a volume refuses a change for
-changed-mild : (answer : Changed) → IfSome (altered.failure_by answer) IsMild
+-- whatever a volume refuses an edit for
+changed-mild : (answer : Changed) → IfSome (asked.failure_by answer) IsMild
 changed-mild changes.Done = tt
 changed-mild changes.Again = tt
+changed-mild changes.NoRoom = omega arith
 changed-mild changes.Held = omega arith
 changed-mild changes.Live = omega arith
 changed-mild changes.Full = omega arith
 changed-mild (changes.Fault fault) = fault-few fault
 
-altered-few : (failure : Option Failure) → IfSome failure IsMild
-    → (altered.outcome_by failure).code ≤ 16
-altered-few None mild = omega arith
-altered-few (Some failure) mild = mild
+told-few : (failure : Option Failure) → IfSome failure IsMild
+    → (asked.outcome_by failure).code ≤ 16
+told-few None mild = omega arith
+told-few (Some failure) mild = mild
 
 mild-as : (failure other : Option Failure) → failure ≡ other → IfSome other IsMild
     → IfSome failure IsMild
 mild-as failure other is mild =
     subst (λ (first : Option Failure). IfSome first IsMild) (sym is) mild
 
-alter-few : {V : Type 0} (shown : V → Shown) (answers : Answering V) (line : ℕ) (order : Alter)
-    (old new : List V) (outcome : Outcome)
-    → altered.IsAlteredBy shown answers line order old new outcome → outcome.code ≤ 16
-alter-few shown answers line order old new outcome came = elim came [
-  | inl refused ↦ code-of outcome _ refused.outcome_is
-      (subst (λ (first : Option Failure). IfSome first IsMild) refused.first_is
-      (alter-mild (map shown old) order))
-  | inr allowed ↦ elim allowed [
-    | inl nothing ↦ code-of outcome _ nothing.outcome_is (omega arith)
-    | inr asked ↦ code-of outcome _ asked.outcome_is
-        (altered-few (altered.failure_by asked.answer) (changed-mild asked.answer))
+module _ {V : Type 0} (shown : V → Shown) (answers : Answering V) (line : ℕ)
+    (first : Option Failure) (number : Option ℕ) (edit : Option CatalogEdit) (old new : List V)
+    (mild : IfSome first IsMild) where
+  edited-mild : (why : Option Failure)
+      → asked.IsEditedBy shown answers line first number edit old new why → IfSome why IsMild
+  edited-mild why came = elim came [
+    | inl kept ↦ mild-as why (Some kept.failure) kept.why_is
+        (subst (λ (it : Option Failure). IfSome it IsMild) kept.first_is mild)
+    | inr allowed ↦ elim allowed [
+      | inl nothing ↦ mild-as why None nothing.why_is tt
+      | inr one ↦ mild-as why (asked.failure_by one.answer) one.why_is
+          (changed-mild one.answer)
+    ]
   ]
-]
+
+  edited-few : (outcome : Outcome)
+      → asked.IsEdited shown answers line first number edit old new outcome → outcome.code ≤ 16
+  edited-few outcome came = code-of outcome _ came.outcome_is
+      (told-few came.why (edited-mild came.why came.ended))
 
 -- each of these is mild
 abbrev AreMild : List (Option Failure) → Type 0
@@ -329,28 +391,23 @@ worst-few (failure ∷ failures) (mild, more) =
 
 module _ {V : Type 0} (shown : V → Shown) (answers : Answering V) (line : ℕ)
     (kind : Option EntryKind) where
-  one-mild : (name : List ℕ) (old new : List V) (failure : Option Failure)
-      → deleted.IsOneDeleted shown answers line kind name old new failure
-      → IfSome failure IsMild
-  one-mild name old new failure came = elim came [
-    | inl kept ↦ mild-as failure (Some kept.why) kept.failure_is
-        (subst (λ (first : Option Failure). IfSome first IsMild) kept.first_is
-        (delete-mild (map shown old) kind name))
-    | inr asked ↦ mild-as failure (altered.failure_by asked.answer) asked.failure_is
-        (changed-mild asked.answer)
-  ]
-
   each-mild : (names : List (List ℕ)) (old new : List V) (failures : List (Option Failure))
-      → deleted.AreDeleted shown answers line kind names old new failures → AreMild failures
-  each-mild [] old new failures (same, none) = subst AreMild (sym none) tt
-  each-mild (name ∷ names) old new [] ran = absurd ran
-  each-mild (name ∷ names) old new (failure ∷ failures) (between, one, more) =
-      (one-mild name old between failure one, each-mild names between new failures more)
+      (lines : List ℕ) → deleted.AreDeleted shown answers line kind names old new failures lines
+      → AreMild failures
+  each-mild [] old new failures lines (same, none, no-lines) = subst AreMild (sym none) tt
+  each-mild (name ∷ names) old new [] lines ran = absurd ran
+  each-mild (name ∷ names) old new (failure ∷ failures) lines
+      (between, first, rest, one, more, is) = (
+        edited-mild shown answers line (deleted.delete_failure (map shown old) kind name)
+            (altered.place_of (map shown old) name) (deleted.delete_edit (map shown old) name) old
+            between (delete-mild (map shown old) kind name) failure one.ended,
+        each-mild names between new failures rest more,
+      )
 
   delete-few : (names : List (List ℕ)) (old new : List V) (outcome : Outcome)
       → deleted.IsDeletedBy shown answers line kind names old new outcome → outcome.code ≤ 16
   delete-few names old new outcome came = code-of outcome _ came.outcome_is
-      (worst-few came.failures (each-mild names old new came.failures came.ran))
+      (worst-few came.failures (each-mild names old new came.failures came.lines came.ran))
 
 -- ---- PRINT and VERIFY
 
@@ -434,13 +491,29 @@ list-few : (volumes : List Shown) (going : Going) (line : ℕ) (command : ListCo
 list-few volumes going line command few = max-le few (listed-few volumes command)
 
 module _ {V : Type 0} (shown : V → Shown) (geometry : V → Geometry) (answers : Answering V) where
-  define-few : (runs : Bool) (line : ℕ) (command : DefineCommand) (old new : Stage V)
-      → IsFew old.going → DefineRun shown geometry answers runs line command old new
+  over-few : (name : List ℕ) (line : ℕ) (command : DefineCommand) (old new : Stage V)
+      → IsFew old.going → IsOverAs shown geometry answers name line command old new
       → IsFew new.going
-  define-few true line command old new few run = few-as new.going _ run.going (max-le few
-      (defined-few shown geometry answers old.volumes line command.order command.volume
-      new.volumes run.outcome run.defined))
-  define-few false line command old new few run = few-as new.going _ run.going few
+  over-few name line command old new few run = few-as new.going _ run.going (max-le few
+      (edited-few shown answers line (over.over_failure (map shown old.volumes)
+      (map geometry old.volumes) command.order command.volume)
+      (over.base_place (map shown old.volumes) command.order)
+      (over.over_edit (map shown old.volumes) command.order) old.volumes new.volumes
+      (over-mild (map shown old.volumes) (map geometry old.volumes) command.order command.volume)
+      run.outcome run.defined))
+
+  define-few : (what : NewEntry) (line : ℕ) (command : DefineCommand) (old new : Stage V)
+      → IsFew old.going → DefineRun shown geometry answers what line command old new
+      → IsFew new.going
+  define-few (Cluster kind false options) line command old new few run = few-as new.going _
+      run.going (max-le few (defined-few shown geometry answers old.volumes line command.order
+      command.volume new.volumes run.outcome run.defined))
+  define-few (Cluster kind true options) line command old new few run =
+      few-as new.going _ run.going few
+  define-few (Alternate related unique options) line command old new few run =
+      over-few (codes "DEFINE ALTERNATEINDEX") line command old new few run
+  define-few (Path related) line command old new few run =
+      over-few (codes "DEFINE PATH") line command old new few run
 
   list-run-few : (all : Bool) (line : ℕ) (command : ListCommand) (old new : Stage V)
       → IsFew old.going → ListRun shown answers all line command old new → IsFew new.going
@@ -450,18 +523,20 @@ module _ {V : Type 0} (shown : V → Shown) (geometry : V → Geometry) (answers
   list-run-few false line command old new few run = few-as new.going _ run.going
       (list-few (map shown old.volumes) old.going line command few)
 
-  alter-run-few : (runs : Bool) (line : ℕ) (order : Alter) (old new : Stage V)
-      → IsFew old.going → AlterRun shown answers runs line order old new → IsFew new.going
-  alter-run-few true line order old new few run = few-as new.going _ run.going (max-le few
-      (alter-few shown answers line order old.volumes new.volumes run.outcome run.altered))
-  alter-run-few false line order old new few run = few-as new.going _ run.going few
+  alter-run-few : (line : ℕ) (order : Alter) (old new : Stage V)
+      → IsFew old.going → IsAlteredAs shown answers line order old new → IsFew new.going
+  alter-run-few line order old new few run = few-as new.going _ run.going (max-le few
+      (edited-few shown answers line (altered.alter_failure (map shown old.volumes) order)
+      (altered.place_of (map shown old.volumes) order.name)
+      (altered.alter_edit (map shown old.volumes) order) old.volumes new.volumes
+      (alter-mild (map shown old.volumes) order) run.outcome run.altered))
 
   command-few : (line : ℕ) (command : Command) (old new : Stage V) → IsFew old.going
       → CommandRun shown geometry answers line command old new → IsFew new.going
   command-few line (commands.Define command) old new few run =
-      define-few (is_plain_cluster command.order.what) line command old new few run
+      define-few command.order.what line command old new few run
   command-few line (commands.Alter order) old new few run =
-      alter-run-few (not (is_some order.new_name)) line order old new few run
+      alter-run-few line order old new few run
   command-few line (commands.Delete command) old new few run = few-as new.going _ run.going (max-le
       few (delete-few shown answers line command.kind command.names old.volumes new.volumes
       run.outcome run.deleted))

@@ -1,38 +1,16 @@
 -- The commands of a step, one after another.
-use Rattle.std.proofs.Common.{◌≡◌, ◌∙◌, ◌+◌, ◌<◌, ◌≤◌, ℕ, suc, Bool, true, List, [], ◌∷◌, ◌++◌}
+use Rattle.std.proofs.Common.{◌≡◌, ◌∙◌, ◌+◌, ◌<◌, ◌≤◌, ℕ, suc, List, [], ◌∷◌, ◌++◌}
 use Rattle.std.proofs.Common.{add-one, ap, drop, drop-cons, get_or, length, refl, subst, sym, take}
 use Rattle.std.proofs.Math.ListN.{drop_of_length-le}
-use Rattle.std.specs.Prelude.{is_some, not}
 use Rattle.std.proofs.lemmas.List.{map-append, take-append-drop, take_more}
 use Rattle.vr_types.specs.declared.geometry.Geometry.{Geometry}
-use Rattle.vr_amsparse.specs.declared.command.DefineCommand.{DefineCommand}
 use Rattle.vr_amsparse.specs.declared.command.Node.{Node}
-use Rattle.vr_catalog.specs.declared.order.Alter.{Alter}
 use Rattle.vr_history.specs.declared.entry.Entry.{Entry}
 use Rattle.vr_trace.specs.Shown.{Shown}
 use Rattle.vr_ams_define.specs.Answers.{Answering}
 use Rattle.vr_ams_define.specs.Grown.{AreRunOn}
-use Rattle.vr_ams_define.specs.Runs.{is_plain_cluster}
 use Rattle.vr_ams_define.proofs.GrownLemmas.{run-nothing, run-on}
-use Rattle.vr_ams_run.specs.Running.{AlterRun, DefineRun, IsAlteredAs, IsDefinedAs, NodeRun}
-use Rattle.vr_ams_run.specs.Running.{NodesRun, Stage, lines_of}
-
--- DEFINE of a cluster, which is run
-pub defined : {V : Type 0} (shown : V → Shown) (geometry : V → Geometry) (answers : Answering V)
-    (line : ℕ) (command : DefineCommand) (old new : Stage V)
-    → is_plain_cluster command.order.what ≡ true
-    → IsDefinedAs shown geometry answers line command old new
-    → DefineRun shown geometry answers (is_plain_cluster command.order.what) line command old new
-defined shown geometry answers line command old new plain ran = subst
-    (λ (runs : Bool). DefineRun shown geometry answers runs line command old new) (sym plain) ran
-
--- ALTER without NEWNAME, which is run
-pub altered : {V : Type 0} (shown : V → Shown) (answers : Answering V) (line : ℕ) (order : Alter)
-    (old new : Stage V) → not (is_some order.new_name) ≡ true
-    → IsAlteredAs shown answers line order old new
-    → AlterRun shown answers (not (is_some order.new_name)) line order old new
-altered shown answers line order old new plain ran = subst
-    (λ (runs : Bool). AlterRun shown answers runs line order old new) (sym plain) ran
+use Rattle.vr_ams_run.specs.Running.{NodeRun, NodesRun, Stage, lines_of}
 
 -- ---- the loop over commands
 

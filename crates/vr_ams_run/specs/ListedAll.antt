@@ -19,8 +19,8 @@ use Rattle.vr_ams_define.specs.Failures.{fault_failure}
 use Rattle.vr_ams_define.specs.declared.answer.Counted.{Counted}
 use Rattle.vr_ams_define.specs.declared.answer.Counted.TheVariants.{Done, Fault}
 
--- Clusters are counted. An alternate index and a path have no records of their own to count: the
--- volumes of today have neither.
+-- Clusters are counted. An alternate index that isn't built and a path have no records of their own
+-- to count, and one that is built isn't served yet.
 abbrev pub is_counted : EntryKind → Bool
 is_counted Cluster = true
 is_counted Alternate = false

@@ -2,7 +2,7 @@
 -- and SET after Access Method Services Commands. That a SET to 16 leaves the later steps is this
 -- project's own.
 use Rattle.std.specs.Prelude.{◌≡◌, ℕ, Bool, true, false, not, ◌&&◌, List, []}
-use Rattle.std.specs.Prelude.{◌∷◌, ◌++◌, codes, is_some, map, slice_get, Option, Some, None}
+use Rattle.std.specs.Prelude.{◌∷◌, ◌++◌, codes, map, slice_get, Option, Some, None}
 use Rattle.vr_types.specs.declared.geometry.Geometry.{Geometry}
 use Rattle.vr_amsparse.specs.declared.command.Branch.{Branch}
 use Rattle.vr_amsparse.specs.declared.command.Branch.TheVariants.{Then, Else}
@@ -22,11 +22,14 @@ use Rattle.vr_trace.specs.declared.command.Outcome.{Outcome}
 use Rattle.vr_trace.specs.declared.report.StepReport.{StepReport}
 use Rattle.vr_ams_list.specs.Outcomes.{listed}
 use Rattle.vr_catalog.specs.declared.order.Alter.{Alter}
+use Rattle.vr_catalog.specs.declared.order.NewEntry.{NewEntry}
+use Rattle.vr_catalog.specs.declared.order.NewEntry.TheVariants.{Cluster, Alternate, Path}
 use Rattle.vr_ams_define.specs.Altered.{IsAlteredBy}
 use Rattle.vr_ams_define.specs.Answers.{Answering}
 use Rattle.vr_ams_define.specs.Deleted.{IsDeletedBy}
 use Rattle.vr_ams_define.specs.Outcomes.{IsDefined}
-use Rattle.vr_ams_define.specs.Runs.{is_plain_cluster}
+use Rattle.vr_ams_define.specs.Over.{IsDefinedOver}
+use Rattle.vr_ams_define.specs.Runs.{is_run as is_entry_run}
 use Rattle.vr_ams_print.specs.Outcomes.{IsPrintedBy, IsVerifiedBy}
 use Rattle.vr_ams_run.specs.declared.going.Going.{Going}
 use Rattle.vr_ams_run.specs.ListedAll.{IsListedAll}
@@ -34,8 +37,8 @@ use Rattle.vr_ams_run.specs.Codes.{no_codes, holds, with_code, set_by, ends}
 
 -- the commands that are run yet
 abbrev pub is_run : Command → Bool
-is_run (commands.Define command) = is_plain_cluster command.order.what
-is_run (commands.Alter order) = not (is_some order.new_name)
+is_run (commands.Define command) = is_entry_run command.order.what
+is_run (commands.Alter order) = true
 is_run (commands.Delete command) = true
 is_run (commands.Repro command) = false
 is_run (commands.BuildIndex command) = false
@@ -148,12 +151,26 @@ pub record IsDefinedAs {V : Type 0} (shown : V → Shown) (geometry : V → Geom
       new.volumes outcome
   pub going : new.going ≡ ended line (codes "DEFINE CLUSTER") outcome old.going
 
--- DEFINE; what isn't run yet is passed over
-abbrev pub DefineRun : {V : Type 0} → (V → Shown) → (V → Geometry) → Answering V → Bool → ℕ
+-- DEFINE of an alternate index or a path, which has this name in the report, came to an outcome
+pub record IsOverAs {V : Type 0} (shown : V → Shown) (geometry : V → Geometry)
+    (answers : Answering V) (name : List ℕ) (line : ℕ) (command : DefineCommand)
+    (old new : Stage V) : Type 0 where
+  pub outcome : Outcome
+  pub defined : IsDefinedOver shown geometry answers line command.order command.volume old.volumes
+      new.volumes outcome
+  pub going : new.going ≡ ended line name outcome old.going
+
+-- DEFINE; a spanned cluster, which isn't run yet, is passed over
+abbrev pub DefineRun : {V : Type 0} → (V → Shown) → (V → Geometry) → Answering V → NewEntry → ℕ
     → DefineCommand → Stage V → Stage V → Type 0
-DefineRun shown geometry answers true line command old new =
+DefineRun shown geometry answers (Cluster kind false options) line command old new =
     IsDefinedAs shown geometry answers line command old new
-DefineRun shown geometry answers false line command old new = IsQuiet (passed old.going) old new
+DefineRun shown geometry answers (Cluster kind true options) line command old new =
+    IsQuiet (passed old.going) old new
+DefineRun shown geometry answers (Alternate related unique options) line command old new =
+    IsOverAs shown geometry answers (codes "DEFINE ALTERNATEINDEX") line command old new
+DefineRun shown geometry answers (Path related) line command old new =
+    IsOverAs shown geometry answers (codes "DEFINE PATH") line command old new
 
 -- LISTCAT ALL came to an outcome
 pub record IsListedAs {V : Type 0} (shown : V → Shown) (answers : Answering V) (line : ℕ)
@@ -176,12 +193,6 @@ pub record IsAlteredAs {V : Type 0} (shown : V → Shown) (answers : Answering V
   pub outcome : Outcome
   pub altered : IsAlteredBy shown answers line order old.volumes new.volumes outcome
   pub going : new.going ≡ ended line (codes "ALTER") outcome old.going
-
--- ALTER; with NEWNAME, which isn't run yet, it is passed over
-abbrev pub AlterRun : {V : Type 0} → (V → Shown) → Answering V → Bool → ℕ → Alter → Stage V → Stage V
-    → Type 0
-AlterRun shown answers true line order old new = IsAlteredAs shown answers line order old new
-AlterRun shown answers false line order old new = IsQuiet (passed old.going) old new
 
 -- DELETE came to an outcome
 pub record IsDeletedAs {V : Type 0} (shown : V → Shown) (answers : Answering V) (line : ℕ)
@@ -214,11 +225,11 @@ QuietRun shown line command old new =
 abbrev pub CommandRun : {V : Type 0} → (V → Shown) → (V → Geometry) → Answering V → ℕ → Command
     → Stage V → Stage V → Type 0
 CommandRun shown geometry answers line (commands.Define command) old new =
-    DefineRun shown geometry answers (is_plain_cluster command.order.what) line command old new
+    DefineRun shown geometry answers command.order.what line command old new
 CommandRun shown geometry answers line (commands.ListCatalog command) old new =
     ListRun shown answers command.all line command old new
 CommandRun shown geometry answers line (commands.Alter order) old new =
-    AlterRun shown answers (not (is_some order.new_name)) line order old new
+    IsAlteredAs shown answers line order old new
 CommandRun shown geometry answers line (commands.Delete command) old new =
     IsDeletedAs shown answers line command old new
 CommandRun shown geometry answers line (commands.Print command) old new =

@@ -1,6 +1,6 @@
 //! The commands of a step of IDCAMS over the volumes of a job, after Access Method Services
-//! Commands: DEFINE of a cluster, ALTER without NEWNAME, DELETE, PRINT, LISTCAT with NAME and with
-//! ALL, VERIFY, and the modal commands IF and SET. It stands on vr_amsparse for the commands of a
+//! Commands: DEFINE but of a spanned cluster, ALTER, DELETE, PRINT, LISTCAT with NAME and with ALL,
+//! VERIFY, and the modal commands IF and SET. It stands on vr_amsparse for the commands of a
 //! text, on vr_catalog for orders, on vr_ams_define, vr_ams_list and vr_ams_print for what each
 //! does, and on vr_trace for what a step leaves for the listing; of a volume it asks for the trait
 //! `OwnedVolume` alone. It promises that the report of a step is by the byte that of the

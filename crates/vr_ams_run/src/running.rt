@@ -1,5 +1,5 @@
 //! The commands of a step.
-ghost use Rattle.std.specs.Prelude.{◌≡◌, ◌∷◌, [], is_some, map, not, IfOk, OnOk};
+ghost use Rattle.std.specs.Prelude.{◌≡◌, ◌∷◌, [], true, IfOk, OnOk};
 ghost use Rattle.vr_ams_define.specs.Grown.{AreRunOn};
 ghost use Rattle.vr_ams_define.specs.Runs.{is_plain_cluster as is_plain};
 ghost use Rattle.vr_ams_run.specs.Running as stated;
@@ -7,11 +7,13 @@ ghost use Rattle.vr_ams_run.specs.Running as stated;
 use crate::going::Going;
 use crate::listed_all::list_all;
 use std::alloc::Global;
-use vr_ams_define::{OwnedVolume, alter_entry, define_cluster, delete_entries, is_plain_cluster};
+use vr_ams_define::{
+    OwnedVolume, alter_entry, define_cluster, define_over, delete_entries, is_run as is_entry_run,
+};
 use vr_ams_list::list_entries;
 use vr_ams_print::{print_records, verify_cluster};
 use vr_amsparse::{Command, DefineCommand, DeleteCommand, ListCommand, Node, PrintCommand};
-use vr_catalog::Alter;
+use vr_catalog::{Alter, NewEntry};
 use vr_trace::{RunNo, StepReport};
 use vr_types::Name;
 
@@ -21,9 +23,8 @@ pub fn is_run(command: &Command) -> bool
 {
     match command {
         Command::Delete(_) | Command::ListCatalog(_) | Command::If(_) | Command::Set(_) => true,
-        Command::Print(_) | Command::Verify(_) => true,
-        Command::Define(define) => is_plain_cluster(&define.order.what),
-        Command::Alter(order) => order.new_name.is_none(),
+        Command::Print(_) | Command::Verify(_) | Command::Alter(_) => true,
+        Command::Define(define) => is_entry_run(&define.order.what),
         Command::Repro(_) | Command::BuildIndex(_) | Command::Examine(_) => false,
     }
 }
@@ -50,7 +51,43 @@ fn run_list<V: OwnedVolume>(
     Ok(going.end(alloc, line, b"LISTCAT", &outcome)?)
 }
 
-/// DEFINE. Only of a cluster that isn't spanned is it run yet.
+/// DEFINE of a cluster that isn't spanned.
+fn run_cluster<V: OwnedVolume>(
+    alloc: Global,
+    volumes: &mut [V],
+    line: u32,
+    command: &DefineCommand,
+    going: &mut Going,
+) -> Result<(), RunNo>
+    requires plain { is_plain command.now.order.what ≡ true }
+    ensures ran { OnOk result (stated.IsDefinedAs V.shown V.geometry V.answers line command.now
+        (record { volumes = volumes.old; going = going.old })
+        (record { volumes = volumes.new; going = going.new })) }
+    ensures grew { AreRunOn V.history V.goes (line ∷ []) volumes.old volumes.new }
+{
+    let outcome = define_cluster(alloc, volumes, line, &command.order, &command.volume)?;
+    Ok(going.end(alloc, line, b"DEFINE CLUSTER", &outcome)?)
+}
+
+/// DEFINE of an alternate index or a path, which has this name in the report.
+fn run_over<V: OwnedVolume>(
+    alloc: Global,
+    volumes: &mut [V],
+    line: u32,
+    command: &DefineCommand,
+    name: &[u8],
+    going: &mut Going,
+) -> Result<(), RunNo>
+    ensures ran { OnOk result (stated.IsOverAs V.shown V.geometry V.answers name.now line
+        command.now (record { volumes = volumes.old; going = going.old })
+        (record { volumes = volumes.new; going = going.new })) }
+    ensures grew { AreRunOn V.history V.goes (line ∷ []) volumes.old volumes.new }
+{
+    let outcome = define_over(alloc, volumes, line, &command.order, &command.volume)?;
+    Ok(going.end(alloc, line, name, &outcome)?)
+}
+
+/// DEFINE. Of a spanned cluster it isn't run yet.
 fn run_define<V: OwnedVolume>(
     alloc: Global,
     volumes: &mut [V],
@@ -59,19 +96,25 @@ fn run_define<V: OwnedVolume>(
     going: &mut Going,
 ) -> Result<(), RunNo>
     ensures ran { OnOk result (stated.DefineRun V.shown V.geometry V.answers
-        (is_plain command.now.order.what) line command.now
+        command.now.order.what line command.now
         (record { volumes = volumes.old; going = going.old })
         (record { volumes = volumes.new; going = going.new })) }
     ensures grew { AreRunOn V.history V.goes (line ∷ []) volumes.old volumes.new }
 {
-    if !is_plain_cluster(&command.order.what) {
-        return Ok(going.pass()?);
+    match &command.order.what {
+        NewEntry::Cluster { spanned: true, .. } => Ok(going.pass()?),
+        NewEntry::Cluster { spanned: false, .. } => {
+            run_cluster(alloc, volumes, line, command, going)
+        }
+        NewEntry::Alternate { .. } => {
+            let name = b"DEFINE ALTERNATEINDEX";
+            run_over(alloc, volumes, line, command, name, going)
+        }
+        NewEntry::Path { .. } => { run_over(alloc, volumes, line, command, b"DEFINE PATH", going) }
     }
-    let outcome = define_cluster(alloc, volumes, line, &command.order, &command.volume)?;
-    Ok(going.end(alloc, line, b"DEFINE CLUSTER", &outcome)?)
 }
 
-/// ALTER. With NEWNAME it isn't run yet.
+/// ALTER.
 fn run_alter<V: OwnedVolume>(
     alloc: Global,
     volumes: &mut [V],
@@ -79,15 +122,11 @@ fn run_alter<V: OwnedVolume>(
     order: &Alter,
     going: &mut Going,
 ) -> Result<(), RunNo>
-    ensures ran { OnOk result (stated.AlterRun V.shown V.answers
-        (not (is_some order.now.new_name)) line order.now
+    ensures ran { OnOk result (stated.IsAlteredAs V.shown V.answers line order.now
         (record { volumes = volumes.old; going = going.old })
         (record { volumes = volumes.new; going = going.new })) }
     ensures grew { AreRunOn V.history V.goes (line ∷ []) volumes.old volumes.new }
 {
-    if order.new_name.is_some() {
-        return Ok(going.pass()?);
-    }
     let outcome = alter_entry(alloc, volumes, line, order)?;
     Ok(going.end(alloc, line, b"ALTER", &outcome)?)
 }
@@ -209,8 +248,8 @@ fn run_all<V: OwnedVolume>(
 }
 
 /// Runs the commands of a step over the volumes, volume 0 first, in order, and gives the report of
-/// the step: DEFINE of a cluster, ALTER of FREESPACE and SHAREOPTIONS, DELETE, PRINT, LISTCAT,
-/// VERIFY, IF and SET, after Access Method Services Commands. Each runs over the volumes as those
+/// the step: DEFINE but of a spanned cluster, ALTER, DELETE, PRINT, LISTCAT, VERIFY, IF and SET,
+/// after Access Method Services Commands. Each runs over the volumes as those
 /// before it left them. A command for which `is_run` is false does nothing. Where stamps or memory
 /// run out there is no report, and the volumes are as the commands so far left them.
 pub fn run_commands<V: OwnedVolume>(

@@ -38,7 +38,7 @@ use Rattle.vr_history.specs.Step.{stand_refused, stands_after, stands_in}
 use Rattle.vr_answer.specs.After.{IsChanged, IsMade, change_at, let_go, logging_at, read_leaves}
 use Rattle.vr_answer.specs.After.{stands_as, stands_nowhere}
 use Rattle.vr_answer.specs.Least.{found_at}
-use Rattle.vr_answer.specs.Scope.{HasClustersAlone}
+use Rattle.vr_answer.specs.Scope.{HasNoneBuilt}
 use Rattle.vr_answer.proofs.OpeningLemmas.{moves_none}
 use Rattle.vr_answer.proofs.PlaceLemmas.{append_none}
 
@@ -49,7 +49,7 @@ only_positions deck None state = refl
 only_positions deck (Some on) state = refl
 
 -- A change is made.
-module _ (case : Case) (place : List ℕ) (alone : HasClustersAlone case.state)
+module _ (case : Case) (place : List ℕ) (alone : HasNoneBuilt case.state)
     (at : place_changed case ≡ Some place) where
   pub names_at : change_names case ≡ record_name case place ∷ []
   names_at =
@@ -121,7 +121,7 @@ module _ (case : Case) (place : List ℕ) (alone : HasClustersAlone case.state)
 -- a request that changes
 pub after_change : (geometry : Geometry) (state : State) (unit : UnitOfRecovery)
     (request : Request) (place : List ℕ) (feedback : ℕ) (shown bytes : Option (List ℕ))
-    → HasClustersAlone state
+    → HasNoneBuilt state
     → place_changed (case_of geometry state unit request) ≡ Some place
     → IsChanged (case_of geometry state unit request) place
     (after_asked (case_of geometry state unit request) (Done feedback shown bytes))

@@ -61,7 +61,7 @@ module _ (case : CaseInHand) (state : State) (is : IsCaseOf case state) where
   feedback_of_change : change_feedback w ≡ 0
   feedback_of_change =
       ap (λ (moves : List PairMove). feedback_if (list_any (is_shared w) moves))
-      (moves_none w is.file.alone)
+      (moves_none w is.file.unbuilt)
 
   module _ (at present : Option (List ℕ)) (looked : at ≡ place_looked_at w)
       (there : present ≡ record_looked_at w) where

@@ -40,7 +40,7 @@ pub use Rattle.vr_answer.proofs.KeptLemmas.{any_left, kept_with, other_held, tak
 -- that another unit may bring back is listed where one of its before-images brings it back
 pub use Rattle.vr_answer.proofs.LeastLemmas.{comes_least, comes_named, found_least, kept_any}
 pub use Rattle.vr_answer.proofs.LeastLemmas.{listed_standing, standing_listed}
--- no alternate index stands over a part, and no pair of one moves; what a file is on; and the place
+-- where no alternate index is built, no pair of one moves; what a file is on; and the place
 -- that a direct read names
 pub use Rattle.vr_answer.proofs.OpeningLemmas.{moves_none, opened_is}
 -- where all clusters are key-sequenced, they are clusters, what a file is on is key-sequenced, and

@@ -58,7 +58,7 @@ module _ (case : CaseInHand) (state : State) (is : IsCaseOf case state) where
   logged_at place there =
       ap (λ (o : Option (List ℕ)). option_map_or (loggings_at w) o []) there
       ∙ ap (λ (moves : List PairMove). base_logging w place ∷ flat_map pair_loggings moves)
-      (moves_none w is.file.alone)
+      (moves_none w is.file.unbuilt)
 
   one_needed : (b : Bool) (logging : Logging)
       → sum (map need_for (cond (not b) (logging ∷ []) []))

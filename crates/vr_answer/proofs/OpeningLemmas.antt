@@ -1,9 +1,16 @@
--- What a file is on where the catalog has clusters alone, and where all are key-sequenced.
+-- What a file is on where no alternate index is built, and where all entries are of key-sequenced
+-- clusters.
 use Rattle.std.proofs.Common.{◌≡◌, ℕ, Bool, true, false, cond, ◌==◌, List, [], ◌∷◌, Option, Some}
 use Rattle.std.proofs.Common.{None, inl, inr, refl, sym, ap, ◌∙◌, subst, filter, find, map, ◌&&◌}
+use Rattle.std.proofs.Common.{fold}
+use Rattle.std.specs.BTreeMap.{insert_entry}
+use Rattle.std.specs.Ordering.{nat_cmp, match_ordering}
+use Rattle.std.specs.declared.cmp.Ordering.{Ordering}
+use Rattle.std.specs.declared.cmp.Ordering.TheVariants.{Less, Equal, Greater}
+use Rattle.std.specs.List.{AllByRecursion, cons_option}
 use Rattle.std.proofs.lemmas.Option.{none-some, same_Some}
 use Rattle.std.specs.List.{filter_map}
-use Rattle.std.specs.Option.{option_and_then, option_map, option_map_or, is_none}
+use Rattle.std.specs.Option.{IfSome, option_and_then, option_map, option_map_or, is_none}
 use Rattle.vr_catalog.specs.Catalog.{Alternate, alternate_from, alternate_in, alternates_over}
 use Rattle.vr_catalog.specs.Catalog.{by_part, cluster_definition, definition_in as stated_in}
 use Rattle.vr_catalog.specs.Catalog.{definition_of}
@@ -27,45 +34,102 @@ use Rattle.vr_answer.specs.declared.case.Case.{Case as CaseInHand}
 use Rattle.vr_answer.specs.InHand.{IsFileOf, whole}
 use Rattle.vr_answer.specs.Opening.{as_opened, definition_here, reached}
 use Rattle.vr_answer.specs.Numbered.{AreNumbersOf, IsNumbered, kind_of}
-use Rattle.vr_answer.specs.Scope.{AreClusters, AreKeyedClusters, HasClustersAlone, HasKeyedAlone}
-use Rattle.vr_answer.specs.Scope.{IsCluster, IsKeyedCluster}
+use Rattle.vr_answer.specs.Scope.{AreUnbuilt, AreKeyedClusters, HasNoneBuilt, HasKeyedAlone}
+use Rattle.vr_answer.specs.Scope.{IsKeyedCluster, IsUnbuilt}
 
--- an entry of a cluster is no alternate index
+-- a choice between equals
 if_same : {A : Type 0} (b : Bool) (x : A) → cond b x x ≡ x
 if_same true x = refl
 if_same false x = refl
 
-no_alternate : (base : ℕ) (entry : CatEntry) → IsCluster entry
-    → alternate_in base entry ≡ None
-no_alternate base entry is =
-    ap (λ (kind : EntryKind). cond (is_over entry.related base) (alternate_from kind entry) None)
-    is
-    ∙ if_same (is_over entry.related base) None
+-- an entry that isn't of a built alternate index gives none that is built
+abbrev IsNotBuilt : Alternate → Type 0
+IsNotBuilt alternate = alternate.built ≡ false
 
-none_listed : (base : ℕ) (entries : List CatEntry) → AreClusters entries
-    → filter_map (alternate_in base) entries ≡ []
-none_listed base [] are = refl
-none_listed base (entry ∷ entries) are =
-    rw (no_alternate base entry are.0) (none_listed base entries are.1)
+from_unbuilt : (kind : EntryKind) (entry : CatEntry)
+    → (kind ≡ EntryKinds.Alternate → entry.built ≡ false)
+    → IfSome (alternate_from kind entry) IsNotBuilt
+from_unbuilt EntryKinds.Cluster entry is = tt
+from_unbuilt EntryKinds.Alternate entry is = is refl
+from_unbuilt EntryKinds.Path entry is = tt
 
--- no alternate index stands over any part
-pub alternates_none : (entries : List CatEntry) (base : ℕ) → AreClusters entries
-    → alternates_over entries base ≡ []
-alternates_none entries base are =
-    ap (λ (l : List Alternate). map (λ (pair : ℕ × Alternate). pair.1) (by_part l))
-    (none_listed base entries are)
+if_over : (b : Bool) (o : Option Alternate) → IfSome o IsNotBuilt → IfSome (cond b o None) IsNotBuilt
+if_over true o is = is
+if_over false o is = tt
 
-pub built_none : (state : State) (base : ℕ) → HasClustersAlone state → built_over state base ≡ []
-built_none state base alone =
-    ap (λ (l : List Alternate). filter (λ alternate. alternate.built) l)
-    (alternates_none (catalog_of state) base alone)
+one_more : (o : Option Alternate) (alternates : List Alternate) → IfSome o IsNotBuilt
+    → AllByRecursion IsNotBuilt alternates → AllByRecursion IsNotBuilt (cons_option o alternates)
+one_more None alternates is are = are
+one_more (Some alternate) alternates is are = (is, are)
 
--- key-sequenced clusters are clusters
-pub keyed_are : (entries : List CatEntry) → AreKeyedClusters entries → AreClusters entries
+all_unbuilt : (base : ℕ) (entries : List CatEntry) → AreUnbuilt entries
+    → AllByRecursion IsNotBuilt (filter_map (alternate_in base) entries)
+all_unbuilt base [] are = tt
+all_unbuilt base (entry ∷ entries) are =
+    one_more (alternate_in base entry) (filter_map (alternate_in base) entries)
+    (if_over (is_over entry.related base) (alternate_from entry.entry_kind entry)
+    (from_unbuilt entry.entry_kind entry are.0)) (all_unbuilt base entries are.1)
+
+-- nor do they in the order of their part numbers
+abbrev AreNotBuilt : List (ℕ × Alternate) → Type 0
+AreNotBuilt pairs = AllByRecursion (λ (pair : ℕ × Alternate). IsNotBuilt pair.1) pairs
+
+put_by_order : (order : Ordering) (pairs : List (ℕ × Alternate)) (pair : ℕ × Alternate)
+    (alternate : Alternate) (further : List (ℕ × Alternate)) → AreNotBuilt (pair ∷ pairs)
+    → IsNotBuilt alternate → AreNotBuilt further
+    → AreNotBuilt (match_ordering order ((alternate.part, alternate) ∷ pair ∷ pairs)
+    ((pair.0, alternate) ∷ pairs) (pair ∷ further))
+put_by_order Less pairs pair alternate further are is more = (is, are)
+put_by_order Equal pairs pair alternate further are is more = (is, are.1)
+put_by_order Greater pairs pair alternate further are is more = (are.0, more)
+
+put_unbuilt : (pairs : List (ℕ × Alternate)) (alternate : Alternate) → AreNotBuilt pairs
+    → IsNotBuilt alternate → AreNotBuilt (insert_entry nat_cmp pairs alternate.part alternate)
+put_unbuilt [] alternate are is = (is, tt)
+put_unbuilt (pair ∷ pairs) alternate are is =
+    put_by_order (nat_cmp alternate.part pair.0) pairs pair alternate
+    (insert_entry nat_cmp pairs alternate.part alternate) are is
+    (put_unbuilt pairs alternate are.1 is)
+
+sorted_unbuilt : (pairs : List (ℕ × Alternate)) (alternates : List Alternate) → AreNotBuilt pairs
+    → AllByRecursion IsNotBuilt alternates
+    → AreNotBuilt (fold (λ sorted alternate. insert_entry nat_cmp sorted alternate.part alternate)
+    pairs alternates)
+sorted_unbuilt pairs [] are none = are
+sorted_unbuilt pairs (alternate ∷ alternates) are none =
+    sorted_unbuilt (insert_entry nat_cmp pairs alternate.part alternate) alternates
+    (put_unbuilt pairs alternate are none.0) none.1
+
+none_left : (pairs : List (ℕ × Alternate)) → AreNotBuilt pairs
+    → filter (λ (alternate : Alternate). alternate.built)
+    (map (λ (pair : ℕ × Alternate). pair.1) pairs) ≡ []
+none_left [] are = refl
+none_left (pair ∷ pairs) are =
+    ap (λ (b : Bool). cond b (pair.1 ∷ filter (λ (alternate : Alternate). alternate.built)
+    (map (λ (other : ℕ × Alternate). other.1) pairs))
+    (filter (λ (alternate : Alternate). alternate.built)
+    (map (λ (other : ℕ × Alternate). other.1) pairs))) are.0
+    ∙ none_left pairs are.1
+
+-- so that none over any part is built
+pub built_none : (state : State) (base : ℕ) → HasNoneBuilt state → built_over state base ≡ []
+built_none state base unbuilt =
+    none_left (by_part (filter_map (alternate_in base) (catalog_of state)))
+    (sorted_unbuilt [] (filter_map (alternate_in base) (catalog_of state)) tt
+    (all_unbuilt base (catalog_of state) unbuilt))
+
+-- clusters are no alternate indexes
+cluster_unbuilt : (entry : CatEntry) → IsKeyedCluster entry → IsUnbuilt entry
+cluster_unbuilt entry is = λ alternate. absurd (no_alternate (sym is.0 ∙ alternate))
+  where
+    no_alternate : EntryKinds.Cluster ≡ EntryKinds.Alternate → ⊥
+    no_alternate same = cc
+
+pub keyed_are : (entries : List CatEntry) → AreKeyedClusters entries → AreUnbuilt entries
 keyed_are [] are = tt
-keyed_are (entry ∷ entries) are = (are.0.0, keyed_are entries are.1)
+keyed_are (entry ∷ entries) are = (cluster_unbuilt entry are.0, keyed_are entries are.1)
 
-pub keyed_alone : (state : State) → HasKeyedAlone state → HasClustersAlone state
+pub keyed_alone : (state : State) → HasKeyedAlone state → HasNoneBuilt state
 keyed_alone state keyed = keyed_are (catalog_of state) keyed
 
 -- each of them is key-sequenced
@@ -115,14 +179,14 @@ definition_keyed entries part definition are there = by_zero (part == 0) there
         definition there
 
 -- a file reaches what the record file says that it is on
-module _ (state : State) (alone : HasClustersAlone state) (file : FileRef) where
+module _ (state : State) (unbuilt : HasNoneBuilt state) (file : FileRef) where
   by_no_path : (path : Option PartNo) (definition : Definition)
       → by_name state file.base.0 path definition ≡ as_opened (cond (is_none path) (Some definition)
       None)
   by_no_path None definition = refl
   by_no_path (Some path) definition = ap
       (λ (l : List Alternate). by_path definition (find
-      (λ alternate. alternate.part == path.0) l)) (built_none state file.base.0 alone)
+      (λ alternate. alternate.part == path.0) l)) (built_none state file.base.0 unbuilt)
 
   on_base : (o : Option Definition)
       → opened_base state file o ≡ as_opened (cond (is_none file.path) o None)
@@ -138,16 +202,16 @@ module _ (state : State) (alone : HasClustersAlone state) (file : FileRef) where
   file_reached : opened_file state file ≡ as_opened (reached (catalog_of state) file)
   file_reached = by_known file.known (definition_of (catalog_of state) file.base.0)
 
-by_file : (state : State) → HasClustersAlone state → (o : Option FileRef)
+by_file : (state : State) → HasNoneBuilt state → (o : Option FileRef)
     → option_map_or (opened_file state) o Unknown
     ≡ as_opened (option_and_then (reached (catalog_of state)) o)
-by_file state alone None = refl
-by_file state alone (Some file) = file_reached state alone file
+by_file state unbuilt None = refl
+by_file state unbuilt (Some file) = file_reached state unbuilt file
 
 pub opened_is : (case : CaseInHand) (state : State) → IsFileOf case state
     → opened (whole case state) ≡ as_opened (definition_here case)
 opened_is case state is =
-    by_file state is.alone (file_of case.request.now)
+    by_file state is.unbuilt (file_of case.request.now)
     ∙ ap
     (λ (entries : List CatEntry). as_opened (option_and_then (reached entries)
     (file_of case.request.now))) (sym is.catalog)
@@ -217,11 +281,11 @@ numbers_keyed case keyed given count = record {
 }
 
 -- no pair of an alternate index moves
-pub moves_none : (case : Case) → HasClustersAlone case.state → pair_moves case ≡ []
-moves_none case alone = by_place (place_changed case)
+pub moves_none : (case : Case) → HasNoneBuilt case.state → pair_moves case ≡ []
+moves_none case unbuilt = by_place (place_changed case)
   where
     by_place : (o : Option (List ℕ)) → option_map_or (moves_at case) o [] ≡ []
     by_place None = refl
     by_place (Some place) =
         ap (λ (l : List Alternate). filter moves_key (map (move_of case place) l))
-        (built_none case.state (base_of case) alone)
+        (built_none case.state (base_of case) unbuilt)

@@ -151,7 +151,7 @@ module _ (case : CaseInHand) (state : State) (is : IsCaseOf case state) where
   change_named o changed =
       ap (λ (moves : List PairMove). map (record_name w) (option_to_list (place_changed w))
       ++ flat_map keys_moved (filter (λ move. move.alternate.unique) moves))
-      (moves_none w is.file.alone)
+      (moves_none w is.file.unbuilt)
       ∙ append_none (map (record_name w) (option_to_list (place_changed w)))
       ∙ ap (λ (at : Option (List ℕ)). map (record_name w) (option_to_list at)) changed
       ∙ one_name o

@@ -216,7 +216,7 @@ module _ (case : CaseInHand) (state : State) (is : IsCaseOf case state) where
   duplicate_key_is =
       ap (λ (moves : List PairMove). option_map (λ move. Duplicate (record {
         0 = move.alternate.part;
-      })) (find (λ move. move.alternate.unique && is_taken w move) moves)) (moves_none w is.file.alone)
+      })) (find (λ move. move.alternate.unique && is_taken w move) moves)) (moves_none w is.file.unbuilt)
 
   abbrev areas_in : ℕ → Definition → List ℕ → List ℕ → Option ℕ
   areas_in areas d place bytes = option_map (areas_needed w.geometry.area areas)

@@ -1,4 +1,4 @@
--- What the entry of a request leaves of the state, field by field, in a catalog of clusters alone.
+-- What the entry of a request leaves of the state, field by field, where no alternate index is built.
 use Rattle.std.specs.Prelude.{◌≡◌, ℕ, ◌+◌, Bool, true, false, cond, List, [], ◌∷◌, ◌++◌}
 use Rattle.std.specs.Prelude.{option_map}
 use Rattle.vr_types.specs.Content.{Standing}

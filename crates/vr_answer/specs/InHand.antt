@@ -13,7 +13,7 @@ use Rattle.vr_answer.specs.declared.case.Looked.{Looked as LookedInHand}
 use Rattle.vr_answer.specs.Here.{stand_here}
 use Rattle.vr_answer.specs.Looked.{place_looked_at, record_looked_at}
 use Rattle.vr_answer.specs.Numbered.{AreNumbersOf}
-use Rattle.vr_answer.specs.Scope.{HasClustersAlone}
+use Rattle.vr_answer.specs.Scope.{HasNoneBuilt}
 
 -- the request as it meets the whole volume
 abbrev pub whole : CaseInHand → State → Case
@@ -35,7 +35,7 @@ pub record IsFileOf (case : CaseInHand) (state : State) : Type 0 where
   pub stand : stand_here case ≡ stand_of (whole case state)
   pub stopped : case.stopped ≡ state.stopped
   pub changing : case.catalog_changing ≡ is_catalog_changing (whole case state)
-  pub alone : HasClustersAlone state
+  pub unbuilt : HasNoneBuilt state
 
 -- All that is in memory is: the locks too, the space that is left, and what is known of a data set
 -- whose places are numbers.

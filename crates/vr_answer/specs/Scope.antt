@@ -1,10 +1,10 @@
 -- Which requests name the place that they come to, and on which volumes requests are answered here.
--- That limit is this project's own: alternate indexes and paths are not answered yet.
-use Rattle.std.specs.Prelude.{◌≡◌, List}
+-- That limit is this project's own: an alternate index that is built is not answered yet.
+use Rattle.std.specs.Prelude.{◌≡◌, List, false}
 use Rattle.std.specs.List.{AllByRecursion}
 use Rattle.vr_catalog.specs.Catalog.{definition_in}
 use Rattle.vr_catalog.specs.declared.entry.CatEntry.{CatEntry}
-use Rattle.vr_catalog.specs.declared.entry.EntryKind.TheVariants.{Cluster}
+use Rattle.vr_catalog.specs.declared.entry.EntryKind.TheVariants.{Alternate, Cluster}
 use Rattle.vr_types.specs.declared.request.Find.{Find}
 use Rattle.vr_types.specs.declared.request.Find.TheVariants.{Next, Equal, AtLeast}
 use Rattle.vr_types.specs.declared.request.Request.{Request}
@@ -31,18 +31,19 @@ IsDirect (EndReq file) = Unit {0}
 IsDirect Commit = Unit {0}
 IsDirect Backout = Unit {0}
 
--- an entry of a cluster, of any of the three kinds
-abbrev pub IsCluster : CatEntry → Type 0
-IsCluster entry = entry.entry_kind ≡ Cluster
+-- an entry that isn't of a built alternate index: of a cluster of any of the three kinds, of a path,
+-- or of an alternate index that no request changes with its base
+abbrev pub IsUnbuilt : CatEntry → Type 0
+IsUnbuilt entry = entry.entry_kind ≡ Alternate → entry.built ≡ false
 
--- the catalog has clusters alone: no alternate index and no path
-abbrev pub AreClusters : List CatEntry → Type 0
-AreClusters entries = AllByRecursion IsCluster entries
+-- the catalog has no alternate index that is built
+abbrev pub AreUnbuilt : List CatEntry → Type 0
+AreUnbuilt entries = AllByRecursion IsUnbuilt entries
 
-abbrev pub HasClustersAlone : State → Type 0
-HasClustersAlone state = AreClusters (catalog_of state)
+abbrev pub HasNoneBuilt : State → Type 0
+HasNoneBuilt state = AreUnbuilt (catalog_of state)
 
--- and all of them are key-sequenced
+-- it has clusters alone, and all of them are key-sequenced
 abbrev pub IsKeyedCluster : CatEntry → Type 0
 IsKeyedCluster entry = (entry.entry_kind ≡ Cluster) × ((definition_in entry).kind ≡ Keyed)
 

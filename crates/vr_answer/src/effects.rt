@@ -21,14 +21,14 @@ ghost use Rattle.vr_history.specs.State.{State};
 ghost use Rattle.vr_history.specs.Step.{after_asked, case_of, stand_refused};
 ghost use Rattle.vr_answer.specs.After as after;
 ghost use Rattle.vr_answer.specs.Least.{found_at};
-ghost use Rattle.vr_answer.specs.Scope.{HasClustersAlone};
+ghost use Rattle.vr_answer.specs.Scope.{HasNoneBuilt};
 
 /// A PUT or an ERASE that is done, whose place is known, changes that place alone (`IsChanged`).
 #[tactic(auto, using(crate::proofs::AfterLemmas::after_change))]
 pub fn change_leaves()
     ensures { (geometry : Geometry) (state : State) (unit : units.Unit) (request : RequestOf)
         (place : List ℕ) (feedback : ℕ) (shown bytes : Option (List ℕ))
-        → HasClustersAlone state
+        → HasNoneBuilt state
         → place_changed (case_of geometry state unit request) ≡ Some place
         → after.IsChanged (case_of geometry state unit request) place
         (after_asked (case_of geometry state unit request) (Done feedback shown bytes)) }

@@ -33,4 +33,4 @@ pub use laws::{
 pub use locking::{lock_names, mode_asked};
 pub use logging::{log_full, log_need};
 pub use places::{place_changed, place_looked_at, place_read};
-pub use scope::{has_clusters_alone, is_direct};
+pub use scope::{has_none_built, is_direct};

@@ -1,6 +1,6 @@
 //! Which requests on which catalogs are answered here.
 ghost use Rattle.std.specs.Prelude.{◌≡◌, ◌↔◌, IsTrue};
-ghost use Rattle.vr_answer.specs.Scope.{AreClusters, IsCluster, IsDirect};
+ghost use Rattle.vr_answer.specs.Scope.{AreUnbuilt, IsDirect, IsUnbuilt};
 
 use vr_catalog::{CatEntry, Catalog, EntryKind};
 use vr_types::{Find, Request};
@@ -20,29 +20,29 @@ pub fn is_direct(request: &Request) -> bool
     }
 }
 
-/// Whether an entry is of a cluster.
-fn is_cluster(entry: &CatEntry) -> bool
-    ensures { IsTrue result ↔ IsCluster entry.now }
+/// Whether an entry isn't of a built alternate index.
+fn is_unbuilt(entry: &CatEntry) -> bool
+    ensures { IsTrue result ↔ IsUnbuilt entry.now }
 {
     match entry.entry_kind {
-        EntryKind::Cluster => true,
-        EntryKind::Alternate | EntryKind::Path => false,
+        EntryKind::Alternate => !entry.built,
+        EntryKind::Cluster | EntryKind::Path => true,
     }
 }
 
-/// Whether the entries are all of clusters.
-fn are_clusters(entries: &[CatEntry]) -> bool
-    ensures { IsTrue result ↔ AreClusters entries.now }
+/// Whether none of the entries is.
+fn are_unbuilt(entries: &[CatEntry]) -> bool
+    ensures { IsTrue result ↔ AreUnbuilt entries.now }
 {
     match entries {
         [] => true,
-        [first, rest @ ..] => is_cluster(first) && are_clusters(rest),
+        [first, rest @ ..] => is_unbuilt(first) && are_unbuilt(rest),
     }
 }
 
-/// Whether a catalog has clusters alone, of any kind.
-pub fn has_clusters_alone(catalog: &Catalog) -> bool
-    ensures { IsTrue result ↔ AreClusters catalog.now }
+/// Whether a catalog has no alternate index that is built.
+pub fn has_none_built(catalog: &Catalog) -> bool
+    ensures { IsTrue result ↔ AreUnbuilt catalog.now }
 {
-    are_clusters(catalog.as_slice())
+    are_unbuilt(catalog.as_slice())
 }

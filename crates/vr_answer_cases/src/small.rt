@@ -86,7 +86,7 @@ pub enum Keeps {
 pub enum Name {
     Known,
     Unknown,
-    /// Opened by a path, which no catalog of clusters alone has.
+    /// Opened by way of an alternate index, where none is built.
     ByPath,
 }
 

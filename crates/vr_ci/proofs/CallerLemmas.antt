@@ -19,6 +19,8 @@ use Rattle.vr_ci.proofs.ReadLemmas.{rdfs_between-is}
 use Rattle.vr_ci.proofs.ItemLemmas.{records_room as records_room_of}
 pub use Rattle.vr_ci.proofs.IntervalLemmas.{one_value}
 pub use Rattle.vr_ci.proofs.LawLemmas.{one_block, some_block}
+-- the bytes of the items of an interval lie in its block
+pub use Rattle.vr_ci.proofs.OverLemmas.{items_within}
 
 -- the room of records one after another is the sum of theirs
 pub room-append : (items more : List Item) → room (items ++ more) ≡ room items + room more

@@ -164,7 +164,7 @@ same_value v w shape_is items_is busy_is =
     x) ≡ (let y : Interval = record { shape = w.shape; items = w.items; busy = w.busy } in
     y) = cc in given
 
-end_items : (form : Form) (size : ℕ) (s : Shape) (items : List Item) → s ≡ shapes.EndOfFile
+pub end_items : (form : Form) (size : ℕ) (s : Shape) (items : List Item) → s ≡ shapes.EndOfFile
     → FitsBlock form size s items → items ≡ []
 end_items form size s items same fitting =
     let fits_block : FitsBlock form size shapes.EndOfFile items =

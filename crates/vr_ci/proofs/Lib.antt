@@ -6,6 +6,7 @@ pub mod FoundLemmas
 pub mod IntervalLemmas
 pub mod LawLemmas
 pub mod LendLemmas
+pub mod OverLemmas
 pub mod PlaceLemmas
 pub mod ReadLemmas
 pub mod ShownLemmas

@@ -12,3 +12,4 @@ pub mod FirstFault
 pub mod Found
 pub mod Walk
 pub mod Writer
+pub mod Over

@@ -44,7 +44,7 @@ use Rattle.vr_event.specs.DefineSteps.{HasCome, HasComeHeld, MayAdd, MayDefineNo
 use Rattle.vr_event.specs.Defining.{IsNewCluster, entry_place, entry_with_area}
 use Rattle.vr_event.specs.Defining.{file_defined, file_in_doubt, with_cluster}
 use Rattle.vr_event.specs.NewCluster.{IsPreparedFor}
-use Rattle.vr_event.specs.Volume.{AreServedClusters, IsHeld, VolumeNow}
+use Rattle.vr_event.specs.Volume.{AreServed, IsHeld, VolumeNow}
 use Rattle.vr_event.specs.declared.define.Define.{Define}
 use Rattle.vr_event.specs.declared.define.Define.TheVariants.{Done, Fault}
 use Rattle.vr_event.specs.declared.new_cluster.NewCluster.{NewCluster}
@@ -142,7 +142,7 @@ module _ {B : Type 0} (seen : B → Seen) (after line : ℕ) (entry : CatEntry) 
     ap area_count (may.whole.geometry may.going),
   )
 
-  served-after : AreServedClusters old.file.geometry (with_cluster one old.file.catalog)
+  served-after : AreServed old.file.geometry (with_cluster one old.file.catalog)
   served-after = served-with seen old may.whole may.going entry is new.area least
 
   pub added-come : (define : Define) (final : VolumeNow B)

@@ -18,7 +18,7 @@ use Rattle.vr_history.specs.declared.entry.What.TheVariants.{Faulted}
 use Rattle.vr_history.proofs.CallerLemmas.{state_of-append}
 use Rattle.vr_record_file.specs.Now.{FileNow, IsStateOf, entry_next, faulted, state_now}
 use Rattle.vr_store.specs.Store.{PartNow, part_among, shape_among}
-use Rattle.vr_event.specs.Volume.{AreServedClusters, IsFileHeld, IsHeld, IsWhole, VolumeNow}
+use Rattle.vr_event.specs.Volume.{AreServed, IsFileHeld, IsHeld, IsWhole, VolumeNow}
 use Rattle.vr_event.proofs.Areas.{owned-same}
 use Rattle.vr_event.proofs.Served.{served_same}
 use Rattle.vr_event.proofs.Wholes.{whole-stopped}
@@ -80,7 +80,7 @@ held-faulted seen opening volume to after unit line leaves known file =
 pub whole-faulted : {B : Type 0} (seen : B → Seen) (volume : VolumeNow B) (to : FileNow)
     (after : ℕ) (unit : UnitOfRecovery) (line : ℕ)
     → to ≡ faulted after unit line volume.file
-    → AreServedClusters volume.file.geometry volume.file.catalog
+    → AreServed volume.file.geometry volume.file.catalog
     → IsWhole seen (record volume { file = to })
 whole-faulted seen volume to after unit line leaves served =
     whole-stopped seen (record volume { file = to })

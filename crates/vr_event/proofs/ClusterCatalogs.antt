@@ -10,7 +10,7 @@ use Rattle.std.specs.Ordering.{is_lt}
 use Rattle.std.specs.declared.cmp.Ordering.{Ordering}
 use Rattle.std.specs.declared.cmp.Ordering.TheVariants.{Less, Equal, Greater}
 use Rattle.std.proofs.lemmas.Bool.Decides.{nat_tests}
-use Rattle.std.proofs.lemmas.List.Elements.{All-from_recursion, All-head, All-tail}
+use Rattle.std.proofs.lemmas.List.Elements.{All-from_recursion}
 use Rattle.std.proofs.lemmas.Option.{none-some}
 use Rattle.std.proofs.lemmas.Slice.Eq.{bytes_eq-Decides}
 use Rattle.vr_types.specs.Content.{Content, Item, Placed, Standing, Withdrawn, found_by, item_at}
@@ -18,16 +18,14 @@ use Rattle.vr_types.specs.Content.{place_cmp, put_by, record_of, records_of, wit
 use Rattle.vr_altkey.proofs.CallerLemmas.{item_first}
 use Rattle.vr_altkey.proofs.Items.{place_apart}
 use Rattle.vr_types.specs.declared.geometry.Geometry.{Geometry}
-use Rattle.vr_attach.specs.CatalogRules.{IsCatalog, IsEntryOf, has_sizes_by}
-use Rattle.vr_attach.specs.CatalogRules.{is_over_by}
-use Rattle.vr_attach.specs.CatalogRules.{related_in}
+use Rattle.vr_attach.specs.CatalogRules.{IsCatalog, IsEntryOf}
 use Rattle.vr_attach.specs.Laid.{catalog_shape, shape_in, shape_of}
 use Rattle.vr_catalog.specs.Catalog.{entries_in, entry_named, entry_with_part, parts_in}
 use Rattle.vr_catalog.specs.Entry.{is_entry}
 use Rattle.vr_catalog.specs.Record.{entry_of, spelling}
 use Rattle.vr_catalog.specs.declared.entry.CatEntry.{CatEntry}
-use Rattle.vr_catalog.specs.declared.entry.EntryKind.{EntryKind}
-use Rattle.vr_catalog.specs.declared.entry.EntryKind.TheVariants.{Cluster}
+use Rattle.vr_edits.specs.Edits.{IsInOrder}
+use Rattle.vr_edits.proofs.CallerLemmas.{added-order}
 use Rattle.vr_space.specs.Part.{Shape}
 use Rattle.vr_event.specs.Defining.{entry_place, with_cluster}
 use Rattle.vr_event.proofs.ClusterRecords.{IsNamed, one-name, record-spells}
@@ -217,71 +215,30 @@ named-with new is (placed ∷ content) named =
     by-order Equal rest = (named-new new is, named.1)
     by-order Greater rest = (named.0, rest)
 
--- an entry of clusters alone keeps its rules whatever the others are
-pub entry-alone : (geometry : Geometry) (entries others : List CatEntry) (entry : CatEntry)
-    → entry.entry_kind ≡ Cluster → IsEntryOf geometry entries entry
-    → IsEntryOf geometry others entry
-entry-alone geometry entries others entry kind is = record {
-  over = subst (λ (k : EntryKind). IsTrue (is_over_by k entry (related_in others entry)))
-      (sym kind)
-      (subst (λ (k : EntryKind). IsTrue (is_over_by k entry (related_in entries entry))) kind
-      is.over);
-  area = is.area;
-  sizes = subst (λ (k : EntryKind). IsTrue (has_sizes_by k geometry entry
-      (related_in others entry))) (sym kind)
-      (subst (λ (k : EntryKind). IsTrue (has_sizes_by k geometry entry
-      (related_in entries entry))) kind is.sizes);
-}
-
-pub each-alone : (geometry : Geometry) (entries others these : List CatEntry)
-    → AllByRecursion (λ (entry : CatEntry). entry.entry_kind ≡ Cluster) these
-    → AllByRecursion (IsEntryOf geometry entries) these
-    → AllByRecursion (IsEntryOf geometry others) these
-each-alone geometry entries others [] kinds all = tt
-each-alone geometry entries others (entry ∷ these) kinds all = (
-  entry-alone geometry entries others entry kinds.0 all.0,
-  each-alone geometry entries others these kinds.1 all.1,
-)
-
 -- so the catalog with the record is one, too
 pub catalog-with : (geometry : Geometry) (new : CatEntry) → IsTrue (is_entry new)
     → ((entries : List CatEntry) → IsEntryOf geometry entries new) → (new.part.0 ≡ 0 → ⊥)
     → (content : Content) → AllByRecursion IsNamed content
     → item_at content (entry_place new) ≡ None
     → entry_with_part (entries_in content) new.part.0 ≡ None
-    → AllByRecursion (λ (entry : CatEntry). entry.entry_kind ≡ Cluster) (entries_in content)
     → IsCatalog geometry content
     → IsCatalog geometry (with_item content (entry_place new) (Standing (spelling new)))
-unfolding IsDistinct
-catalog-with geometry new is entry some content named absent fresh clusters catalog =
+catalog-with geometry new is entry some content named absent fresh catalog =
     let after = with_item content (entry_place new) (Standing (spelling new)) in
     let entries = entries_in content in
     let same = entries-with new is content named absent in
-    let apart = other-parts new.part.0 entries fresh in
+    let order : IsInOrder geometry entries =
+    record { parts = catalog.parts; each = catalog.entries } in
+    let kept = added-order geometry entries new some fresh (entry entries) order in
     record {
       spelled = All-from_recursion (λ (placed : List ℕ × List ℕ).
           IsTrue (is_some (entry_of placed.1))) (records_of after)
           (spelled-named after (named-with new is content named));
-      parts = subst (λ (them : List CatEntry). IsDistinct nat_eq (0 ∷ parts_in them)) (sym same) (
-        parts-apart 0 (with_cluster new entries)
-            (all-with (IsApart 0) new entries (ne_eqb 0 new.part.0 (λ zero. some (sym zero)))
-            (apart-parts 0 entries catalog.parts.0)),
-        distinct-with new entries apart catalog.parts.1,
-      );
+      parts = subst (λ (them : List CatEntry). IsDistinct nat_eq (0 ∷ parts_in them)) (sym same)
+          kept.parts;
       entries = subst (λ (them : List CatEntry). All (IsEntryOf geometry them) them) (sym same)
-          (All-from_recursion (IsEntryOf geometry (with_cluster new entries))
-          (with_cluster new entries)
-          (all-with (IsEntryOf geometry (with_cluster new entries)) new entries
-          (entry (with_cluster new entries))
-          (each-alone geometry entries (with_cluster new entries) entries clusters
-          (all-recursion (IsEntryOf geometry entries) entries catalog.entries))));
+          kept.each;
     }
-  where
-    all-recursion : (P : CatEntry → Type 0) (entries : List CatEntry) → All P entries
-        → AllByRecursion P entries
-    all-recursion P [] all = tt
-    all-recursion P (entry ∷ entries) all =
-        (All-head P entry entries all, all-recursion P entries (All-tail P entry entries all))
 
 -- ---- the parts that it lays
 

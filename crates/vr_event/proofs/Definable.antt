@@ -31,13 +31,14 @@ use Rattle.vr_catalog.specs.Definition.{catalog_definition, is_valid_length}
 use Rattle.vr_catalog.specs.Entry.{is_entry}
 use Rattle.vr_catalog.specs.Record.{spelling}
 use Rattle.vr_catalog.specs.declared.entry.CatEntry.{CatEntry}
+use Rattle.vr_catalog.specs.declared.entry.EntryKind.TheVariants.{Alternate, Cluster}
 use Rattle.vr_catalog.proofs.RecordLemmas.{length-spelling}
 use Rattle.vr_space.specs.Part.{owned_count}
 use Rattle.vr_log.specs.Live.{is_in, live_in, used_by}
 use Rattle.vr_log.specs.LogNow.{LogNow, with_record}
 use Rattle.vr_log.specs.declared.record.EndKind.TheVariants.{Committed}
 use Rattle.vr_log.specs.declared.record.LogRecord.{LogRecord}
-use Rattle.vr_answer.specs.Scope.{AreClusters, IsCluster}
+use Rattle.vr_answer.specs.Scope.{AreUnbuilt, IsUnbuilt}
 use Rattle.vr_history.specs.Effects.{used_after}
 use Rattle.vr_history.specs.Merged.{last_stamp}
 use Rattle.vr_history.specs.State.{Logged, Owned, State}
@@ -180,7 +181,7 @@ module _ {B : Type 0} (seen : B → Seen) (opening : State) (volume : VolumeNow 
   catalog-after : IsCatalog geometry content-after
   catalog-after = catalog-with geometry new entry-is
       (area-rules geometry (entries_in content) entry cluster area) some content named absent
-      cluster.part held.file.now.alone stored.volume.laid.catalog
+      cluster.part stored.volume.laid.catalog
 
   shape-is : shape_of geometry new ≡ Some shaped.shape
   shape-is = area-shape geometry (entries_in content) entry cluster area ∙ shaped.laid
@@ -219,8 +220,12 @@ module _ {B : Type 0} (seen : B → Seen) (opening : State) (volume : VolumeNow 
     inside = shaped.inside;
   }
 
-  clusters-after : AreClusters (with_cluster new volume.file.catalog)
-  clusters-after = all-with IsCluster new volume.file.catalog is.cluster
+  apart : Cluster ≡ Alternate → ⊥
+  apart same = cc
+
+  unbuilt-after : AreUnbuilt (with_cluster new volume.file.catalog)
+  unbuilt-after = all-with IsUnbuilt new volume.file.catalog
+      (λ alternate. absurd (apart (sym is.cluster ∙ alternate)))
       (served_are volume.file.geometry volume.file.catalog whole.served)
 
   -- the part is laid then
@@ -266,8 +271,8 @@ module _ {B : Type 0} (seen : B → Seen) (opening : State) (volume : VolumeNow 
         ≤ log_size volume.file.geometry) stored.volume.logged.used room;
     catalog_is = entries-after
         ∙ ap (with_cluster new) (sym held.file.now.catalog);
-    clusters = clusters-after;
-    laid = part-laid geometry entry.part.0 (with_cluster new volume.file.catalog) clusters-after
+    unbuilt = unbuilt-after;
+    laid = part-laid geometry entry.part.0 (with_cluster new volume.file.catalog)
         (λ none. none-some shaped.shape (sym none ∙ shape-after));
     empty = λ other none. stored.volume.laid.others other
         (ap (λ (entries : List CatEntry). shape_in geometry entries other)

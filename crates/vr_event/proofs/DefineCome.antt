@@ -30,7 +30,7 @@ use Rattle.vr_event.specs.DefineSteps.{HasCome, HasComeHeld, IsLater}
 use Rattle.vr_event.specs.Defining.{EnteredBy, IsDefineEntered, IsLeftDefining}
 use Rattle.vr_event.specs.Defining.{entry_place, entry_with_area, file_defined}
 use Rattle.vr_event.specs.Defining.{file_in_doubt, with_cluster}
-use Rattle.vr_event.specs.Volume.{AreServedClusters, IsHeld, IsWhole, VolumeNow}
+use Rattle.vr_event.specs.Volume.{AreServed, IsHeld, IsWhole, VolumeNow}
 use Rattle.vr_event.specs.declared.define.Define.{Define}
 use Rattle.vr_event.specs.declared.define.Define.TheVariants.{Done, Fault, Full, Held, NoArea}
 use Rattle.vr_event.proofs.Served.{served_same}
@@ -242,7 +242,7 @@ module _ {B : Type 0} (seen : B → Seen) (after : ℕ) (unit : UnitOfRecovery) 
 
   pub come-failed : (define : Define) (old final : VolumeNow B) → define ≡ Fault Write
       → EnteredBy (Fault Write) old.number after unit line entry old.file final.file
-      → final.number ≡ old.number → AreServedClusters final.file.geometry final.file.catalog
+      → final.number ≡ old.number → AreServed final.file.geometry final.file.catalog
       → (final.file.stopped ≡ None → ⊥)
       → HasCome seen after unit line entry (Ok define) old final
   come-failed define old final fault entered number served stopped = record {
@@ -273,7 +273,7 @@ module _ {B : Type 0} (seen : B → Seen) (after : ℕ) (unit : UnitOfRecovery) 
   -- nothing of the definition was done
   pub come-faulted : (define : Define) (old final : VolumeNow B) → define ≡ Fault Write
       → final.file ≡ faulted after unit line old.file → final.number ≡ old.number
-      → AreServedClusters old.file.geometry old.file.catalog
+      → AreServed old.file.geometry old.file.catalog
       → HasCome seen after unit line entry (Ok define) old final
   come-faulted define old final fault file number served = come-failed define old final fault
       (inl file) number
@@ -286,7 +286,7 @@ module _ {B : Type 0} (seen : B → Seen) (after : ℕ) (unit : UnitOfRecovery) 
       → define ≡ Fault Write → area.0 < area_count old.file.geometry
       → final.file ≡ file_in_doubt old.number after unit line entry area old.file
       → final.number ≡ old.number
-      → AreServedClusters old.file.geometry
+      → AreServed old.file.geometry
       (with_cluster (entry_with_area entry area) old.file.catalog)
       → HasCome seen after unit line entry (Ok define) old final
   come-in-doubt define area old final fault below file number served = come-failed define old final

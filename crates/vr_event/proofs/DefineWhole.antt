@@ -12,13 +12,15 @@ use Rattle.vr_types.specs.declared.unit.AreaNo.{AreaNo}
 use Rattle.vr_attach.specs.Laid.{shape_by_kind, shape_in, shape_of}
 use Rattle.vr_catalog.specs.Catalog.{definition_in}
 use Rattle.vr_catalog.specs.declared.entry.CatEntry.{CatEntry}
+use Rattle.vr_catalog.specs.declared.entry.EntryKind.TheVariants.{Alternate, Cluster}
+use Rattle.vr_edits.specs.Edits.{IsServedEntry}
 use Rattle.vr_record_file.specs.Now.{FileNow}
 use Rattle.vr_space.specs.Part.{Shape}
 use Rattle.vr_start.specs.Startable.{IsStartable}
 use Rattle.vr_store.specs.Define.{HasNewShape}
 use Rattle.vr_store.specs.Store.{IsSet, StoreNow, part_among, shape_among}
 use Rattle.vr_event.specs.Defining.{IsNewCluster, entry_with_area, with_cluster}
-use Rattle.vr_event.specs.Volume.{AreServedClusters, IsServedCluster, IsWhole, VolumeNow}
+use Rattle.vr_event.specs.Volume.{AreServed, IsWhole, VolumeNow}
 use Rattle.vr_event.proofs.ClusterCatalogs.{all-with, other-parts, shapes-with}
 use Rattle.vr_event.proofs.MetParts.{none-shape}
 use Rattle.vr_event.proofs.NewClusters.{area-shape, area-small, area-startable, part-some}
@@ -68,13 +70,16 @@ module _ {B : Type 0} (seen : B → Seen) (volume : VolumeNow B) (whole : IsWhol
   can-start = area-startable geometry volume.file.catalog entry cluster area set.allowed
       (area-small geometry area.0 set.allowed below)
 
+  apart : Cluster ≡ Alternate → ⊥
+  apart same = cc
+
   -- the entries with its own are served
-  pub served-with : AreServedClusters volume.file.geometry (with_cluster new volume.file.catalog)
-  served-with = all-with (IsServedCluster volume.file.geometry) new volume.file.catalog
+  pub served-with : AreServed volume.file.geometry (with_cluster new volume.file.catalog)
+  served-with = all-with (IsServedEntry volume.file.geometry) new volume.file.catalog
       (record {
-        cluster = is.cluster;
-        plain = subst (λ (g : Geometry). new.maximum + 7 ≤ g.size) (whole.geometry going)
+        plain = λ cluster. subst (λ (g : Geometry). new.maximum + 7 ≤ g.size) (whole.geometry going)
             can-start.fits;
+        unbuilt = λ alternate. absurd (apart (sym is.cluster ∙ alternate));
       }) whole.served
 
   module _ (file : FileNow) (to : StoreNow) (blocks : B)

@@ -50,7 +50,7 @@ use Rattle.vr_history.proofs.CallerLemmas.{state_of-append}
 use Rattle.vr_history.specs.Step.{after_asked, after_what, case_of}
 use Rattle.vr_history.proofs.Same.{unit_same}
 use Rattle.vr_answer.specs.After.{IsChanged}
-use Rattle.vr_answer.specs.Scope.{HasClustersAlone}
+use Rattle.vr_answer.specs.Scope.{HasNoneBuilt}
 use Rattle.vr_answer.specs.Tried.{file_refusals}
 use Rattle.vr_answer.proofs.CallerLemmas.{after_change, answered_done, moves_none, names_at}
 use Rattle.vr_record_file.specs.Now.{FileNow, IsLockedIn, IsStateOf, entry_next, lets_go}
@@ -132,7 +132,7 @@ all-of : {X : Type 0} (P Q : X → Type 0) → ((x : X) → P x → Q x) → (xs
 all-of P Q f [] all = All-nil Q
 all-of P Q f (x ∷ xs) all = All-cons Q x xs (f x all.0) (all-of P Q f xs all.1)
 
-module _ (case : Case) (place : List ℕ) (old : Option (List ℕ)) (alone : HasClustersAlone case.state)
+module _ (case : Case) (place : List ℕ) (old : Option (List ℕ)) (unbuilt : HasNoneBuilt case.state)
     (at : IsReadyAt case place old) where
   change : IsChange case.request
   change = asks-change case case.request place at.place_is
@@ -144,7 +144,7 @@ module _ (case : Case) (place : List ℕ) (old : Option (List ℕ)) (alone : Has
   free : first_conflict case.state.locks case.unit Exclusive (record_name case place) ≡ None
   free = first-free _ _
       (ap (λ (names : List LockName). conflict_on case.state.locks case.unit Exclusive names)
-      (sym (names-change case case.request change ∙ names_at case place alone at.place_is))
+      (sym (names-change case case.request change ∙ names_at case place unbuilt at.place_is))
       ∙ ap (λ (mode : Mode). conflict_on case.state.locks case.unit mode
       (lock_names case case.request)) (sym (mode-change case.request change))
       ∙ unmapped held_by (conflict_in case) unheld)
@@ -216,7 +216,7 @@ module _ (case : Case) (place : List ℕ) (old : Option (List ℕ)) (alone : Has
       at.place_is
       ∙ ap (λ (moves : List PairMove).
       filter is-new (base_logging case place ∷ flat_map pair_loggings moves))
-      (moves_none case alone)
+      (moves_none case unbuilt)
 
   one-need : (b : Bool) (logging : Logging)
       → sum (map need_for (cond (not b) (logging ∷ []) [])) ≡ cond b 0 (need_for logging)
@@ -315,10 +315,10 @@ module _ {B : Type 0} (seen : B → Seen) (opening : State) (volume : VolumeNow 
   abbrev stored : IsStored volume.number volume.store state (seen volume.blocks)
   stored = is-held.stored going
 
-  clusters : HasClustersAlone state
-  clusters = is-held.file.now.alone
+  none-built : HasNoneBuilt state
+  none-built = is-held.file.now.unbuilt
 
-  known-is : known case place old clusters ready.at
+  known-is : known case place old none-built ready.at
       ≡ has_logged unit (before_of part place old) volume.store.undo
   known-is =
       ap (λ (n : ℕ). is_logged_in unit n place state.logged) base
@@ -326,13 +326,13 @@ module _ {B : Type 0} (seen : B → Seen) (opening : State) (volume : VolumeNow 
       ∙ sym (logged-at unit part.0 place (images_in volume.store.undo))
 
   pub need-is : log_need case ≡ need_at volume.store unit part place old
-  need-is = log-need-is case place old clusters ready.at
-      ∙ by_known (known case place old clusters ready.at) refl
+  need-is = log-need-is case place old none-built ready.at
+      ∙ by_known (known case place old none-built ready.at) refl
     where
       need : Bool → ℕ
       need there = need_with there volume.store.log (Before unit part place old)
 
-      by_known : (there : Bool) → known case place old clusters ready.at ≡ there
+      by_known : (there : Bool) → known case place old none-built ready.at ≡ there
           → cond there 0 (before_length place old) + cond (is_live state unit) 0 end_length
           ≡ need_at volume.store unit part place old
       by_known true is =
@@ -349,7 +349,7 @@ module _ {B : Type 0} (seen : B → Seen) (opening : State) (volume : VolumeNow 
 
   pub has-room : IsLogFull volume.store.log.geometry (used_by volume.store.log.records)
       (need_at volume.store unit part place old) → ⊥
-  has-room full = not-full case place old clusters ready.at
+  has-room full = not-full case place old none-built ready.at
       (subst (λ (g : Geometry). IsLogFull g state.used (log_need case)) (whole.geometry going)
       (subst (λ (n : ℕ). IsLogFull volume.store.log.geometry n (log_need case))
       stored.volume.logged.used
@@ -374,7 +374,7 @@ module _ {B : Type 0} (seen : B → Seen) (opening : State) (volume : VolumeNow 
             (ap (part_among volume.store.parts) base ∙ found));
         alone = subst (λ (n : ℕ). All (λ (logged : Logged). logged.part ≡ n
             → logged.place ≡ place → logged.unit ≡ unit) state.logged) base
-            (alone-logged case place old clusters ready.at is-held.file.now.locked);
+            (alone-logged case place old none-built ready.at is-held.file.now.locked);
         current = ready.at.current;
         not_catalog = λ zero. true≢false (sym (ap (λ (n : ℕ). n == 0) (base ∙ zero))
             ∙ ready.at.not_catalog);
@@ -467,7 +467,7 @@ module _ {B : Type 0} (seen : B → Seen) (opening : State) (volume : VolumeNow 
       entry.stamp (Asked request reply)) geometries
       ∙ ap (λ (r : Reply). after_asked case r) done.is in
       let made : IsChanged case place next = after_change volume.file.geometry state unit request
-      place done.feedback done.shown done.bytes clusters ready.at.place_is in
+      place done.feedback done.shown done.bytes none-built ready.at.place_is in
       let owned : (state_now opening to).owned ≡ state.owned =
       ap (λ (s : State). s.owned) leads ∙ made.owned in
       record {

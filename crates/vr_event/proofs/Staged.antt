@@ -2,14 +2,17 @@
 use Rattle.std.proofs.Common.{◌≡◌, ◌≢◌, ◌∙◌, ◌⊎◌, ◌+◌, ◌-◌, ℕ, Bool, true, false, cond}
 use Rattle.std.proofs.Common.{List, [], ◌∷◌, ◌++◌, Option, Some, None, refl, sym, ap, subst, inl, inr}
 use Rattle.std.proofs.Common.{arith, filter, length, ⊎_elim, nat_lt}
-use Rattle.std.specs.Prelude.{IfSome, slice_set}
+use Rattle.std.proofs.Common.{◌==◌, ◌||◌, if◌then◌else◌, nat_eq}
+use Rattle.std.specs.List.{list_any}
+use Rattle.std.specs.Prelude.{IfSome, option_and_then, slice_set}
 use Rattle.std.specs.Option.{option_map}
 use Rattle.std.proofs.lemmas.Bool.Decides.{nat_tests}
 use Rattle.std.proofs.lemmas.List.{length-append}
 use Rattle.std.proofs.lemmas.Option.{none-some, same_Some}
-use Rattle.vr_catalog.specs.Catalog.{parts_in}
+use Rattle.vr_catalog.specs.Catalog.{cluster_definition, entry_with_part, parts_in}
 use Rattle.vr_catalog.specs.declared.entry.CatEntry.{CatEntry}
 use Rattle.vr_catalog.specs.declared.entry.EntryKind.{EntryKind}
+use Rattle.vr_catalog.specs.declared.entry.EntryKind.TheVariants.{Alternate, Cluster, Path}
 use Rattle.vr_types.specs.Geometry.{area_count}
 use Rattle.vr_types.specs.Seen.{Seen}
 use Rattle.vr_types.specs.Space.{free_count, least_free}
@@ -26,9 +29,8 @@ use Rattle.vr_history.specs.State.{BeforeImage, Owned, State}
 use Rattle.vr_history.specs.Step.{IsLeastFree}
 use Rattle.vr_history.specs.declared.entry.What.TheVariants.{Claimed, Split}
 use Rattle.vr_history.proofs.CallerLemmas.{state_of-append}
-use Rattle.vr_answer.specs.Scope.{AreClusters}
 use Rattle.vr_record_file.specs.Now.{FileNow, IsStateOf, entry_next, state_now, with_event}
-use Rattle.vr_volume.specs.Laid.{shape_in}
+use Rattle.vr_attach.specs.Laid.{catalog_shape, shape_from, shape_in, shape_of}
 use Rattle.vr_store.specs.LastImage.{HasAdvanced, OnLast, last_of_unit}
 use Rattle.vr_store.specs.Store.{IsFitImage, IsSet, IsStored, PartNow, StoreNow, part_among}
 use Rattle.vr_store.specs.Store.{shape_among}
@@ -40,7 +42,6 @@ use Rattle.vr_event.specs.Volume.{IsHeld, IsWhole, OwnLaid, VolumeNow}
 use Rattle.vr_event.proofs.Areas.{least-owned, owned-same, owned-taken, unlaid-same}
 use Rattle.vr_event.proofs.Like.{stored_other}
 use Rattle.vr_event.proofs.Replied.{not-claimed, not-same, not-split}
-use Rattle.vr_event.proofs.UnitEnded.{unlaid}
 use Rattle.vr_event.proofs.Wholes.{held-split}
 
 -- ---- the areas that it took
@@ -146,29 +147,64 @@ taken-by part old new least free now is before after (inr claimed) =
 
 -- ---- the part that took one
 
--- each entry of a cluster has areas
-all-laid : (entries : List CatEntry) → AreClusters entries → parts_laid entries ≡ parts_in entries
-all-laid entries are = ap parts_in (all entries are)
+-- an entry whose part is laid has areas
+laid-areas : (geometry : Geometry) (entry : CatEntry) → shape_of geometry entry ≢ None
+    → has_areas entry.entry_kind entry ≡ true
+laid-areas geometry entry = of entry.entry_kind
   where
-    all : (entries : List CatEntry) → AreClusters entries
-        → filter (λ (entry : CatEntry). has_areas entry.entry_kind entry) entries ≡ entries
-    all [] are = refl
-    all (entry ∷ entries) are =
-        let rest = filter (λ (one : CatEntry). has_areas one.entry_kind one) entries in
-        ap (λ (kind : EntryKind). cond (has_areas kind entry) (entry ∷ rest) rest) are.0
-        ∙ ap (λ (them : List CatEntry). entry ∷ them) (all entries are.1)
+    of : (kind : EntryKind)
+        → option_and_then (shape_from geometry entry.part.0 entry.first_area)
+        (cluster_definition kind entry) ≢ None → has_areas kind entry ≡ true
+    of Cluster laid = refl
+    of Alternate laid = absurd (laid refl)
+    of Path laid = absurd (laid refl)
 
--- so that a part that is laid is one of the catalog
-pub part-laid : (geometry : Geometry) (part : ℕ) (entries : List CatEntry) → AreClusters entries
-    → shape_in geometry entries part ≢ None → has_part (parts_laid entries) part ≡ true
-part-laid geometry part entries are laid =
-    ap (λ (parts : List ℕ). has_part parts part) (all-laid entries are)
-    ∙ by-test (has_part (parts_in entries) part) refl
+laid-among : (geometry : Geometry) (part : ℕ) (entries : List CatEntry)
+    → option_and_then (shape_of geometry) (entry_with_part entries part) ≢ None
+    → list_any (nat_eq part) (parts_laid entries) ≡ true
+laid-among geometry part [] laid = absurd (laid refl)
+laid-among geometry part (entry ∷ entries) laid =
+    by-test (entry.part.0 == part) refl laid (laid-among geometry part entries)
   where
-    by-test : (b : Bool) → has_part (parts_in entries) part ≡ b
-        → has_part (parts_in entries) part ≡ true
-    by-test true is = is
-    by-test false is = absurd (laid (unlaid geometry part entries is))
+    rest : List CatEntry
+    rest = filter (λ (one : CatEntry). has_areas one.entry_kind one) entries
+
+    with-first : (areas : Bool) → list_any (nat_eq part) (parts_in rest) ≡ true
+        → list_any (nat_eq part) (parts_in (cond areas (entry ∷ rest) rest)) ≡ true
+    with-first true there = ap (λ (b : Bool). nat_eq part entry.part.0 || b) there
+        ∙ either (nat_eq part entry.part.0)
+      where
+        either : (b : Bool) → (b || true) ≡ true
+        either true = refl
+        either false = refl
+    with-first false there = there
+
+    by-test : (b : Bool) → (entry.part.0 == part) ≡ b
+        → option_and_then (shape_of geometry) (cond b (Some entry) (entry_with_part entries part))
+        ≢ None
+        → (option_and_then (shape_of geometry) (entry_with_part entries part) ≢ None
+        → list_any (nat_eq part) (parts_in rest) ≡ true)
+        → list_any (nat_eq part) (parts_in (cond (has_areas entry.entry_kind entry) (entry ∷ rest)
+        rest)) ≡ true
+    by-test true same there further =
+        let here : nat_eq part entry.part.0 ≡ true = grind (arith, nat_tests, same) in
+        ap (λ (b : Bool). list_any (nat_eq part) (parts_in (cond b (entry ∷ rest) rest)))
+        (laid-areas geometry entry there)
+        ∙ ap (λ (b : Bool). b || list_any (nat_eq part) (parts_in rest)) here
+    by-test false apart there further =
+        with-first (has_areas entry.entry_kind entry) (further there)
+
+-- so that a part that is laid is one of those that have them
+pub part-laid : (geometry : Geometry) (part : ℕ) (entries : List CatEntry)
+    → shape_in geometry entries part ≢ None → has_part (parts_laid entries) part ≡ true
+part-laid geometry part entries laid = by-zero (part == 0) refl
+  where
+    by-zero : (zero : Bool) → (part == 0) ≡ zero
+        → (zero || list_any (nat_eq part) (parts_laid entries)) ≡ true
+    by-zero true is = refl
+    by-zero false is = laid-among geometry part entries
+        (λ none. laid (ap (λ (b : Bool). if b then Some (catalog_shape geometry)
+        else option_and_then (shape_of geometry) (entry_with_part entries part)) is ∙ none))
 
 -- ---- the volume
 
@@ -185,8 +221,8 @@ module _ {B : Type 0} (seen : B → Seen) (opening : State) (part : PartNo)
 
   pub staged-laid : (taken : Option AreaNo) → IsStaged seen opening part areas taken volume
       → has_part (parts_laid volume.file.catalog) part.0 ≡ true
-  staged-laid taken staged = part-laid volume.file.geometry part.0 volume.file.catalog
-      (subst AreClusters (sym staged.file.now.catalog) staged.file.now.alone) staged.laid
+  staged-laid taken staged =
+      part-laid volume.file.geometry part.0 volume.file.catalog staged.laid
 
   -- it took none
   unclaimed : IsStaged seen opening part areas None volume → IsHeld seen opening volume

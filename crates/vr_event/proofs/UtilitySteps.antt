@@ -20,8 +20,10 @@ use Rattle.vr_catalog.specs.declared.entry.CatEntry.{CatEntry}
 use Rattle.vr_history.specs.declared.entry.Entry.{Entry}
 use Rattle.vr_history.specs.declared.entry.What.TheVariants.{Asked, Claimed}
 use Rattle.vr_record_file.specs.Defining.{added, defined}
-use Rattle.vr_record_file.specs.EntryChange.{entry_changed, entry_got, entry_made}
-use Rattle.vr_record_file.specs.Now.{FileNow, entry_next, with_event}
+use Rattle.vr_record_file.specs.CatalogEdit.{catalog_edited, records_made, step_made, steps_made}
+use Rattle.vr_record_file.specs.declared.entry_step.EntryStep.{EntryStep}
+use Rattle.vr_record_file.specs.declared.entry_step.EntryStep.TheVariants as steps
+use Rattle.vr_record_file.specs.Now.{FileNow, entry_next, lets_go, with_event}
 use Rattle.vr_volume.specs.EntryChange.{is_gone}
 use Rattle.vr_store.specs.Define.{HasNewPart}
 use Rattle.vr_store.specs.EntryChange.{HasPartsLeft, number_gone}
@@ -30,13 +32,13 @@ use Rattle.vr_store.specs.Parts.{OnlyMet}
 use Rattle.vr_store.specs.Store.{PartNow, StoreNow, has_number, part_among}
 use Rattle.vr_store.proofs.CallerLemmas.{among-left, waits-met}
 use Rattle.vr_event.specs.Defining.{EnteredBy}
-use Rattle.vr_event.specs.EntryChangeSteps.{change_of}
+use Rattle.vr_event.specs.EditSteps.{edit_of}
 use Rattle.vr_event.specs.Nearer.{CountsSplits, LeavesLess, intervals_by, splits_of}
 use Rattle.vr_event.specs.Volume.{VolumeNow}
 use Rattle.vr_event.specs.declared.define.Define.{Define}
 use Rattle.vr_event.specs.declared.define.Define.TheVariants as defines
-use Rattle.vr_event.specs.declared.entry_change.EntryChange.{EntryChange}
-use Rattle.vr_event.specs.declared.entry_change.EntryChange.TheVariants as changes
+use Rattle.vr_event.specs.declared.edit.Edit.{Edit}
+use Rattle.vr_event.specs.declared.edit.Edit.TheVariants as answers
 use Rattle.vr_event.proofs.SplitCounts.{counts-after, counts-met, counts-same, part-still}
 use Rattle.vr_event.proofs.SplitCounts.{splits-same}
 
@@ -78,35 +80,35 @@ hindered-define define is again = ⊎_elim (λ held. held-apart (sym held ∙ ag
     full-apart : defines.Full ≡ defines.Again → ⊥
     full-apart is = cc
 
-pub fault-change : (fault : DeviceFault) → changes.Fault fault ≡ changes.Again → ⊥
-fault-change fault is = cc
+pub fault-edit : (fault : DeviceFault) → answers.Fault fault ≡ answers.Again → ⊥
+fault-edit fault is = cc
 
-pub done-change : changes.Done ≡ changes.Again → ⊥
-done-change is = cc
+pub done-edit : answers.Done ≡ answers.Again → ⊥
+done-edit is = cc
 
-pub live-change : changes.Live ≡ changes.Again → ⊥
-live-change is = cc
+pub live-edit : answers.Live ≡ answers.Again → ⊥
+live-edit is = cc
 
-pub hindered-change : (change : EntryChange) → (change ≡ changes.Held) ⊎ (change ≡ changes.Full)
-    → change ≡ changes.Again → ⊥
-hindered-change change is again = ⊎_elim (λ held. held-apart (sym held ∙ again))
+pub hindered-edit : (answer : Edit) → (answer ≡ answers.Held) ⊎ (answer ≡ answers.Full)
+    → answer ≡ answers.Again → ⊥
+hindered-edit answer is again = ⊎_elim (λ held. held-apart (sym held ∙ again))
     (λ full. full-apart (sym full ∙ again)) is
   where
-    held-apart : changes.Held ≡ changes.Again → ⊥
+    held-apart : answers.Held ≡ answers.Again → ⊥
     held-apart is = cc
 
-    full-apart : changes.Full ≡ changes.Again → ⊥
+    full-apart : answers.Full ≡ answers.Again → ⊥
     full-apart is = cc
 
--- a stage of the catalog comes to the same for a change
-pub again-change : (define : Define) → change_of define ≡ changes.Again → define ≡ defines.Again
-again-change (defines.Done area) is = absurd cc
-again-change defines.Again is = refl
-again-change defines.NoArea is = absurd cc
-again-change defines.NoRoom is = absurd cc
-again-change defines.Held is = absurd cc
-again-change defines.Full is = absurd cc
-again-change (defines.Fault fault) is = absurd cc
+-- a stage of the catalog comes to the same for an edit
+pub again-edit : (define : Define) → edit_of define ≡ answers.Again → define ≡ defines.Again
+again-edit (defines.Done area) is = absurd cc
+again-edit defines.Again is = refl
+again-edit defines.NoArea is = absurd cc
+again-edit defines.NoRoom is = absurd cc
+again-edit defines.Held is = absurd cc
+again-edit defines.Full is = absurd cc
+again-edit (defines.Fault fault) is = absurd cc
 
 -- ---- a part is laid, or goes
 
@@ -168,20 +170,39 @@ splits-defined number after unit line part area add place commit catalog file =
     ∙ splits-same number file.entries
     (entry_next file.entries after unit line (Claimed part area)) refl
 
-pub splits-changed : (number after : ℕ) (unit : UnitOfRecovery) (line : ℕ) (get change : Request)
-    (place before : List ℕ) (commit : Request) (catalog : List CatEntry) (file : FileNow)
-    → splits_of number
-    (entry_changed after unit line get change place before commit catalog file).entries
+splits-step : (number after : ℕ) (unit : UnitOfRecovery) (line : ℕ) (step : EntryStep)
+    (file : FileNow)
+    → splits_of number (step_made after unit line step file).entries
     ≡ splits_of number file.entries
-splits-changed number after unit line get change place before commit catalog file =
-    let got : FileNow = entry_got after unit line get place before file in
-    let made : FileNow = entry_made after unit line get change place before catalog file in
+splits-step number after unit line (steps.Change get change got changed shown) file =
+    let first : FileNow = with_event after unit line (Asked get (Done 0 (Some got) (Some shown)))
+    (lets_go unit.deck get file) in
+    splits-same number first.entries
+    (entry_next first.entries 0 unit line (Asked change (Done 0 (Some changed) None))) refl
+    ∙ splits-same number file.entries
+    (entry_next file.entries after unit line (Asked get (Done 0 (Some got) (Some shown)))) refl
+splits-step number after unit line (steps.Add add added) file =
+    splits-same number file.entries
+    (entry_next file.entries after unit line (Asked add (Done 0 (Some added) None))) refl
+
+splits-steps : (number after : ℕ) (unit : UnitOfRecovery) (line : ℕ) (those : List EntryStep)
+    (file : FileNow)
+    → splits_of number (steps_made after unit line those file).entries
+    ≡ splits_of number file.entries
+splits-steps number after unit line [] file = refl
+splits-steps number after unit line (step ∷ those) file =
+    splits-steps number 0 unit line those (step_made after unit line step file)
+    ∙ splits-step number after unit line step file
+
+pub splits-edited : (number after : ℕ) (unit : UnitOfRecovery) (line : ℕ) (those : List EntryStep)
+    (commit : Request) (catalog : List CatEntry) (file : FileNow)
+    → splits_of number (catalog_edited after unit line those commit catalog file).entries
+    ≡ splits_of number file.entries
+splits-edited number after unit line those commit catalog file =
+    let made : FileNow = records_made after unit line those catalog file in
     splits-same number made.entries
     (entry_next made.entries 0 unit line (Asked commit (Done 0 None None))) refl
-    ∙ splits-same number got.entries
-    (entry_next got.entries 0 unit line (Asked change (Done 0 (Some place) None))) refl
-    ∙ splits-same number file.entries
-    (entry_next file.entries after unit line (Asked get (Done 0 (Some place) (Some before)))) refl
+    ∙ splits-steps number after unit line those file
 
 -- ---- steps
 

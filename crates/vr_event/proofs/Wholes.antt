@@ -25,7 +25,7 @@ use Rattle.vr_volume.specs.Laid.{shape_in}
 use Rattle.vr_event.specs.Alike.{AreAlike}
 use Rattle.vr_event.specs.Putting.{IsChanging}
 use Rattle.vr_store.specs.Store.{IsSet, IsStored, StoreNow, shape_among}
-use Rattle.vr_event.specs.Volume.{AreServedClusters, IsHeld, IsWhole, VolumeNow}
+use Rattle.vr_event.specs.Volume.{AreServed, IsHeld, IsWhole, VolumeNow}
 use Rattle.vr_event.proofs.Areas.{owned-same, unlaid-same}
 use Rattle.vr_event.proofs.Entering.{alike_refused, held-alike}
 use Rattle.vr_event.proofs.Served.{served_same}
@@ -52,7 +52,7 @@ module _ {B : Type 0} (seen : B → Seen) where
 
   -- whole, once a write failed
   pub whole-stopped : (volume : VolumeNow B)
-      → AreServedClusters volume.file.geometry volume.file.catalog
+      → AreServed volume.file.geometry volume.file.catalog
       → (volume.file.stopped ≡ None → ⊥) → IsWhole seen volume
   whole-stopped volume served stopped = record {
     served = served;

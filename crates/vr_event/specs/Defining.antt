@@ -3,9 +3,7 @@
 -- an image of a moment of it recovers to. That a definition is one event, of a unit of recovery of
 -- its own, is this project's own rule.
 use Rattle.std.specs.Prelude.{◌≡◌, ◌⊎◌, ◌+◌, ◌<◌, ◌≤◌, ℕ, Bool, true, List, [], ◌∷◌, IsTrue}
-use Rattle.std.specs.Prelude.{Option, Some, None, Result, Ok, Err, if◌then◌else◌}
-use Rattle.std.specs.Ordering.{is_lt}
-use Rattle.vr_types.specs.Content.{place_cmp}
+use Rattle.std.specs.Prelude.{Option, Some, None, Result, Ok, Err}
 use Rattle.vr_types.specs.Faults.{Faults}
 use Rattle.vr_types.specs.Geometry.{area_count}
 use Rattle.vr_types.specs.Image.{Image}
@@ -26,6 +24,7 @@ use Rattle.vr_catalog.specs.Record.{spelling}
 use Rattle.vr_catalog.specs.declared.entry.CatEntry.{CatEntry}
 use Rattle.vr_catalog.specs.declared.entry.EntryKind.TheVariants.{Cluster}
 use Rattle.vr_attach.specs.CatalogRules.{has_sizes_by}
+use Rattle.vr_edits.specs.Edits.{with_entry}
 use Rattle.vr_space.specs.declared.room.Room.TheVariants as answers
 use Rattle.vr_history.specs.State.{State}
 use Rattle.vr_record_file.specs.Defining.{defined, failed_to_define}
@@ -71,12 +70,9 @@ record_length = catalog_definition.maximum
 abbrev pub entry_add : ℕ → CatEntry → Request
 entry_add volume entry = Add (catalog_file volume) None (spelling entry)
 
--- the catalog with one entry more, before the first whose place is greater
+-- the catalog with one entry more
 abbrev pub with_cluster : CatEntry → List CatEntry → List CatEntry
-with_cluster new [] = new ∷ []
-with_cluster new (entry ∷ entries) =
-    if is_lt (place_cmp (entry_place new) (entry_place entry)) then new ∷ entry ∷ entries
-    else entry ∷ with_cluster new entries
+with_cluster new entries = with_entry new entries
 
 -- A cluster that a catalog doesn't have yet, neither by name nor by part, and that has no area yet:
 -- with one, a catalog may have its entry, and its sizes are those that DEFINE allows. Of a spanned

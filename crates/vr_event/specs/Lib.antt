@@ -20,6 +20,6 @@ pub mod Numbers
 pub mod Defining
 pub mod NewCluster
 pub mod DefineSteps
-pub mod EntryChange
-pub mod ChangedEntry
-pub mod EntryChangeSteps
+pub mod CatalogEdit
+pub mod PreparedEdit
+pub mod EditSteps

@@ -9,7 +9,7 @@ use Rattle.vr_types.specs.declared.geometry.Geometry.{Geometry}
 use Rattle.vr_types.specs.declared.unit.PartNo.{PartNo}
 use Rattle.vr_space.specs.Part.{owned_count}
 use Rattle.vr_catalog.specs.declared.entry.CatEntry.{CatEntry}
-use Rattle.vr_catalog.specs.declared.entry.EntryKind.TheVariants.{Cluster}
+use Rattle.vr_edits.specs.Edits.{IsServedEntry}
 use Rattle.vr_history.specs.RefusedRoom.{free_areas}
 use Rattle.vr_history.specs.State.{State}
 use Rattle.vr_history.specs.Step.{case_of}
@@ -19,13 +19,10 @@ use Rattle.vr_volume.specs.Laid.{shape_in}
 use Rattle.vr_store.specs.Store.{IsSet, IsStored, StoreNow, shape_among}
 use Rattle.vr_event.specs.Opening.{owned_in}
 
--- a cluster whose longest record has room in an interval: those are what a volume serves
-pub record IsServedCluster (geometry : Geometry) (entry : CatEntry) : Type 0 where
-  pub cluster : entry.entry_kind ≡ Cluster
-  pub plain : entry.maximum + 7 ≤ geometry.size
-
-abbrev pub AreServedClusters : Geometry → List CatEntry → Type 0
-AreServedClusters geometry entries = AllByRecursion (IsServedCluster geometry) entries
+-- all entries are served: clusters whose longest records have room in an interval, alternate
+-- indexes that aren't built, and paths
+abbrev pub AreServed : Geometry → List CatEntry → Type 0
+AreServed geometry entries = AllByRecursion (IsServedEntry geometry) entries
 
 -- a part that the catalog doesn't lay owns no area
 abbrev pub OwnLaid : Geometry → List CatEntry → List (Option PartNo) → Type 0
@@ -39,11 +36,11 @@ pub record VolumeNow (B : Type 0) : Type 0 where
   pub store : StoreNow
   pub file : FileNow
 
--- Whether or not the device reports its contents: all entries are clusters that are served, and as
+-- Whether or not the device reports its contents: all entries are served, and as
 -- long as no write failed, the store is set, and its parts are those of the catalog. Of a volume that
 -- stopped no call looks at the store.
 pub record IsWhole {B : Type 0} (seen : B → Seen) (volume : VolumeNow B) : Type 0 where
-  pub served : AreServedClusters volume.file.geometry volume.file.catalog
+  pub served : AreServed volume.file.geometry volume.file.catalog
   pub geometry : volume.file.stopped ≡ None
       → volume.store.log.geometry ≡ volume.file.geometry
   pub laid : volume.file.stopped ≡ None → (part : ℕ) → shape_among volume.store.parts part

@@ -11,7 +11,7 @@ ghost use Rattle.vr_history.specs.State.{opening_state};
 ghost use Rattle.vr_volume.specs.Laid.{shape_in};
 ghost use Rattle.vr_event.specs.Opening.{IsOpened, opened_store, owned_in};
 ghost use Rattle.vr_store.specs.Store.{IsSet, part_now, shape_among};
-ghost use Rattle.vr_event.specs.Volume.{AreServedClusters, IsHeld, IsWhole, OwnLaid};
+ghost use Rattle.vr_event.specs.Volume.{AreServed, IsHeld, IsWhole, OwnLaid};
 
 use crate::volume::Volume;
 use std::alloc::Global;
@@ -36,14 +36,14 @@ impl<B: Blocks, P: Part> Volume<B, P> {
         log: UndoLog,
         space: Space,
     ) -> Volume<B, P>
-        ensures whole { AreServedClusters geometry catalog
+        ensures whole { AreServed geometry catalog
             → IsSet (opened_store log (map (part_now P.shape P.known) parts.items)
             space) (B.seen blocks) → log.geometry ≡ geometry
             → ((part : ℕ) → shape_among (map (part_now P.shape P.known) parts.items) part
             ≡ shape_in geometry catalog part) → IsWhole B.seen result }
         ensures held { IsTrue B.tells → (contents : ℕ → Content)
             → catalog ≡ entries_in (contents 0)
-            → AreServedClusters geometry catalog → log.geometry ≡ geometry → log.records ≡ []
+            → AreServed geometry catalog → log.geometry ≡ geometry → log.records ≡ []
             → log.broken ≡ false → length space ≡ area_count geometry
             → AllByRecursion (λ area. has_part (parts_laid catalog) area.part ≡ true)
             (owned_in space)

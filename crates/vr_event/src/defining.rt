@@ -23,7 +23,7 @@ ghost use Rattle.vr_space.specs.Part.{owned_count};
 ghost use Rattle.vr_volume.specs.Crashes.{RecoversTo};
 ghost use Rattle.vr_store.specs.Change.{IsSettable};
 ghost use Rattle.vr_store.specs.Left.{left_for};
-ghost use Rattle.vr_store.specs.Parts.{OnlyMet};
+ghost use Rattle.vr_store.specs.Parts.{MeetsNext, OnlyMet};
 ghost use Rattle.vr_store.specs.Room.{IsDueAt, IsRoomAt};
 ghost use Rattle.vr_store.specs.Store.{shape_among};
 ghost use Rattle.vr_event.specs.Defining.{EnteredBy, FaultsBy, HasDefineFaults};
@@ -35,7 +35,7 @@ ghost use Rattle.vr_event.specs.DefineSteps.{LacksRoomWhere, MayAdd, MayDefineNo
 ghost use Rattle.vr_event.specs.Nearer.{EntersSplits, LeavesLess};
 ghost use Rattle.vr_event.specs.NewCluster.{IsPreparedFor};
 ghost use Rattle.vr_event.specs.Putting.{HasMetAt};
-ghost use Rattle.vr_event.specs.Volume.{AreServedClusters, Holds, IsFileHeld, IsHeld, IsWhole};
+ghost use Rattle.vr_event.specs.Volume.{AreServed, Holds, IsFileHeld, IsHeld, IsWhole};
 ghost use Rattle.vr_event.specs.declared.define.Define.TheVariants as defines;
 
 use crate::define::Define;
@@ -88,7 +88,7 @@ impl<B: Blocks, P: Part> Volume<B, P> {
         requires going { self.old.file.stopped ≡ None }
         ensures held { IsTrue B.tells → (opening : State) → IsFileHeld opening self.old
             → IsHeld B.seen opening self.new }
-        ensures whole { AreServedClusters self.old.file.geometry self.old.file.catalog
+        ensures whole { AreServed self.old.file.geometry self.old.file.catalog
             → IsWhole B.seen self.new }
         ensures leaves { self.new.file ≡ faulted after unit line self.old.file }
         ensures state { (opening : State) → IsStateOf opening self.old.file
@@ -111,6 +111,10 @@ impl<B: Blocks, P: Part> Volume<B, P> {
         ensures still { IsTrue B.tells → IfOk result (λ room. IsRoomAt self.new.store
             (B.seen self.new.blocks).cur 0 place.now record_length room) }
         ensures met { OnOk result (HasMetAt self.new.store.parts 0 place.now) }
+        ensures next { OnOk result
+            (MeetsNext 0 place.now self.old.store.parts self.new.store.parts) }
+        ensures content { IsTrue B.tells
+            → (B.seen self.new.blocks).cur ≡ (B.seen self.old.blocks).cur }
         ensures held { IsTrue B.tells → (opening : State) → IsHeld B.seen opening self.old
             → IsHeld B.seen opening self.new }
         ensures whole { IsWhole B.seen self.new }

@@ -7,7 +7,7 @@ ghost use Rattle.vr_history.specs.Merged.{last_stamp};
 ghost use Rattle.vr_history.specs.State.{State};
 ghost use Rattle.vr_record_file.specs.Now.{MayBeAsked};
 ghost use Rattle.vr_event.specs.Acting.{IsActed};
-ghost use Rattle.vr_event.specs.Volume.{AreServedClusters, IsFileHeld, IsHeld, IsWhole};
+ghost use Rattle.vr_event.specs.Volume.{AreServed, IsFileHeld, IsHeld, IsWhole};
 ghost use Rattle.vr_event.specs.declared.act.Act.TheVariants as acts;
 
 use crate::volume::Volume;
@@ -25,7 +25,7 @@ impl<B: Blocks, P: Part> Volume<B, P> {
         ensures held { IsTrue B.tells → (opening : State) → IsFileHeld opening self.old
             → MayBeAsked opening self.old.file unit request (Refused WriteFault)
             → IsHeld B.seen opening self.new }
-        ensures whole { AreServedClusters self.old.file.geometry self.old.file.catalog
+        ensures whole { AreServed self.old.file.geometry self.old.file.catalog
             → IsWhole B.seen self.new }
         ensures acted { (before now : Faults) → before.reads ≤ now.reads
             → before.writes < now.writes

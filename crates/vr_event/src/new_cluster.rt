@@ -1,25 +1,19 @@
 //! A cluster that is to be defined: its record, and the catalog with it.
 ghost use Rattle.std.specs.Prelude.{◌≡◌, ◌+◌, ◌≤◌, IfOk, IsTrue, false, length};
-ghost use Rattle.std.specs.Ordering.{is_lt};
-ghost use Rattle.vr_types.specs.Content.{place_cmp};
 ghost use Rattle.vr_types.specs.LogSpace.{IsLogFull, log_size};
 ghost use Rattle.vr_catalog.specs.Catalog.{definition_in};
-ghost use Rattle.vr_catalog.specs.Definition.{catalog_definition, key_of};
-ghost use Rattle.vr_catalog.specs.Record.{spelling};
 ghost use Rattle.vr_catalog.specs.declared.entry.EntryKind.TheVariants.{Cluster};
 ghost use Rattle.vr_record_file.specs.Defining.{need_to_define};
 ghost use Rattle.vr_event.specs.Defining as words;
 ghost use Rattle.vr_event.specs.NewCluster.{IsPreparedFor};
 
 use std::alloc::Global;
-use vr_catalog::{CatEntry, Catalog, Definition, RECORD_LENGTH, write_entry};
+use vr_catalog::{CatEntry, Catalog, Definition};
+use vr_edits::{place_in, record_of, with_entry};
 use vr_types::{
     AreaNo, Bytes, FileRef, Geometry, Kind, LockName, OutOfMemory, PartNo, Place, Request,
     SharedRequest, bytes, place,
 };
-
-/// The bytes of a name in the catalog's records, which they begin with.
-const NAME_LENGTH: usize = 44;
 
 /// All that the definition of a cluster takes of memory: its definition, its record with the place
 /// and the lock's name, its requests, and the catalog with it.
@@ -35,53 +29,6 @@ pub(crate) struct NewCluster {
     pub(crate) shown: Place,
     pub(crate) commit: SharedRequest,
     pub(crate) catalog: Catalog,
-}
-
-/// The record of an entry.
-pub(crate) fn record_of(entry: &CatEntry) -> [u8; RECORD_LENGTH]
-    ensures value { result ≡ spelling entry.now }
-    ensures length { length result ≡ 204 }
-{
-    let mut bytes = [0; RECORD_LENGTH];
-    write_entry(entry, &mut bytes);
-    bytes
-}
-
-/// The place of a record, with which it begins.
-pub(crate) fn place_in(record: &[u8]) -> &[u8]
-    requires { length record.now ≡ 204 }
-    ensures { result.now ≡ key_of catalog_definition record.now }
-{
-    &record[..NAME_LENGTH]
-}
-
-/// Whether the record of an entry comes before that of another.
-fn comes_before(new: &CatEntry, other: &CatEntry) -> bool
-    ensures { result
-        ≡ is_lt (place_cmp (words.entry_place new.now) (words.entry_place other.now)) }
-{
-    let here = record_of(new);
-    let there = record_of(other);
-    place_in(&here).cmp(&place_in(&there)).is_lt()
-}
-
-/// The catalog with one entry more, in its order. It fails only if memory runs out.
-fn with_cluster(alloc: Global, catalog: &Catalog, new: &CatEntry) -> Result<Catalog, OutOfMemory>
-    ensures { IfOk result (λ with. with ≡ words.with_cluster new.now catalog.now) }
-{
-    let mut with = Catalog::new(alloc);
-    let mut placed = false;
-    for entry in catalog.as_slice() {
-        if !placed && comes_before(new, entry) {
-            with.push(new.copy(alloc)?)?;
-            placed = true;
-        }
-        with.push(entry.copy(alloc)?)?;
-    }
-    if !placed {
-        with.push(new.copy(alloc)?)?;
-    }
-    Ok(with)
 }
 
 /// The entry of a cluster with its first area. It fails only if memory runs out.
@@ -150,7 +97,7 @@ pub(crate) fn prepare(
     };
     let add = add_request(alloc, volume, &entry)?;
     let commit = SharedRequest::new(alloc, Request::Commit)?;
-    let catalog = with_cluster(alloc, catalog, &entry)?;
+    let catalog = with_entry(alloc, catalog, &entry)?;
     Ok(NewCluster {
         part: entry.part,
         area,

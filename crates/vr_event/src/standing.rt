@@ -80,10 +80,10 @@ impl<B: Blocks, P: Part> Volume<B, P> {
         self.store.generation() < (1 << 63) - 1 && self.unit_number(deck) < u32::MAX
     }
 
-    /// Makes room for four entries and one more file. It fails only if memory runs out. All else
+    /// Makes room for six entries and one more file. It fails only if memory runs out. All else
     /// stays, whatever the answer.
     pub fn reserve(&mut self) -> Result<(), OutOfMemory>
-        ensures room { OnOk result (4 ≤ self.new.file.room) }
+        ensures room { OnOk result (6 ≤ self.new.file.room) }
         ensures files_room { OnOk result (0 < self.new.file.files_room) }
         ensures same { self.new ≡ record self.old {
           file = record self.old.file {

@@ -7,6 +7,7 @@ use Rattle.std.specs.Option.{is_none}
 use Rattle.std.specs.Prelude.{◌||◌, ◌-◌, ◌^◌, Ok, is_some}
 use Rattle.std.proofs.lemmas.Bool.{true≢false}
 use Rattle.std.proofs.lemmas.Iterator.Adapters.{position_from-zero}
+use Rattle.std.proofs.lemmas.List.Elements.{All-from_recursion, All-weaker}
 use Rattle.vr_types.specs.Faults.{Faults}
 use Rattle.vr_types.specs.Locks.{Lock, first_conflict, same_unit}
 use Rattle.vr_types.specs.LogSpace.{IsLogFull, log_size}
@@ -18,18 +19,20 @@ use Rattle.vr_types.specs.declared.unit.Mode.TheVariants.{Exclusive}
 use Rattle.vr_types.specs.declared.unit.PartNo.{PartNo}
 use Rattle.vr_types.specs.declared.unit.Unit.{Unit as UnitOfRecovery}
 use Rattle.vr_catalog.specs.declared.entry.CatEntry.{CatEntry}
+use Rattle.vr_edits.specs.declared.edit.CatalogEdit.{CatalogEdit}
 use Rattle.vr_log.specs.Live.{is_in, live_in, used_by}
 use Rattle.vr_history.specs.Legal.{state_of}
 use Rattle.vr_history.proofs.CallerLemmas.{unit_self}
 use Rattle.vr_history.specs.State.{Logged, State}
 use Rattle.vr_history.specs.declared.entry.Entry.{Entry}
+use Rattle.vr_record_file.specs.CatalogEdit.{RecordChange}
 use Rattle.vr_record_file.specs.Defining.{entry_name, need_to_define}
 use Rattle.vr_record_file.specs.Now.{state_now}
 use Rattle.vr_trace.specs.Shown.{Shown}
 use Rattle.vr_trace.specs.Visitors.{Visited}
 use Rattle.vr_ams_define.specs.Answers.{Exchange, IsShownAfter, IsShownCounted, IsShownRead}
-use Rattle.vr_ams_define.specs.Answers.Exchange.{Changing, Counting, Defining, Reading}
-use Rattle.vr_ams_define.specs.EntryChanges.{IsShownChanged}
+use Rattle.vr_ams_define.specs.Answers.Exchange.{Counting, Defining, Editing, Reading}
+use Rattle.vr_ams_define.specs.Edited.{IsShownEdited}
 use Rattle.vr_ams_define.specs.declared.answer.Changed.{Changed}
 use Rattle.vr_ams_define.specs.declared.answer.Counted.{Counted}
 use Rattle.vr_ams_define.specs.declared.answer.Defined.{Defined}
@@ -37,30 +40,31 @@ use Rattle.vr_ams_define.specs.declared.answer.ReadBack.{ReadBack}
 use Rattle.vr_event.specs.Counts.{AreCounts, CountedBy}
 use Rattle.vr_event.specs.DefineSteps.{HasCome, LacksRoomWhere}
 use Rattle.vr_event.specs.Defining.{entry_place, utility_unit}
-use Rattle.vr_event.specs.EntryChange.{log_for_change}
-use Rattle.vr_event.specs.EntryChangeSteps.{HasChangeCome}
+use Rattle.vr_event.specs.CatalogEdit.{LacksRoomWhereEdited, changes_of, log_for_edit}
+use Rattle.vr_event.specs.EditSteps.{HasEditCome}
 use Rattle.vr_event.specs.Reading.{ReadBy, first_records}
 use Rattle.vr_event.specs.Volume.{IsHeld, IsWhole, VolumeNow}
 use Rattle.vr_event.specs.declared.counts.Count.{Count}
 use Rattle.vr_event.specs.declared.counts.Count.TheVariants as counting
 use Rattle.vr_event.specs.declared.define.Define.{Define}
 use Rattle.vr_event.specs.declared.define.Define.TheVariants as events
-use Rattle.vr_event.specs.declared.entry_change.EntryChange.{EntryChange}
-use Rattle.vr_event.specs.declared.entry_change.EntryChange.TheVariants as changing
+use Rattle.vr_event.specs.declared.edit.Edit.{Edit}
+use Rattle.vr_event.specs.declared.edit.Edit.TheVariants as edits
 use Rattle.vr_event.specs.declared.reading.ReadThrough.{ReadThrough}
 use Rattle.vr_event.specs.declared.reading.ReadThrough.TheVariants as readings
-use Rattle.vr_job.specs.Answering.{IsAnswered, IsChangedIn, IsCountOf, IsCountedIn, IsDefinedIn}
+use Rattle.vr_job.specs.Answering.{IsAnswered, IsCountOf, IsCountedIn, IsDefinedIn, IsEditedIn}
 use Rattle.vr_job.specs.Answering.{IsReadIn, IsReadOf, answer_of, changed_of, counted_of}
 use Rattle.vr_job.specs.Answering.{read_back_of}
 use Rattle.vr_job.specs.Faultless.{has_stopped}
 use Rattle.vr_job.specs.Going.{ShowsStop, WentOn}
-use Rattle.vr_job.specs.Reported.{AnswersBy, ChangeCause, CountCause, DefineCause, MadeBy, VolumeAt}
+use Rattle.vr_job.specs.Reported.{AnswersBy, CountCause, DefineCause, EditCause, MadeBy, VolumeAt}
+use Rattle.vr_job.specs.Reported.{conflict_at}
 use Rattle.vr_job.specs.Reported.{ReadCause, areas_free, state_at, utility_unit_in}
 use Rattle.vr_job.specs.Serving.{StaysServing, shown_of}
-use Rattle.vr_job.proofs.ChangeShown.{change-shown}
+use Rattle.vr_job.proofs.EditShown.{edit-shown}
 use Rattle.vr_job.proofs.CountEvents.{count-shown}
 use Rattle.vr_job.proofs.DefineShown.{come-shown, ready-catalog}
-use Rattle.vr_job.proofs.Gains.{Gained, gained, gained-change, gained-count, gained-read}
+use Rattle.vr_job.proofs.Gains.{Gained, gained, gained-count, gained-edit, gained-read}
 use Rattle.vr_job.proofs.ReadEvents.{read-shown}
 
 -- a volume as commands have it, which was opened in this state
@@ -175,20 +179,34 @@ module _ {D : Type 0} (seen : D → Seen) (at : VolumeAt) (ready : VolumeNow D)
         log-full (need_to_define (entry_place entry)) (come.full refl)
     define-cause (events.Fault _) after line entry new come lacks = tt
 
-    -- why a change is refused
-    change-cause : (event : EntryChange) (after line : ℕ) (entry : CatEntry) (to : Option CatEntry)
-        (new : VolumeNow D)
-        → HasChangeCome seen after (utility_unit ready.file) line entry to (Ok event) ready new
-        → ChangeCause (changed_of event) entry at
-    change-cause changing.Done after line entry to new come = tt
-    change-cause changing.Again after line entry to new come = tt
-    change-cause changing.Held after line entry to new come = λ none. come.kept_out refl
-        (conflict-is (entry_name (entry_place entry)) ∙ none)
-    change-cause changing.Live after line entry to new come = λ none. come.live refl
-        (none-live none)
-    change-cause changing.Full after line entry to new come =
-        log-full (log_for_change entry) (come.full refl)
-    change-cause (changing.Fault _) after line entry to new come = tt
+    -- why an edit is refused
+    edit-cause : (event : Edit) (after line : ℕ) (edit : CatalogEdit) (new : VolumeNow D)
+        → HasEditCome seen after (utility_unit ready.file) line edit (Ok event) ready new
+        → LacksRoomWhereEdited seen edit (Ok event) ready → EditCause (changed_of event) edit at
+    edit-cause edits.Done after line edit new come lacks = tt
+    edit-cause edits.Again after line edit new come lacks = tt
+    edit-cause edits.NoRoom after line edit new come lacks =
+        let is = lacks refl in (
+          (is.entry, is.is),
+          All-weaker (λ (change : RecordChange). first_conflict ready.file.locks
+              (utility_unit ready.file) Exclusive (entry_name change.place) ≡ None)
+              (λ (change : RecordChange). conflict_at at change ≡ None)
+              (λ change unlocked. sym (conflict-is (entry_name change.place)) ∙ unlocked)
+              (changes_of edit) (All-from_recursion (λ (change : RecordChange).
+              first_conflict ready.file.locks (utility_unit ready.file) Exclusive
+              (entry_name change.place) ≡ None) (changes_of edit) is.unlocked),
+          subst (λ (g : Geometry). (state_at at).used + log_for_edit edit ≤ log_size g)
+              (sym from.geometry_is)
+              (subst (λ (used : ℕ). used + log_for_edit edit ≤ log_size ready.file.geometry)
+              used-is is.log),
+        )
+    edit-cause edits.Held after line edit new come lacks =
+        let kept = come.kept_out refl in
+        (kept.0, kept.1, λ none. kept.2 (conflict-is (entry_name kept.0.place) ∙ none))
+    edit-cause edits.Live after line edit new come lacks = λ none. come.live refl (none-live none)
+    edit-cause edits.Full after line edit new come lacks =
+        log-full (log_for_edit edit) (come.full refl)
+    edit-cause (edits.Fault _) after line edit new come lacks = tt
 
   -- which numbers are counted
   count-cause : (event : Count) (entry : CatEntry)
@@ -225,7 +243,7 @@ module _ {D : Type 0} (tells : Bool) (seen : D → Seen) (faults : D → Faults)
       ∙ ap (λ (stopped : Bool). record { catalog = old.file.catalog; stopped = stopped })
       (stays.went.on.shows shows ∙ ap has_stopped stays.entries ∙ sym shows)
 
-  -- and after an event of a definition, a count or a change, what its answer leaves
+  -- and after an event of a definition, a count or an edit, what its answer leaves
   define-shown : (event : Define) (after line : ℕ) (entry : CatEntry) (new : VolumeNow D)
       → HasCome seen after (utility_unit ready.file) line entry (Ok event) ready new
       → IsShownAfter (answer_of event) entry (shown_of old) (shown_of new)
@@ -247,13 +265,12 @@ module _ {D : Type 0} (tells : Bool) (seen : D → Seen) (faults : D → Faults)
       subst (λ (s : Shown). IsShownRead (read_back_of event) s (shown_of new)) ready-shown
       (read-shown after line event ready new is)
 
-  changed-shown : (event : EntryChange) (after line : ℕ) (entry : CatEntry) (to : Option CatEntry)
-      (new : VolumeNow D)
-      → HasChangeCome seen after (utility_unit ready.file) line entry to (Ok event) ready new
-      → IsShownChanged (changed_of event) entry to (shown_of old) (shown_of new)
-  changed-shown event after line entry to new come =
-      subst (λ (s : Shown). IsShownChanged (changed_of event) entry to s (shown_of new)) ready-shown
-      (change-shown seen after line entry to event ready new come)
+  edited-shown : (event : Edit) (after line : ℕ) (edit : CatalogEdit) (new : VolumeNow D)
+      → HasEditCome seen after (utility_unit ready.file) line edit (Ok event) ready new
+      → IsShownEdited (changed_of event) edit (shown_of old) (shown_of new)
+  edited-shown event after line edit new come =
+      subst (λ (s : Shown). IsShownEdited (changed_of event) edit s (shown_of new)) ready-shown
+      (edit-shown seen after line edit event ready new come)
 
 -- ---- whatever it is asked
 
@@ -297,8 +314,8 @@ module _ {D : Type 0} (tells : Bool) (seen : D → Seen) (faults : D → Faults)
   }
     where
       gains : Gained line (Defining entry (answer_of is.event)) is.ready.file new.file
-      gains = gained is.ready.number is.after (utility_unit is.ready.file) line entry
-          is.ready.file new.file refl is.event is.come.entered
+      gains = gained is.after (utility_unit is.ready.file) line is.ready.file new.file refl
+          is.ready.number entry is.event is.come.entered
 
   count-answers : (entry : CatEntry) (counted : Counted) (new : VolumeNow D)
       → IsHeldFrom tells seen opening old
@@ -324,8 +341,8 @@ module _ {D : Type 0} (tells : Bool) (seen : D → Seen) (faults : D → Faults)
   }
     where
       gains : Gained line (Counting entry (counted_of is.event)) is.ready.file new.file
-      gains = gained-count is.ready.number is.after (utility_unit is.ready.file) line entry
-          is.ready.file new.file refl is.event is.entered
+      gains = gained-count is.after (utility_unit is.ready.file) line is.ready.file new.file refl
+          entry is.event is.entered
 
   read-answers : (entry : CatEntry) (from : Option (List ℕ)) (records : List Visited)
       (answer : ReadBack) (new : VolumeNow D) → IsHeldFrom tells seen opening old
@@ -354,35 +371,34 @@ module _ {D : Type 0} (tells : Bool) (seen : D → Seen) (faults : D → Faults)
     where
       gains : Gained line (Reading entry from records (read_back_of is.event)) is.ready.file
           new.file
-      gains = gained-read is.ready.number is.after (utility_unit is.ready.file) line entry
-          is.ready.file new.file refl from records is.event is.entered
+      gains = gained-read is.after (utility_unit is.ready.file) line is.ready.file new.file refl
+          entry from records is.event is.entered
 
-  change-answers : (entry : CatEntry) (to : Option CatEntry) (answer : Changed)
-      (new : VolumeNow D) → IsHeldFrom tells seen opening old
-      → IsChangedIn tells seen faults old line entry to answer new
-      → AnswersBy tells (at_of opening old) line (Changing entry to answer) (at_of opening new)
-  change-answers entry to answer new held is = record {
+  edit-answers : (edit : CatalogEdit) (answer : Changed) (new : VolumeNow D)
+      → IsHeldFrom tells seen opening old → IsEditedIn tells seen faults old line edit answer new
+      → AnswersBy tells (at_of opening old) line (Editing edit answer) (at_of opening new)
+  edit-answers edit answer new held is = record {
     made = gains.made;
     entries_are = gains.entries_are
         ∙ ap (λ (entries : List Entry). entries ++ gains.made) is.stays.entries;
     own = gains.own;
-    by = subst (λ (given : Changed). MadeBy (Changing entry to given) gains.made)
+    by = subst (λ (given : Changed). MadeBy (Editing edit given) gains.made)
         (sym is.answer_is) gains.by;
     shown_is = subst (λ (given : Changed).
-        IsShownChanged given entry to (shown_of old) (shown_of new)) (sym is.answer_is)
-        (changed-shown tells seen faults old is.ready is.stays held.shows is.event is.after line
-        entry to new is.come);
+        IsShownEdited given edit (shown_of old) (shown_of new)) (sym is.answer_is)
+        (edited-shown tells seen faults old is.ready is.stays held.shows is.event is.after line
+        edit new is.come);
     shape_is = is.went.on.geometry ∙ is.stays.went.on.geometry;
     opening_is = refl;
-    cause = λ told. subst (λ (given : Changed). ChangeCause given entry (at_of opening old))
-        (sym is.answer_is) (change-cause seen (at_of opening old) is.ready
-        (ready-from is.ready is.stays held told) is.going is.event is.after line entry to new
-        is.come);
+    cause = λ told. subst (λ (given : Changed). EditCause given edit (at_of opening old))
+        (sym is.answer_is) (edit-cause seen (at_of opening old) is.ready
+        (ready-from is.ready is.stays held told) is.going is.event is.after line edit new
+        is.come (is.no_room told));
   }
     where
-      gains : Gained line (Changing entry to (changed_of is.event)) is.ready.file new.file
-      gains = gained-change is.ready.number is.after (utility_unit is.ready.file) line entry
-          is.ready.file new.file refl to is.event is.come.entered
+      gains : Gained line (Editing edit (changed_of is.event)) is.ready.file new.file
+      gains = gained-edit is.ready.number is.after line edit is.ready.file new.file is.event
+          is.come.entered
 
   -- it is held as before
   went-on : (ready new : VolumeNow D) → StaysServing tells seen faults old ready
@@ -405,9 +421,9 @@ module _ {D : Type 0} (tells : Bool) (seen : D → Seen) (faults : D → Faults)
     went-on is.ready new is.stays is.went held,
     count-answers entry counted new held is,
   )
-  answers-by (Changing entry to answer) new held is = (
+  answers-by (Editing edit answer) new held is = (
     went-on is.ready new is.stays is.went held,
-    change-answers entry to answer new held is,
+    edit-answers edit answer new held is,
   )
   answers-by (Reading entry from records answer) new held is = (
     went-on is.ready new is.stays is.went held,

@@ -17,6 +17,8 @@ use Rattle.vr_catalog.specs.Catalog.{entries_in, entry_with_part, parts_in}
 use Rattle.vr_catalog.specs.Entry.{is_entry}
 use Rattle.vr_catalog.specs.Record.{entry_of, spelling}
 use Rattle.vr_catalog.specs.declared.entry.CatEntry.{CatEntry}
+use Rattle.vr_catalog.specs.declared.entry.EntryKind.{EntryKind}
+use Rattle.vr_catalog.specs.declared.entry.EntryKind.TheVariants.{Alternate, Cluster}
 use Rattle.vr_history.specs.Effects.{has_part, placed_in}
 use Rattle.vr_history.specs.Legal.{state_of}
 use Rattle.vr_history.specs.Opened.{catalog_of}
@@ -26,7 +28,8 @@ use Rattle.vr_record_file.specs.Now.{state_now}
 use Rattle.vr_record_file.proofs.MoreEntries.{has_part_more}
 use Rattle.vr_store.specs.Store.{IsSet, IsStored}
 use Rattle.vr_event.specs.Defining.{IsNewCluster, entry_place, entry_with_area}
-use Rattle.vr_event.specs.Volume.{IsHeld, IsServedCluster, IsWhole, VolumeNow}
+use Rattle.vr_edits.specs.Edits.{IsServedEntry}
+use Rattle.vr_event.specs.Volume.{IsHeld, IsWhole, VolumeNow}
 use Rattle.vr_event.proofs.CallerLemmas.{IsNamed, area-entry, area-small, area-startable}
 use Rattle.vr_event.proofs.CallerLemmas.{items-named, none-at, record-spells, unlaid}
 use Rattle.vr_event.proofs.ClusterCatalogs.{entries-with}
@@ -34,6 +37,7 @@ use Rattle.vr_job.specs.Catalogs.{with_spelled}
 use Rattle.vr_job.specs.Committed.{KeepTheCatalog}
 use Rattle.vr_job.proofs.DefineEvents.{begun-of, claim-of}
 use Rattle.vr_job.proofs.DefineImages.{LackNone}
+use Rattle.vr_job.proofs.DefineMade.{same-with}
 use Rattle.vr_job.proofs.UtilityRuns.{still-one}
 
 module _ {B : Type 0} (seen : B → Seen) (opening : State) (volume : VolumeNow B)
@@ -71,14 +75,17 @@ module _ {B : Type 0} (seen : B → Seen) (opening : State) (volume : VolumeNow 
       (area-small geometry area.0 (subst IsAllowed (whole.geometry going) set.allowed) below)
 
   -- it is served
-  new-served : IsServedCluster geometry new
+  new-served : IsServedEntry geometry new
   new-served =
       let allowed : IsAllowed geometry = subst IsAllowed (whole.geometry going) set.allowed in
       record {
-        cluster = is.cluster;
-        plain = (area-startable geometry volume.file.catalog entry is area allowed
+        plain = λ cluster. (area-startable geometry volume.file.catalog entry is area allowed
             (area-small geometry area.0 allowed below)).fits;
+        unbuilt = λ alternate. absurd (no-alternate (sym is.cluster ∙ alternate));
       }
+    where
+      no-alternate : ◌≡◌ {A = EntryKind} Cluster Alternate → ⊥
+      no-alternate same = cc
 
   named : AllByRecursion IsNamed content
   named = items-named volume.number volume.store state (seen volume.blocks) left stored
@@ -127,11 +134,12 @@ module _ {B : Type 0} (seen : B → Seen) (opening : State) (volume : VolumeNow 
             tt,
           );
           served = (
-            λ part. subst (λ (o : Option CatEntry). IfSome o (IsServedCluster geometry))
+            λ part. subst (λ (o : Option CatEntry). IfSome o (IsServedEntry geometry))
                 (sym (record-spells new entry-is)) new-served,
             tt,
           );
           makes = entries-with new entry-is content named absent
+              ∙ same-with new (entries_in content)
               ∙ sym (ap (λ (b : Bool). if b then with_spelled (entry_of (spelling new))
               (entries_in content) else entries_in content) (eq-eqb unit.deck 0 deck)
               ∙ ap (λ (o : Option CatEntry). with_spelled o (entries_in content))

@@ -152,13 +152,16 @@ module _ (volume after line : ℕ) (unit : UnitOfRecovery) (deck : unit.deck ≡
       read = refl;
     }
 
+    early : All IsEarly (claim ∷ add ∷ [])
+    early = All-from_recursion IsEarly (claim ∷ add ∷ []) (early-claim, (early-add, tt))
+
     begun : AreBegun (claim ∷ add ∷ [])
     begun = inr (inl (unit, entry.part, area, bytes, recorded))
 
     done-made : new ≡ file_defined volume after unit line entry area old → now ≡ before → Made
     done-made is same =
         let commit = commit-of volume after line unit entry area old in
-        let one = ended-made line unit deck claim add early-claim early-add begun
+        let one = ended-made line unit deck (claim ∷ add ∷ []) early begun
         (with-add volume after line unit entry area old) old new going before now
         (inl (
           entry.part,
@@ -191,7 +194,7 @@ module _ (volume after line : ℕ) (unit : UnitOfRecovery) (deck : unit.deck ≡
     in-doubt-made is reads rose =
         let refused = refused-of volume after line unit entry area old in
         let fault = fault-of volume after line unit entry area old in
-        let one = doubted-made line unit deck claim add early-claim early-add begun
+        let one = doubted-made line unit deck (claim ∷ add ∷ []) early begun
         (with-add volume after line unit entry area old) old new going before now
         (doubted-entries volume after line unit entry area old new is)
         (ap (λ (f : FileNow). f.geometry) is) reads rose in

@@ -1,8 +1,10 @@
 -- What an event of a definition of a cluster adds to the history of a volume, and what it leaves of
 -- the rest that the record file has in memory.
-use Rattle.std.proofs.Common.{◌≡◌, ◌+◌, ◌<◌, ⊎_elim, ℕ, Bool, true, false, [], ◌∷◌, ◌++◌}
-use Rattle.std.proofs.Common.{Option, Some, None, ap, arith, inl, inr, refl}
+use Rattle.std.proofs.Common.{◌≡◌, ◌∙◌, ◌+◌, ◌<◌, ⊎_elim, ℕ, Bool, true, false, List, [], ◌∷◌, ◌++◌}
+use Rattle.std.proofs.Common.{if◌then◌else◌}
+use Rattle.std.proofs.Common.{All, Option, Some, None, ap, append_assoc, arith, inl, inr, refl}
 use Rattle.std.proofs.Common.{subst, sym}
+use Rattle.std.proofs.lemmas.List.Elements.{All-cons, All-nil}
 use Rattle.std.specs.Prelude.{Result, Ok, Err}
 use Rattle.vr_types.specs.Geometry.{area_count}
 use Rattle.vr_types.specs.declared.fault.DeviceFault.TheVariants.{Read, Write}
@@ -17,12 +19,16 @@ use Rattle.vr_catalog.specs.declared.entry.CatEntry.{CatEntry}
 use Rattle.vr_history.proofs.CallerLemmas.{last_stamp-append}
 use Rattle.vr_history.specs.declared.entry.Entry.{Entry}
 use Rattle.vr_history.specs.declared.entry.What.TheVariants.{Asked, Claimed}
+use Rattle.vr_ams_define.specs.Grown.{IsOfCommand}
 use Rattle.vr_record_file.specs.Defining.{added}
 use Rattle.vr_record_file.specs.Now.{FileNow, entry_next}
 use Rattle.vr_record_file.specs.Now.{with_event}
 use Rattle.vr_event.specs.Defining.{IsDefineEntered, entry_add, entry_place}
 use Rattle.vr_event.specs.Defining.{entry_with_area, file_defined, file_in_doubt, utility_unit}
 use Rattle.vr_event.specs.Defining.{with_cluster}
+use Rattle.vr_edits.specs.Edits.{with_entry}
+use Rattle.std.specs.Ordering.{is_lt}
+use Rattle.vr_types.specs.Content.{place_cmp}
 use Rattle.vr_event.specs.declared.define.Define.{Define}
 use Rattle.vr_event.specs.declared.define.Define.TheVariants.{Again, Done, Fault, Full, Held}
 use Rattle.vr_event.specs.declared.define.Define.TheVariants.{NoArea, NoRoom}
@@ -43,6 +49,14 @@ has_failed (Ok Full) = false
 has_failed (Ok (Fault Read)) = false
 has_failed (Ok (Fault Write)) = true
 has_failed (Err why) = false
+
+-- the catalog with one cluster more is that with its entry
+pub same-with : (new : CatEntry) (entries : List CatEntry)
+    → with_cluster new entries ≡ with_entry new entries
+same-with new [] = refl
+same-with new (entry ∷ entries) = ap (λ (rest : List CatEntry).
+    if is_lt (place_cmp (entry_place new) (entry_place entry)) then new ∷ entry ∷ entries
+    else entry ∷ rest) (same-with new entries)
 
 module _ (after line : ℕ) (old : FileNow) where
   abbrev unit : UnitOfRecovery
@@ -93,33 +107,32 @@ module _ (after line : ℕ) (old : FileNow) where
 
     catalog-made : with_cluster new old.catalog
         ≡ with_spelled (entry_of (spelling new)) old.catalog
-    catalog-made = ap (λ (o : Option CatEntry). with_spelled o old.catalog) (sym spells)
+    catalog-made = same-with new old.catalog
+        ∙ ap (λ (o : Option CatEntry). with_spelled o old.catalog) (sym spells)
 
-    begun-by : IsBegunBy after line old recorded claim record-of
+    begun-by : IsBegunBy after line old recorded (claim ∷ record-of ∷ [])
     begun-by = record {
-      entries = refl;
-      first_next = refl;
-      second_next = record-next;
-      first_own = (refl, refl);
-      second_own = (refl, refl);
+      entries = append_assoc old.entries (claim ∷ []) (record-of ∷ []);
+      next = (refl, (record-next, tt));
+      last = last_stamp-append 0 (old.entries ++ claim ∷ []) record-of;
+      own = All-cons (IsOfCommand line) claim (record-of ∷ []) (refl, refl)
+          (All-cons (IsOfCommand line) record-of [] (refl, refl) (All-nil (IsOfCommand line)));
       geometry = refl;
       catalog = catalog-made;
       numbers = refl;
       stopped = refl;
-      first_read = refl;
-      second_read = refl;
-      first_goes = refl;
-      second_goes = refl;
+      unread = refl;
+      goes = refl;
       shows = recorded-shows;
     }
 
     made-defined : HasMadeBy false after line old
         (file_defined volume after unit line entry area old)
-    made-defined = made-ended after line old recorded claim record-of begun-by
+    made-defined = made-ended after line old recorded (claim ∷ record-of ∷ []) begun-by
 
     made-doubted : HasMadeBy true after line old
         (file_in_doubt volume after unit line entry area old)
-    made-doubted = made-in-doubt after line old recorded claim record-of begun-by
+    made-doubted = made-in-doubt after line old recorded (claim ∷ record-of ∷ []) begun-by
 
   -- ---- by what it came to
 

@@ -1,31 +1,33 @@
 -- Volumes as they were formatted: each opens again.
-use Rattle.std.proofs.Common.{ℕ, List, [], ◌∷◌}
+use Rattle.std.proofs.Common.{◌≡◌, ◌∙◌, ℕ, List, sym}
 use Rattle.std.specs.Prelude.{All}
-use Rattle.std.proofs.lemmas.List.Elements.{All-head, All-tail}
+use Rattle.std.proofs.lemmas.List.Elements.{All-weaker}
 use Rattle.vr_types.specs.Geometry.{IsAllowed}
 use Rattle.vr_types.specs.Image.{Image}
 use Rattle.vr_types.specs.Seen.{Seen}
 use Rattle.vr_types.specs.declared.geometry.Geometry.{Geometry}
 use Rattle.vr_catalog.specs.Catalog.{entries_in}
 use Rattle.vr_catalog.specs.declared.entry.CatEntry.{CatEntry}
-use Rattle.vr_event.specs.Volume.{AreServedClusters}
+use Rattle.vr_catalog.specs.declared.entry.EntryKind.{EntryKind}
+use Rattle.vr_catalog.specs.declared.entry.EntryKind.TheVariants.{Alternate, Cluster}
+use Rattle.vr_edits.specs.Edits.{IsServedEntry}
 use Rattle.vr_format.specs.Fit.{IsFormattedWith}
 use Rattle.vr_format.specs.Formatted.{IsFormatted, IsPlainCluster, catalog_of, contents_of}
 use Rattle.vr_format.specs.Formatted.{first_entries}
 use Rattle.vr_format.proofs.CallerLemmas.{first-plain, formatted-recovers, taken-plain}
 use Rattle.vr_job.specs.OpensAgain.{OpensAgain}
-use Rattle.vr_job.proofs.Served.{are-served}
 use Rattle.vr_job.proofs.ServedRuns.{recovered-opens}
 
-plain-served : (geometry : Geometry) (entries : List CatEntry)
-    → All (IsPlainCluster geometry) entries → AreServedClusters geometry entries
-plain-served geometry [] plain = tt
-plain-served geometry (entry ∷ entries) plain =
-    let one : IsPlainCluster geometry entry =
-    All-head (IsPlainCluster geometry) entry entries plain in (
-      record { cluster = one.0; plain = one.1 },
-      plain-served geometry entries (All-tail (IsPlainCluster geometry) entry entries plain),
-    )
+-- a plain cluster is served
+plain-served : (geometry : Geometry) (entry : CatEntry) → IsPlainCluster geometry entry
+    → IsServedEntry geometry entry
+plain-served geometry entry is = record {
+  plain = λ cluster. is.1;
+  unbuilt = λ alternate. absurd (no-alternate (sym is.0 ∙ alternate));
+}
+  where
+    no-alternate : ◌≡◌ {A = EntryKind} Cluster Alternate → ⊥
+    no-alternate same = cc
 
 module _ {D : Type 0} (seen : D → Seen) (geometry : Geometry) (number : ℕ)
     (allowed : IsAllowed geometry) where
@@ -36,8 +38,8 @@ module _ {D : Type 0} (seen : D → Seen) (geometry : Geometry) (number : ℕ)
   formatted-opens entries image formatted plain =
       recovered-opens seen geometry number allowed (contents_of entries) image
       (formatted-recovers geometry number entries image formatted)
-      (are-served geometry (entries_in (catalog_of entries))
-      (plain-served geometry (entries_in (catalog_of entries)) plain))
+      (All-weaker (IsPlainCluster geometry) (IsServedEntry geometry) (plain-served geometry)
+      (entries_in (catalog_of entries)) plain)
 
   pub first-opens : (image : Image) → IsFormatted geometry number (first_entries number) image
       → OpensAgain seen geometry number image

@@ -4,7 +4,7 @@ use Rattle.std.proofs.Common.{◌≡◌, ◌∙◌, ⊎_elim, inl, inr, ℕ, Boo
 use Rattle.std.proofs.Common.{◌++◌, Option, Some, None, append_assoc, ap, refl, sym}
 use Rattle.std.specs.Prelude.{All}
 use Rattle.std.proofs.lemmas.List.{append-nil}
-use Rattle.std.proofs.lemmas.List.Elements.{All-cons, All-nil}
+use Rattle.std.proofs.lemmas.List.Elements.{All-append, All-cons, All-nil}
 use Rattle.vr_types.specs.declared.fault.DeviceFault.TheVariants.{Read, Write}
 use Rattle.vr_types.specs.declared.reply.Refusal.TheVariants.{WriteFault}
 use Rattle.vr_types.specs.declared.reply.Reply.TheVariants as replies
@@ -14,13 +14,14 @@ use Rattle.vr_types.specs.declared.unit.AreaNo.{AreaNo}
 use Rattle.vr_types.specs.declared.unit.Unit.{Unit as UnitOfRecovery}
 use Rattle.vr_catalog.specs.Record.{spelling}
 use Rattle.vr_catalog.specs.declared.entry.CatEntry.{CatEntry}
+use Rattle.vr_edits.specs.declared.edit.CatalogEdit.{CatalogEdit}
 use Rattle.vr_history.specs.declared.entry.Entry.{Entry}
 use Rattle.vr_history.specs.declared.entry.What.{What}
 use Rattle.vr_history.specs.declared.entry.What.TheVariants.{Asked, Claimed, Faulted, Split}
-use Rattle.vr_record_file.specs.EntryChange.{change_asked}
-use Rattle.vr_record_file.specs.Now.{FileNow, entry_next, faulted}
+use Rattle.vr_record_file.specs.Now.{FileNow, entry_next, faulted, number_of}
 use Rattle.vr_ams_define.specs.Answers.{Exchange}
-use Rattle.vr_ams_define.specs.Answers.Exchange.{Changing, Counting, Defining, Reading}
+use Rattle.vr_ams_define.specs.Answers.Exchange.{Counting, Defining, Editing, Reading}
+use Rattle.vr_ams_define.specs.declared.answer.Changed.{Changed}
 use Rattle.vr_ams_define.specs.declared.answer.Changed.TheVariants as changes
 use Rattle.vr_ams_define.specs.declared.answer.Counted.TheVariants as counts
 use Rattle.vr_ams_define.specs.declared.answer.Defined.TheVariants as answers
@@ -28,25 +29,27 @@ use Rattle.vr_ams_define.specs.declared.answer.ReadBack.TheVariants as reads
 use Rattle.vr_ams_define.specs.Grown.{IsOfCommand}
 use Rattle.vr_ams_define.specs.NewCluster.{with_area}
 use Rattle.vr_event.specs.Counts.{CountedBy}
-use Rattle.vr_event.specs.Defining.{EnteredBy, catalog_file, catalog_part, entry_add}
+use Rattle.vr_event.specs.Defining.{EnteredBy, catalog_file, catalog_part, entry_add, utility_unit}
 use Rattle.vr_event.specs.Defining.{entry_place, entry_with_area, file_defined, file_in_doubt}
-use Rattle.vr_event.specs.EntryChange.{EnteredChange, entry_get, entry_request}
-use Rattle.vr_event.specs.EntryChange.{file_change_in_doubt, file_changed}
+use Rattle.vr_event.specs.CatalogEdit.{EnteredEdit, file_edit_in_doubt, file_edited}
 use Rattle.vr_event.specs.Reading.{ReadBy}
 use Rattle.vr_event.specs.Staging.{stage_entered}
 use Rattle.vr_event.specs.declared.counts.Count.{Count}
 use Rattle.vr_event.specs.declared.counts.Count.TheVariants as counting
 use Rattle.vr_event.specs.declared.define.Define.{Define}
 use Rattle.vr_event.specs.declared.define.Define.TheVariants as events
-use Rattle.vr_event.specs.declared.entry_change.EntryChange.{EntryChange}
-use Rattle.vr_event.specs.declared.entry_change.EntryChange.TheVariants as changing
+use Rattle.vr_event.specs.declared.edit.Edit.{Edit}
+use Rattle.vr_event.specs.declared.edit.Edit.TheVariants as edits
 use Rattle.vr_event.specs.declared.reading.ReadThrough.{ReadThrough}
 use Rattle.vr_event.specs.declared.reading.ReadThrough.TheVariants as readings
 use Rattle.vr_trace.specs.Visitors.{Visited}
 use Rattle.vr_job.specs.Answering.{answer_of, changed_of, counted_of, read_back_of}
-use Rattle.vr_job.specs.Definitions.{IsCatalogStage, IsRecorded, IsReplaced}
+use Rattle.vr_job.specs.Definitions.{IsCatalogStage, IsRecorded}
 use Rattle.vr_job.specs.Events.{IsStop}
-use Rattle.vr_job.specs.Reported.{MadeBy, numbers_of, record_of}
+use Rattle.vr_job.specs.Reported.{EditedBy, MadeBy, numbers_of}
+use Rattle.vr_job.proofs.EditEntries.{answered_in, entries-own}
+use Rattle.vr_job.proofs.EditEvents.{changed-begun, changed-of, commit-of, doubted-entries, edit-is}
+use Rattle.vr_job.proofs.EditEvents.{edited-entries, fault-of, refused-of}
 
 -- ---- histories that grow by an entry at a time
 
@@ -64,12 +67,6 @@ four-more : (entries : List Entry) (a b c d : Entry)
 four-more entries a b c d = three-more (entries ++ a ∷ []) b c d
     ∙ append_assoc entries (a ∷ []) (b ∷ c ∷ d ∷ [])
 
--- the request that changes the record is by the bytes of the new one, or none
-same-request : (volume : ℕ) (to : Option CatEntry)
-    → entry_request volume to ≡ change_asked (catalog_file volume) (record_of to)
-same-request volume None = refl
-same-request volume (Some new) = refl
-
 -- what a history gained by a command on this line, and how it answers by it
 pub record Gained (line : ℕ) (exchange : Exchange) (old new : FileNow) : Type 0 where
   pub made : List Entry
@@ -79,8 +76,8 @@ pub record Gained (line : ℕ) (exchange : Exchange) (old new : FileNow) : Type 
 
 -- ---- one event
 
-module _ (volume after : ℕ) (unit : UnitOfRecovery) (line : ℕ) (entry : CatEntry)
-    (old new : FileNow) (of_utilities : unit.deck ≡ 0) where
+module _ (after : ℕ) (unit : UnitOfRecovery) (line : ℕ) (old new : FileNow)
+    (of_utilities : unit.deck ≡ 0) where
   -- all that it enters is of its unit and its line
   own-more : (before : List Entry) (last : ℕ) (what : What) (others : List Entry)
       → All (IsOfCommand line) others
@@ -90,104 +87,6 @@ module _ (volume after : ℕ) (unit : UnitOfRecovery) (line : ℕ) (entry : CatE
 
   own-none : All (IsOfCommand line) []
   own-none = All-nil (IsOfCommand line)
-
-  module _ (area : AreaNo) where
-    abbrev cluster : CatEntry
-    cluster = entry_with_area entry area
-
-    -- the entry of the area, that of the record, and what is entered after both
-    abbrev claims : What
-    claims = Claimed entry.part area
-
-    abbrev claim : Entry
-    claim = entry_next old.entries after unit line claims
-
-    abbrev claimed : List Entry
-    claimed = old.entries ++ claim ∷ []
-
-    abbrev adds : What
-    adds = Asked (entry_add volume cluster) (replies.Done 0 (Some (entry_place cluster)) None)
-
-    abbrev add : Entry
-    add = entry_next claimed 0 unit line adds
-
-    abbrev added : List Entry
-    added = claimed ++ add ∷ []
-
-    own-both : (others : List Entry) → All (IsOfCommand line) others
-        → All (IsOfCommand line) (claim ∷ add ∷ others)
-    own-both others own = own-more old.entries after claims (add ∷ others)
-        (own-more claimed 0 adds others own)
-
-    recorded : IsRecorded unit entry.part area (spelling (with_area area entry)) (claim ∷ add ∷ [])
-    recorded = record {
-      claim = claim;
-      add = add;
-      made_are = refl;
-      of_utilities = of_utilities;
-      claim_unit = refl;
-      add_unit = refl;
-      claim_is = refl;
-      file = catalog_file volume;
-      catalog = refl;
-      place = entry_place cluster;
-      add_is = refl;
-    }
-
-    abbrev commits : What
-    commits = Asked Commit (replies.Done 0 None None)
-
-    abbrev commit : Entry
-    commit = entry_next added 0 unit line commits
-
-    done : new ≡ file_defined volume after unit line entry area old
-        → Gained line (Defining entry (answers.Done area)) old new
-    done leaves = record {
-      made = claim ∷ add ∷ commit ∷ [];
-      entries_are = ap (λ (file : FileNow). file.entries) leaves
-          ∙ three-more old.entries claim add commit;
-      own = own-both (commit ∷ []) (own-more added 0 commits [] own-none);
-      by = record {
-        unit = unit;
-        first = claim ∷ add ∷ [];
-        recorded = recorded;
-        commit = commit;
-        made_are = refl;
-        commit_unit = refl;
-        commit_is = refl;
-      };
-    }
-
-    abbrev fails : What
-    fails = Asked Commit (replies.Refused WriteFault)
-
-    abbrev failing : Entry
-    failing = entry_next added 0 unit line fails
-
-    abbrev fault : Entry
-    fault = entry_next (added ++ failing ∷ []) 0 unit line (Faulted Write)
-
-    in-doubt : new ≡ file_in_doubt volume after unit line entry area old
-        → Gained line (Defining entry (answers.Fault Write)) old new
-    in-doubt leaves = record {
-      made = claim ∷ add ∷ failing ∷ fault ∷ [];
-      entries_are = ap (λ (file : FileNow). file.entries) leaves
-          ∙ four-more old.entries claim add failing fault;
-      own = own-both (failing ∷ fault ∷ []) (own-more added 0 fails (fault ∷ [])
-          (own-more (added ++ failing ∷ []) 0 (Faulted Write) [] own-none));
-      by = inl (record {
-        before = claim ∷ add ∷ [];
-        begun = inr (inl (unit, entry.part, area, spelling (with_area area entry), recorded));
-        request = Commit;
-        failing = failing;
-        fault = fault;
-        made_are = refl;
-        failing_is = refl;
-        fault_is = refl;
-        unit_is = refl;
-        line_is = refl;
-      });
-    }
 
   -- ---- a fault of a write alone, nothing, and stages of the catalog
 
@@ -243,154 +142,216 @@ module _ (volume after : ℕ) (unit : UnitOfRecovery) (line : ℕ) (entry : CatE
   stage exchange stages false None leaves =
       nothing exchange (stages [] (All-nil IsCatalogStage)) leaves
 
-  -- ---- a definition, whatever it came to
+  -- ---- a definition
 
-  pub gained : (event : Define) → EnteredBy event volume after unit line entry old new
-      → Gained line (Defining entry (answer_of event)) old new
-  gained (events.Done area) is = done area is
-  gained events.Again is =
-      stage (Defining entry answers.Again) (λ made stages. stages) is.0 is.1 is.2
-  gained events.NoArea is = nothing (Defining entry answers.NoArea) refl is
-  gained events.NoRoom is = nothing (Defining entry answers.NoRoom) refl is
-  gained events.Held is = nothing (Defining entry answers.Held) refl is
-  gained events.Full is = nothing (Defining entry answers.Full) refl is
-  gained (events.Fault Read) is = nothing (Defining entry (answers.Fault Read)) refl is
-  gained (events.Fault Write) is = ⊎_elim
-      (alone (Defining entry (answers.Fault Write)) (λ made stop. stop))
-      (λ doubt. in-doubt doubt.0 doubt.1) is
+  module _ (volume : ℕ) (entry : CatEntry) where
+    module _ (area : AreaNo) where
+      abbrev cluster : CatEntry
+      cluster = entry_with_area entry area
+
+      -- the entry of the area, that of the record, and what is entered after both
+      abbrev claims : What
+      claims = Claimed entry.part area
+
+      abbrev claim : Entry
+      claim = entry_next old.entries after unit line claims
+
+      abbrev claimed : List Entry
+      claimed = old.entries ++ claim ∷ []
+
+      abbrev adds : What
+      adds = Asked (entry_add volume cluster) (replies.Done 0 (Some (entry_place cluster)) None)
+
+      abbrev add : Entry
+      add = entry_next claimed 0 unit line adds
+
+      abbrev added : List Entry
+      added = claimed ++ add ∷ []
+
+      own-both : (others : List Entry) → All (IsOfCommand line) others
+          → All (IsOfCommand line) (claim ∷ add ∷ others)
+      own-both others own = own-more old.entries after claims (add ∷ others)
+          (own-more claimed 0 adds others own)
+
+      recorded : IsRecorded unit entry.part area (spelling (with_area area entry)) (claim ∷ add ∷ [])
+      recorded = record {
+        claim = claim;
+        add = add;
+        made_are = refl;
+        of_utilities = of_utilities;
+        claim_unit = refl;
+        add_unit = refl;
+        claim_is = refl;
+        file = catalog_file volume;
+        catalog = refl;
+        place = entry_place cluster;
+        add_is = refl;
+      }
+
+      abbrev commits : What
+      commits = Asked Commit (replies.Done 0 None None)
+
+      abbrev commit : Entry
+      commit = entry_next added 0 unit line commits
+
+      done : new ≡ file_defined volume after unit line entry area old
+          → Gained line (Defining entry (answers.Done area)) old new
+      done leaves = record {
+        made = claim ∷ add ∷ commit ∷ [];
+        entries_are = ap (λ (file : FileNow). file.entries) leaves
+            ∙ three-more old.entries claim add commit;
+        own = own-both (commit ∷ []) (own-more added 0 commits [] own-none);
+        by = record {
+          unit = unit;
+          first = claim ∷ add ∷ [];
+          recorded = recorded;
+          commit = commit;
+          made_are = refl;
+          commit_unit = refl;
+          commit_is = refl;
+        };
+      }
+
+      abbrev fails : What
+      fails = Asked Commit (replies.Refused WriteFault)
+
+      abbrev failing : Entry
+      failing = entry_next added 0 unit line fails
+
+      abbrev fault : Entry
+      fault = entry_next (added ++ failing ∷ []) 0 unit line (Faulted Write)
+
+      in-doubt : new ≡ file_in_doubt volume after unit line entry area old
+          → Gained line (Defining entry (answers.Fault Write)) old new
+      in-doubt leaves = record {
+        made = claim ∷ add ∷ failing ∷ fault ∷ [];
+        entries_are = ap (λ (file : FileNow). file.entries) leaves
+            ∙ four-more old.entries claim add failing fault;
+        own = own-both (failing ∷ fault ∷ []) (own-more added 0 fails (fault ∷ [])
+            (own-more (added ++ failing ∷ []) 0 (Faulted Write) [] own-none));
+        by = inl (record {
+          before = claim ∷ add ∷ [];
+          begun = inr (inl (unit, entry.part, area, spelling (with_area area entry), recorded));
+          request = Commit;
+          failing = failing;
+          fault = fault;
+          made_are = refl;
+          failing_is = refl;
+          fault_is = refl;
+          unit_is = refl;
+          line_is = refl;
+        });
+      }
+
+    -- ---- a definition, whatever it came to
+
+    pub gained : (event : Define) → EnteredBy event volume after unit line entry old new
+        → Gained line (Defining entry (answer_of event)) old new
+    gained (events.Done area) is = done area is
+    gained events.Again is =
+        stage (Defining entry answers.Again) (λ made stages. stages) is.0 is.1 is.2
+    gained events.NoArea is = nothing (Defining entry answers.NoArea) refl is
+    gained events.NoRoom is = nothing (Defining entry answers.NoRoom) refl is
+    gained events.Held is = nothing (Defining entry answers.Held) refl is
+    gained events.Full is = nothing (Defining entry answers.Full) refl is
+    gained (events.Fault Read) is = nothing (Defining entry (answers.Fault Read)) refl is
+    gained (events.Fault Write) is = ⊎_elim
+        (alone (Defining entry (answers.Fault Write)) (λ made stop. stop))
+        (λ doubt. in-doubt doubt.0 doubt.1) is
 
   -- ---- and a count
 
-  pub gained-count : (event : Count) → CountedBy event after unit line old new
+  pub gained-count : (entry : CatEntry) (event : Count) → CountedBy event after unit line old new
       → Gained line (Counting entry (counted_of event)) old new
-  gained-count (counting.Counted found) is =
+  gained-count entry (counting.Counted found) is =
       nothing (Counting entry (counts.Done (numbers_of found))) refl is
-  gained-count (counting.Fault Read) is = nothing (Counting entry (counts.Fault Read)) refl is
-  gained-count (counting.Fault Write) is =
+  gained-count entry (counting.Fault Read) is = nothing (Counting entry (counts.Fault Read)) refl is
+  gained-count entry (counting.Fault Write) is =
       alone (Counting entry (counts.Fault Write)) (λ made stop. stop) is
 
   -- ---- and a reading
 
-  pub gained-read : (from : Option (List ℕ)) (records : List Visited) (event : ReadThrough)
+  pub gained-read : (entry : CatEntry) (from : Option (List ℕ)) (records : List Visited)
+      (event : ReadThrough)
       → ReadBy event after unit line old new
       → Gained line (Reading entry from records (read_back_of event)) old new
-  gained-read from records readings.Done is =
+  gained-read entry from records readings.Done is =
       nothing (Reading entry from records reads.Done) refl is
-  gained-read from records (readings.Fault Read) is =
+  gained-read entry from records (readings.Fault Read) is =
       nothing (Reading entry from records (reads.Fault Read)) refl is
-  gained-read from records (readings.Fault Write) is =
+  gained-read entry from records (readings.Fault Write) is =
       alone (Reading entry from records (reads.Fault Write)) (λ made stop. stop) is
 
-  -- ---- and a change
+-- ---- and an edit
 
-  module _ (to : Option CatEntry) where
-    abbrev gets : What
-    gets = Asked (entry_get volume entry)
-        (replies.Done 0 (Some (entry_place entry)) (Some (spelling entry)))
+module _ (volume after line : ℕ) (edit : CatalogEdit) (old new : FileNow) where
+  abbrev utilities : UnitOfRecovery
+  utilities = utility_unit old
 
-    -- the entry of the GET, that of the change, and what is entered after both
-    abbrev got : Entry
-    got = entry_next old.entries after unit line gets
+  abbrev changed : List Entry
+  changed = changed-of volume after line edit old
 
-    abbrev read : List Entry
-    read = old.entries ++ got ∷ []
+  own-changed : All (IsOfCommand line) changed
+  own-changed = entries-own (number_of old.numbers 0) line (answered_in volume edit) after
+      old.entries
 
-    abbrev asks : What
-    asks = Asked (entry_request volume to) (replies.Done 0 (Some (entry_place entry)) None)
+  abbrev committed : Entry
+  committed = commit-of volume after line edit old
 
-    abbrev change : Entry
-    change = entry_next read 0 unit line asks
+  edited : new ≡ file_edited volume after utilities line edit old
+      → Gained line (Editing edit changes.Done) old new
+  edited leaves = record {
+    made = changed ++ committed ∷ [];
+    entries_are = edited-entries volume after line edit old new leaves;
+    own = All-append (IsOfCommand line) changed (committed ∷ []) own-changed
+        (All-cons (IsOfCommand line) committed [] (refl, refl) (All-nil (IsOfCommand line)));
+    by = edit-is volume after line edit old;
+  }
 
-    abbrev changed : List Entry
-    changed = read ++ change ∷ []
+  abbrev refused : Entry
+  refused = refused-of volume after line edit old
 
-    own-change : (others : List Entry) → All (IsOfCommand line) others
-        → All (IsOfCommand line) (got ∷ change ∷ others)
-    own-change others own = own-more old.entries after gets (change ∷ others)
-        (own-more read 0 asks others own)
+  abbrev stopping : Entry
+  stopping = fault-of volume after line edit old
 
-    replaced : IsReplaced unit (entry_place entry) (spelling entry) (record_of to)
-        (got ∷ change ∷ [])
-    replaced = record {
-      got = got;
-      change = change;
+  edit-in-doubt : new ≡ file_edit_in_doubt volume after utilities line edit old
+      → Gained line (Editing edit (changes.Fault Write)) old new
+  edit-in-doubt leaves = record {
+    made = changed ++ refused ∷ stopping ∷ [];
+    entries_are = doubted-entries volume after line edit old new leaves;
+    own = All-append (IsOfCommand line) changed (refused ∷ stopping ∷ []) own-changed
+        (All-cons (IsOfCommand line) refused (stopping ∷ []) (refl, refl)
+        (All-cons (IsOfCommand line) stopping [] (refl, refl) (All-nil (IsOfCommand line))));
+    by = inl (record {
+      before = changed;
+      begun = changed-begun volume after line edit old;
+      request = Commit;
+      failing = refused;
+      fault = stopping;
       made_are = refl;
-      of_utilities = of_utilities;
-      got_unit = refl;
-      change_unit = refl;
-      file = catalog_file volume;
-      catalog = refl;
-      got_is = refl;
-      change_is = ap (λ (request : Request).
-          Asked request (replies.Done 0 (Some (entry_place entry)) None)) (same-request volume to);
-    }
+      failing_is = refl;
+      fault_is = refl;
+      unit_is = refl;
+      line_is = refl;
+    });
+  }
 
-    abbrev last : Entry
-    last = entry_next changed 0 unit line (Asked Commit (replies.Done 0 None None))
+  unchanged : (answer : Changed) → EditedBy answer edit [] → new ≡ old
+      → Gained line (Editing edit answer) old new
+  unchanged answer none same =
+      nothing after utilities line old new refl (Editing edit answer) none same
 
-    change-done : new ≡ file_changed volume after unit line entry to old
-        → Gained line (Changing entry to changes.Done) old new
-    change-done leaves = record {
-      made = got ∷ change ∷ last ∷ [];
-      entries_are = ap (λ (file : FileNow). file.entries) leaves
-          ∙ three-more old.entries got change last;
-      own = own-change (last ∷ [])
-          (own-more changed 0 (Asked Commit (replies.Done 0 None None)) [] own-none);
-      by = record {
-        unit = unit;
-        place = entry_place entry;
-        first = got ∷ change ∷ [];
-        replaced = replaced;
-        commit = last;
-        made_are = refl;
-        commit_unit = refl;
-        commit_is = refl;
-      };
-    }
-
-    abbrev fails-last : What
-    fails-last = Asked Commit (replies.Refused WriteFault)
-
-    abbrev failing-last : Entry
-    failing-last = entry_next changed 0 unit line fails-last
-
-    abbrev fault-last : Entry
-    fault-last = entry_next (changed ++ failing-last ∷ []) 0 unit line (Faulted Write)
-
-    change-in-doubt : new ≡ file_change_in_doubt volume after unit line entry to old
-        → Gained line (Changing entry to (changes.Fault Write)) old new
-    change-in-doubt leaves = record {
-      made = got ∷ change ∷ failing-last ∷ fault-last ∷ [];
-      entries_are = ap (λ (file : FileNow). file.entries) leaves
-          ∙ four-more old.entries got change failing-last fault-last;
-      own = own-change (failing-last ∷ fault-last ∷ []) (own-more changed 0 fails-last
-          (fault-last ∷ [])
-          (own-more (changed ++ failing-last ∷ []) 0 (Faulted Write) [] own-none));
-      by = inl (record {
-        before = got ∷ change ∷ [];
-        begun = inr (inr (unit, entry_place entry, spelling entry, record_of to, replaced));
-        request = Commit;
-        failing = failing-last;
-        fault = fault-last;
-        made_are = refl;
-        failing_is = refl;
-        fault_is = refl;
-        unit_is = refl;
-        line_is = refl;
-      });
-    }
-
-    pub gained-change : (event : EntryChange)
-        → EnteredChange event volume after unit line entry to old new
-        → Gained line (Changing entry to (changed_of event)) old new
-    gained-change changing.Done is = change-done is
-    gained-change changing.Again is =
-        stage (Changing entry to changes.Again) (λ made stages. stages) is.0 is.1 is.2
-    gained-change changing.Held is = nothing (Changing entry to changes.Held) refl is
-    gained-change changing.Live is = nothing (Changing entry to changes.Live) refl is
-    gained-change changing.Full is = nothing (Changing entry to changes.Full) refl is
-    gained-change (changing.Fault Read) is =
-        nothing (Changing entry to (changes.Fault Read)) refl is
-    gained-change (changing.Fault Write) is = ⊎_elim
-        (alone (Changing entry to (changes.Fault Write)) (λ made stop. stop))
-        change-in-doubt is
+  pub gained-edit : (event : Edit)
+      → EnteredEdit event volume after utilities line edit old new
+      → Gained line (Editing edit (changed_of event)) old new
+  gained-edit edits.Done is = edited is
+  gained-edit edits.Again is = stage after utilities line old new refl (Editing edit changes.Again)
+      (λ made stages. stages) is.0 is.1 is.2
+  gained-edit edits.NoRoom is = unchanged changes.NoRoom refl is
+  gained-edit edits.Held is = unchanged changes.Held refl is
+  gained-edit edits.Live is = unchanged changes.Live refl is
+  gained-edit edits.Full is = unchanged changes.Full refl is
+  gained-edit (edits.Fault Read) is = unchanged (changes.Fault Read) refl is
+  gained-edit (edits.Fault Write) is = ⊎_elim
+      (alone after utilities line old new refl (Editing edit (changes.Fault Write))
+      (λ made stop. stop)) edit-in-doubt is

@@ -2,7 +2,6 @@ pub mod Sending
 pub mod VolumeRuns
 pub mod ShelfRuns
 pub mod Shelves
-pub mod Served
 pub mod Readying
 pub mod Crashing
 pub mod DeckEvents
@@ -22,12 +21,13 @@ pub mod DefineShown
 pub mod Defining
 pub mod CountEvents
 pub mod ReadEvents
-pub mod ChangeMade
-pub mod ChangeEvents
-pub mod ChangeCatalog
-pub mod ChangeRuns
-pub mod ChangeShown
-pub mod ChangeGoing
+pub mod EditEntries
+pub mod EditMade
+pub mod EditEvents
+pub mod EditCatalog
+pub mod EditRuns
+pub mod EditShown
+pub mod EditGoing
 pub mod Effects
 pub mod CatalogChanges
 pub mod CatalogEntries

@@ -6,6 +6,7 @@ use Rattle.std.specs.List.{AllByRecursion, IsDistinct, cons_option, filter_map, 
 use Rattle.std.specs.Option.{option_and_then}
 use Rattle.std.proofs.lemmas.Bool.Decides.{Decides-eqb}
 use Rattle.std.proofs.lemmas.List.Elements.{All-cons, All-head, All-map, All-nil, All-tail}
+use Rattle.std.proofs.lemmas.List.Elements.{recursion_from_All}
 use Rattle.std.proofs.lemmas.Option.{get_or_from_slice_get, slice_get_within}
 use Rattle.vr_types.specs.Content.{Content}
 use Rattle.vr_types.specs.Geometry.{IsAllowed, area_count}
@@ -18,6 +19,7 @@ use Rattle.vr_space.specs.Part.{IsAtRest, IsOn, OwnsChain, Shape, owned_count, p
 use Rattle.vr_mount.specs.Areas.{AreOwners}
 use Rattle.vr_catalog.specs.Catalog.{cluster_definition, entries_in, entry_with_part, parts_in}
 use Rattle.vr_catalog.specs.declared.entry.CatEntry.{CatEntry}
+use Rattle.vr_edits.specs.Edits.{IsServedEntry}
 use Rattle.vr_catalog.specs.declared.entry.EntryKind.{EntryKind}
 use Rattle.vr_catalog.specs.declared.entry.EntryKind.TheVariants.{Cluster, Alternate, Path}
 use Rattle.vr_history.specs.Effects.{has_areas, has_part, parts_laid}
@@ -52,14 +54,13 @@ use Rattle.vr_history.specs.State.{State}
 use Rattle.vr_record_file.specs.Now.{state_now}
 use Rattle.vr_volume.specs.Crashes.{RecoversTo}
 use Rattle.vr_volume.specs.Safe.{IsSafe}
-use Rattle.vr_event.specs.Volume.{AreServedClusters, IsHeld, IsWhole, OwnLaid, VolumeNow}
+use Rattle.vr_event.specs.Volume.{IsHeld, IsWhole, OwnLaid, VolumeNow}
 use Rattle.vr_store.proofs.CallerLemmas.{idle-guards}
 use Rattle.vr_job.specs.Committed.{KeepTheCatalog}
 use Rattle.vr_job.specs.Going.{HasRun}
 use Rattle.vr_job.specs.Crash.{IsLeftBy}
 use Rattle.vr_job.specs.Crash.IsLeftAt.{Counted}
 use Rattle.vr_job.specs.Opened.{IsReady, IsReadyFrom, opened_now}
-use Rattle.vr_job.proofs.Served.{served-clusters}
 
 -- ---- lists
 
@@ -349,7 +350,7 @@ module _ (geometry : Geometry) (entries : List CatEntry) (owned : List AnyPart) 
     laid = handed-laid;
     records = handed.records;
     sound = handed.sound;
-    clusters = served-clusters geometry entries handed.clusters handed.plain;
+    served = recursion_from_All (IsServedEntry geometry) entries handed.served;
     owned = handed-owned;
   }
 

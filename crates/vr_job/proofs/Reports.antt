@@ -2,7 +2,8 @@
 -- was opened.
 use Rattle.std.proofs.Common.{◌≡◌, ◌∙◌, ⊎_elim, inl, inr, ℕ, Bool, true, false, List, [], ◌∷◌}
 use Rattle.std.proofs.Common.{Option, Some, ap, length, map, refl, subst, sym}
-use Rattle.std.specs.Prelude.{◌&&◌, Err, None, Ok, is_some, not}
+use Rattle.std.specs.Prelude.{◌&&◌, Err, None, Ok, codes, not}
+use Rattle.std.specs.Option.{option_map_or}
 use Rattle.vr_types.specs.declared.geometry.Geometry.{Geometry}
 use Rattle.vr_types.specs.declared.unit.Kind.{Kind}
 use Rattle.vr_amsparse.specs.declared.command.Command.{Command}
@@ -12,12 +13,14 @@ use Rattle.vr_amsparse.specs.declared.command.DeleteCommand.{DeleteCommand}
 use Rattle.vr_amsparse.specs.declared.command.ListCommand.{ListCommand}
 use Rattle.vr_amsparse.specs.declared.command.Node.{Node}
 use Rattle.vr_amsparse.specs.declared.command.PrintCommand.{PrintCommand}
-use Rattle.vr_catalog.specs.Alter.{altered}
 use Rattle.vr_catalog.specs.Define.{new_entry}
 use Rattle.vr_catalog.specs.declared.entry.CatEntry.{CatEntry}
 use Rattle.vr_catalog.specs.declared.entry.EntryKind.{EntryKind}
 use Rattle.vr_catalog.specs.declared.order.Alter.{Alter}
 use Rattle.vr_catalog.specs.declared.order.Define.{Define}
+use Rattle.vr_catalog.specs.declared.order.NewEntry.{NewEntry}
+use Rattle.vr_catalog.specs.declared.order.NewEntry.TheVariants.{Cluster, Alternate, Path}
+use Rattle.vr_edits.specs.declared.edit.CatalogEdit.{CatalogEdit}
 use Rattle.vr_history.specs.State.{State}
 use Rattle.vr_history.specs.declared.entry.Entry.{Entry}
 use Rattle.vr_trace.specs.Commands.{done}
@@ -29,30 +32,32 @@ use Rattle.vr_trace.specs.declared.statistics.Statistics.{Statistics}
 use Rattle.vr_ams_list.specs.Faults.{failure_of}
 use Rattle.vr_ams_list.specs.Listing.{all_lines, listed_entries}
 use Rattle.vr_ams_list.specs.declared.listed.Listed.{Listed}
-use Rattle.vr_ams_define.specs.Altered.{IsAlteredBy, IsChangeAsked, alter_failure, entry_at}
-use Rattle.vr_ams_define.specs.Altered.{place_of}
+use Rattle.vr_ams_define.specs.Altered.{IsAlteredBy, alter_edit, alter_failure, entry_at, place_of}
+use Rattle.vr_ams_define.specs.Asked.{IsEdited, IsEditedBy}
 use Rattle.vr_ams_define.specs.declared.answer.Changed.{Changed}
 use Rattle.vr_ams_define.specs.declared.answer.Changed.TheVariants as changes
 use Rattle.vr_ams_define.specs.declared.answer.Counted.{Counted}
 use Rattle.vr_ams_define.specs.declared.answer.Counted.TheVariants as counts
 use Rattle.vr_ams_define.specs.declared.answer.Defined.{Defined}
 use Rattle.vr_ams_define.specs.declared.answer.Defined.TheVariants.{Again}
-use Rattle.vr_ams_define.specs.Answers.{Answering, Exchange, HasAnswered, HasChanged, HasStaged}
-use Rattle.vr_ams_define.specs.Answers.Exchange.{Changing, Counting, Defining}
+use Rattle.vr_ams_define.specs.Answers.{Answering, Exchange, HasAnswered, HasEdited, HasStaged}
+use Rattle.vr_ams_define.specs.Answers.Exchange.{Counting, Defining, Editing}
 use Rattle.vr_ams_define.specs.Answers.HasStaged.{Staged, Unstaged}
 use Rattle.vr_ams_define.specs.Chosen.{chosen}
-use Rattle.vr_ams_define.specs.Deleted.{AreDeleted, IsDeletedBy, IsOneDeleted, delete_failure}
+use Rattle.vr_ams_define.specs.Deleted.{AreDeleted, IsDeletedBy, IsOneDeleted, delete_edit}
+use Rattle.vr_ams_define.specs.Deleted.{delete_failure, edit_lines, lines_by}
 use Rattle.vr_ams_define.specs.Failures.{first_failure}
 use Rattle.vr_ams_define.specs.Outcomes.{IsDefined, IsDefinedBy}
-use Rattle.vr_ams_define.specs.Runs.{is_plain_cluster}
+use Rattle.vr_ams_define.specs.Over.{IsDefinedOver, base_place, over_edit, over_failure}
 use Rattle.vr_ams_print.specs.Outcomes.{IsAsked as IsSourceAsked, IsPrintedBy, IsRefused}
 use Rattle.vr_ams_print.specs.Outcomes.{IsVerifiedBy, counting, reading}
 use Rattle.vr_ams_print.specs.Printed.{has_keys}
 use Rattle.vr_ams_print.specs.Sources.{source_kind}
 use Rattle.vr_ams_run.specs.ListedAll.{CountRunWhere, CountsRun, IsAsked, IsListedAll}
 use Rattle.vr_ams_run.specs.ListedAll.{is_counted}
-use Rattle.vr_ams_run.specs.Running.{AlterRun, CommandRun, DefineRun, IsDeletedAs, IsPrintedAs}
-use Rattle.vr_ams_run.specs.Running.{IsQuiet, IsReport, IsVerifiedAs, ListRun, NodeRunWhere}
+use Rattle.vr_ams_run.specs.Running.{CommandRun, DefineRun, IsAlteredAs, IsDeletedAs, IsOverAs}
+use Rattle.vr_ams_run.specs.Running.{IsPrintedAs, IsQuiet, IsReport, IsVerifiedAs, ListRun}
+use Rattle.vr_ams_run.specs.Running.{NodeRunWhere}
 use Rattle.vr_ams_run.specs.Running.{NodesRun, QuietRun, Stage}
 use Rattle.vr_ams_run.specs.Running.{command_run, first_stage, list_run, passed, reaches}
 use Rattle.vr_job.specs.Reported.{VolumeAt, shape_at, shown_at}
@@ -136,16 +141,13 @@ module _ {V : Type 0} (shape_in : V → Geometry) (shown_in : V → Shown)
         },
       )
 
-  changed : (opening : State) (line : ℕ) (entry : CatEntry) (to : Option CatEntry) (old new : V)
-      (given : Changed)
-      → Held opening old → HasChanged shown_in answers line entry to old new given
-      → Held opening new × HasChanged shown_at answers_as line entry to (seen_as opening old)
+  edited : (opening : State) (line : ℕ) (edit : CatalogEdit) (old new : V) (given : Changed)
+      → Held opening old → HasEdited shown_in answers line edit old new given
+      → Held opening new × HasEdited shown_at answers_as line edit (seen_as opening old)
       (seen_as opening new) given
-  changed opening line entry to old new given held is =
-      let first = staged opening line (Changing entry to changes.Again) old is.before held is.stages
-      in
-      let then = answer opening is.before line (Changing entry to given) new first.0 is.answered
-      in (
+  edited opening line edit old new given held is =
+      let first = staged opening line (Editing edit changes.Again) old is.before held is.stages in
+      let then = answer opening is.before line (Editing edit given) new first.0 is.answered in (
         then.0,
         record {
           before = seen_as opening is.before;
@@ -230,125 +232,141 @@ module _ {V : Type 0} (shape_in : V → Geometry) (shown_in : V → Shown)
             (all_seen openings after) outcome) (failure-seen openings volumes order volume) seen.1),
       )
 
-  -- ---- a change of the entry of a name
+  -- ---- an edit of a volume
 
-  change-seen : (openings : ℕ → State) (line : ℕ) (name : List ℕ)
-      (to : CatEntry → Option CatEntry) (old new : List V) (given : Changed) → AreHeld openings old
-      → IsChangeAsked shown_in answers line name to old new given
-      → Keeps openings new (IsChangeAsked shown_at answers_as line name to (all_seen openings old)
-      (all_seen openings new) given)
-  change-seen openings line name to old new given held is =
-      let here = held-at Held openings old is.place is.before held is.before_is in
-      let then = changed (openings is.place) line is.entry (to is.entry) is.before is.after given
-      here is.changed in (
-        subst (AreHeld openings) (sym is.others)
-            (held-set Held openings old is.place is.after held then.0),
-        record {
-          place = is.place;
-          place_is = over-seen openings old (λ (them : List Shown).
-              place_of them name ≡ Some is.place) is.place_is;
-          entry = is.entry;
-          entry_is = over-seen openings old (λ (them : List Shown).
-              entry_at them is.place name ≡ Some is.entry) is.entry_is;
-          before = seen_as (openings is.place) is.before;
-          before_is = seen-at seen_as openings old is.place is.before is.before_is;
-          after = seen_as (openings is.place) is.after;
-          changed = then.1;
-          others = ap (all_seen openings) is.others
-              ∙ seen-set seen_as openings old is.place is.after;
-        },
-      )
-
-  -- ---- ALTER
-
-  alter-by : (openings : ℕ → State) (line : ℕ) (order : Alter) (old new : List V)
-      (outcome : Outcome) → AreHeld openings old
-      → IsAlteredBy shown_in answers line order old new outcome
-      → Keeps openings new (IsAlteredBy shown_at answers_as line order (all_seen openings old)
-      (all_seen openings new) outcome)
-  alter-by openings line order old new outcome held is = ⊎_elim
-      (λ refused. (
-        subst (AreHeld openings) (sym refused.same) held,
+  edited-by : (openings : ℕ → State) (line : ℕ) (first : Option Failure) (number : Option ℕ)
+      (edit : Option CatalogEdit) (old new : List V) (why : Option Failure) → AreHeld openings old
+      → IsEditedBy shown_in answers line first number edit old new why
+      → Keeps openings new (IsEditedBy shown_at answers_as line first number edit
+      (all_seen openings old) (all_seen openings new) why)
+  edited-by openings line first number edit old new why held is = ⊎_elim
+      (λ kept. (
+        subst (AreHeld openings) (sym kept.same) held,
         inl (record {
-          failure = refused.failure;
-          first_is = over-seen openings old (λ (them : List Shown).
-              alter_failure them order ≡ Some refused.failure) refused.first_is;
-          outcome_is = refused.outcome_is;
-          same = ap (all_seen openings) refused.same;
+          failure = kept.failure;
+          first_is = kept.first_is;
+          why_is = kept.why_is;
+          same = ap (all_seen openings) kept.same;
         }),
       ))
       (λ further. ⊎_elim
       (λ nothing. (
         subst (AreHeld openings) (sym nothing.same) held,
         inr (inl (record {
-          allowed = over-seen openings old (λ (them : List Shown).
-              alter_failure them order ≡ None) nothing.allowed;
+          allowed = nothing.allowed;
           none = nothing.none;
-          outcome_is = nothing.outcome_is;
+          why_is = nothing.why_is;
           same = ap (all_seen openings) nothing.same;
         })),
       ))
       (λ given.
-      let then = change-seen openings line order.name
-      (λ (entry : CatEntry). Some (altered entry order)) old new given.answer held given.asked
-      in (
-        then.0,
+      let here = held-at Held openings old given.place given.before held given.before_is in
+      let then = edited (openings given.place) line given.asked given.before given.after given.answer
+      here given.edited in (
+        subst (AreHeld openings) (sym given.others)
+            (held-set Held openings old given.place given.after held then.0),
         inr (inr (record {
-          allowed = over-seen openings old (λ (them : List Shown).
-              alter_failure them order ≡ None) given.allowed;
-          some = given.some;
+          allowed = given.allowed;
+          place = given.place;
+          place_is = given.place_is;
+          asked = given.asked;
+          asked_is = given.asked_is;
+          before = seen_as (openings given.place) given.before;
+          before_is = seen-at seen_as openings old given.place given.before given.before_is;
+          after = seen_as (openings given.place) given.after;
           answer = given.answer;
-          asked = then.1;
-          outcome_is = given.outcome_is;
+          edited = then.1;
+          why_is = given.why_is;
+          others = ap (all_seen openings) given.others
+              ∙ seen-set seen_as openings old given.place given.after;
         })),
       )) further) is
+
+  edit-seen : (openings : ℕ → State) (line : ℕ) (first : Option Failure) (number : Option ℕ)
+      (edit : Option CatalogEdit) (old new : List V) (outcome : Outcome) → AreHeld openings old
+      → IsEdited shown_in answers line first number edit old new outcome
+      → Keeps openings new (IsEdited shown_at answers_as line first number edit
+      (all_seen openings old) (all_seen openings new) outcome)
+  edit-seen openings line first number edit old new outcome held is =
+      let then = edited-by openings line first number edit old new is.why held is.ended in
+      (then.0, record { why = is.why; ended = then.1; outcome_is = is.outcome_is })
+
+  -- ---- ALTER, and DEFINE of what stands over another entry
+
+  alter-by : (openings : ℕ → State) (line : ℕ) (order : Alter) (old new : List V)
+      (outcome : Outcome) → AreHeld openings old
+      → IsAlteredBy shown_in answers line order old new outcome
+      → Keeps openings new (IsAlteredBy shown_at answers_as line order (all_seen openings old)
+      (all_seen openings new) outcome)
+  alter-by openings line order old new outcome held is =
+      let then = edit-seen openings line (alter_failure (map shown_in old) order)
+      (place_of (map shown_in old) order.name) (alter_edit (map shown_in old) order) old new outcome
+      held is in (
+        then.0,
+        over-seen openings old (λ (them : List Shown). IsEdited shown_at answers_as line
+            (alter_failure them order) (place_of them order.name) (alter_edit them order)
+            (all_seen openings old) (all_seen openings new) outcome) then.1,
+      )
+
+  over-by : (openings : ℕ → State) (line : ℕ) (order : Define) (volume : Option (List ℕ))
+      (old new : List V) (outcome : Outcome) → AreHeld openings old
+      → IsDefinedOver shown_in shape_in answers line order volume old new outcome
+      → Keeps openings new (IsDefinedOver shown_at shape_at answers_as line order volume
+      (all_seen openings old) (all_seen openings new) outcome)
+  over-by openings line order volume old new outcome held is =
+      let then = edit-seen openings line
+      (over_failure (map shown_in old) (map shape_in old) order volume)
+      (base_place (map shown_in old) order) (over_edit (map shown_in old) order) old new outcome
+      held is in (
+        then.0,
+        over-seen openings old (λ (them : List Shown). IsEdited shown_at answers_as line
+            (over_failure them (map shape_at (all_seen openings old)) order volume)
+            (base_place them order) (over_edit them order) (all_seen openings old)
+            (all_seen openings new) outcome)
+            (subst (λ (shapes : List Geometry). IsEdited shown_at answers_as line
+            (over_failure (map shown_in old) shapes order volume)
+            (base_place (map shown_in old) order) (over_edit (map shown_in old) order)
+            (all_seen openings old) (all_seen openings new) outcome) (shape-seen openings old)
+            then.1),
+      )
 
   -- ---- DELETE
 
   delete-one : (openings : ℕ → State) (line : ℕ) (kind : Option EntryKind) (name : List ℕ)
-      (old new : List V) (failure : Option Failure) → AreHeld openings old
-      → IsOneDeleted shown_in answers line kind name old new failure
+      (old new : List V) (why : Option Failure) (lines : List ℕ) → AreHeld openings old
+      → IsOneDeleted shown_in answers line kind name old new why lines
       → Keeps openings new (IsOneDeleted shown_at answers_as line kind name (all_seen openings old)
-      (all_seen openings new) failure)
-  delete-one openings line kind name old new failure held is = ⊎_elim
-      (λ kept. (
-        subst (AreHeld openings) (sym kept.same) held,
-        inl (record {
-          why = kept.why;
-          first_is = over-seen openings old (λ (them : List Shown).
-              delete_failure them kind name ≡ Some kept.why) kept.first_is;
-          failure_is = kept.failure_is;
-          same = ap (all_seen openings) kept.same;
-        }),
-      ))
-      (λ given.
-      let then = change-seen openings line name (λ (entry : CatEntry). None) old new
-      given.answer held given.asked in (
+      (all_seen openings new) why lines)
+  delete-one openings line kind name old new why lines held is =
+      let then = edited-by openings line (delete_failure (map shown_in old) kind name)
+      (place_of (map shown_in old) name) (delete_edit (map shown_in old) name) old new why held
+      is.ended in (
         then.0,
-        inr (record {
-          allowed = over-seen openings old (λ (them : List Shown).
-              delete_failure them kind name ≡ None) given.allowed;
-          answer = given.answer;
-          asked = then.1;
-          failure_is = given.failure_is;
-        }),
-      )) is
+        record {
+          ended = over-seen openings old (λ (them : List Shown). IsEditedBy shown_at answers_as line
+              (delete_failure them kind name) (place_of them name) (delete_edit them name)
+              (all_seen openings old) (all_seen openings new) why) then.1;
+          lines_are = over-seen openings old (λ (them : List Shown).
+              lines ≡ lines_by why (option_map_or edit_lines (delete_edit them name) []))
+              is.lines_are;
+        },
+      )
 
   deletes-seen : (openings : ℕ → State) (line : ℕ) (kind : Option EntryKind)
       (names : List (List ℕ)) (old new : List V) (failures : List (Option Failure))
-      → AreHeld openings old
-      → AreDeleted shown_in answers line kind names old new failures
+      (lines : List ℕ) → AreHeld openings old
+      → AreDeleted shown_in answers line kind names old new failures lines
       → Keeps openings new (AreDeleted shown_at answers_as line kind names (all_seen openings old)
-      (all_seen openings new) failures)
-  deletes-seen openings line kind [] old new failures held is = (
+      (all_seen openings new) failures lines)
+  deletes-seen openings line kind [] old new failures lines held is = (
     subst (AreHeld openings) (sym is.0) held,
-    (ap (all_seen openings) is.0, is.1),
+    (ap (all_seen openings) is.0, is.1, is.2),
   )
-  deletes-seen openings line kind (name ∷ names) old new [] held is = absurd is
-  deletes-seen openings line kind (name ∷ names) old new (failure ∷ failures) held is =
-      let first = delete-one openings line kind name old is.0 failure held is.1 in
-      let then = deletes-seen openings line kind names is.0 new failures first.0 is.2 in
-      (then.0, (all_seen openings is.0, first.1, then.1))
+  deletes-seen openings line kind (name ∷ names) old new [] lines held is = absurd is
+  deletes-seen openings line kind (name ∷ names) old new (failure ∷ failures) lines held is =
+      let first = delete-one openings line kind name old is.0 failure is.1 held is.3 in
+      let then = deletes-seen openings line kind names is.0 new failures is.2 first.0 is.4 in
+      (then.0, (all_seen openings is.0, is.1, is.2, first.1, then.1, is.5))
 
   delete-by : (openings : ℕ → State) (line : ℕ) (kind : Option EntryKind)
       (names : List (List ℕ)) (old new : List V) (outcome : Outcome) → AreHeld openings old
@@ -356,8 +374,15 @@ module _ {V : Type 0} (shape_in : V → Geometry) (shown_in : V → Shown)
       → Keeps openings new (IsDeletedBy shown_at answers_as line kind names
       (all_seen openings old) (all_seen openings new) outcome)
   delete-by openings line kind names old new outcome held is =
-      let then = deletes-seen openings line kind names old new is.failures held is.ran in
-      (then.0, record { failures = is.failures; ran = then.1; outcome_is = is.outcome_is })
+      let then = deletes-seen openings line kind names old new is.failures is.lines held is.ran in (
+        then.0,
+        record {
+          failures = is.failures;
+          lines = is.lines;
+          ran = then.1;
+          outcome_is = is.outcome_is;
+        },
+      )
 
   -- ---- LISTCAT ALL
 
@@ -586,28 +611,40 @@ module _ {V : Type 0} (shape_in : V → Geometry) (shown_in : V → Shown)
       (ap (λ (them : List Shown). command_run them old.going line command)
       (shown-seen openings old.volumes)) held is
 
-  define-seen : (openings : ℕ → State) (runs : Bool) (line : ℕ) (command : DefineCommand)
+  over-seen-as : (openings : ℕ → State) (name : List ℕ) (line : ℕ) (command : DefineCommand)
       (old new : Stage V) → AreHeld openings old.volumes
-      → DefineRun shown_in shape_in answers runs line command old new
-      → Keeps openings new.volumes (DefineRun shown_at shape_at answers_as runs line command
+      → IsOverAs shown_in shape_in answers name line command old new
+      → Keeps openings new.volumes (IsOverAs shown_at shape_at answers_as name line command
       (stage_seen openings old) (stage_seen openings new))
-  define-seen openings true line command old new held is =
+  over-seen-as openings name line command old new held is =
+      let then = over-by openings line command.order command.volume old.volumes new.volumes
+      is.outcome held is.defined in
+      (then.0, record { outcome = is.outcome; defined = then.1; going = is.going })
+
+  define-seen : (openings : ℕ → State) (what : NewEntry) (line : ℕ) (command : DefineCommand)
+      (old new : Stage V) → AreHeld openings old.volumes
+      → DefineRun shown_in shape_in answers what line command old new
+      → Keeps openings new.volumes (DefineRun shown_at shape_at answers_as what line command
+      (stage_seen openings old) (stage_seen openings new))
+  define-seen openings (Cluster kind false options) line command old new held is =
       let then = defined openings old.volumes line command.order command.volume new.volumes
       is.outcome held is.defined in
       (then.0, record { outcome = is.outcome; defined = then.1; going = is.going })
-  define-seen openings false line command old new held is =
+  define-seen openings (Cluster kind true options) line command old new held is =
       same-seen openings (passed old.going) (passed old.going) old new refl held is
+  define-seen openings (Alternate related unique options) line command old new held is =
+      over-seen-as openings (codes "DEFINE ALTERNATEINDEX") line command old new held is
+  define-seen openings (Path related) line command old new held is =
+      over-seen-as openings (codes "DEFINE PATH") line command old new held is
 
-  altering-seen : (openings : ℕ → State) (runs : Bool) (line : ℕ) (order : Alter)
+  altering-seen : (openings : ℕ → State) (line : ℕ) (order : Alter)
       (old new : Stage V) → AreHeld openings old.volumes
-      → AlterRun shown_in answers runs line order old new
-      → Keeps openings new.volumes (AlterRun shown_at answers_as runs line order
+      → IsAlteredAs shown_in answers line order old new
+      → Keeps openings new.volumes (IsAlteredAs shown_at answers_as line order
       (stage_seen openings old) (stage_seen openings new))
-  altering-seen openings true line order old new held is =
+  altering-seen openings line order old new held is =
       let then = alter-by openings line order old.volumes new.volumes is.outcome held is.altered in
       (then.0, record { outcome = is.outcome; altered = then.1; going = is.going })
-  altering-seen openings false line order old new held is =
-      same-seen openings (passed old.going) (passed old.going) old new refl held is
 
   deleting-seen : (openings : ℕ → State) (line : ℕ) (command : DeleteCommand) (old new : Stage V)
       → AreHeld openings old.volumes → IsDeletedAs shown_in answers line command old new
@@ -655,9 +692,9 @@ module _ {V : Type 0} (shape_in : V → Geometry) (shown_in : V → Shown)
       → Keeps openings new.volumes (CommandRun shown_at shape_at answers_as line command
       (stage_seen openings old) (stage_seen openings new))
   command-seen openings line (commands.Define command) old new held is =
-      define-seen openings (is_plain_cluster command.order.what) line command old new held is
+      define-seen openings command.order.what line command old new held is
   command-seen openings line (commands.Alter order) old new held is =
-      altering-seen openings (not (is_some order.new_name)) line order old new held is
+      altering-seen openings line order old new held is
   command-seen openings line (commands.Delete command) old new held is =
       deleting-seen openings line command old new held is
   command-seen openings line (commands.Repro command) old new held is =

@@ -7,6 +7,7 @@ use Rattle.std.specs.Option.{option_map_or}
 use Rattle.std.specs.declared.cmp.Ordering.{Ordering}
 use Rattle.std.specs.declared.cmp.Ordering.TheVariants.{Less, Equal, Greater}
 use Rattle.std.proofs.lemmas.Bool.Decides.{nat_tests}
+use Rattle.std.proofs.lemmas.List.Elements.{All-from_recursion}
 use Rattle.vr_types.specs.Content.{Content, Item, Placed, found_by, item_at, place_cmp, put_by}
 use Rattle.vr_types.specs.Content.{record_of, with_item}
 use Rattle.vr_types.specs.Image.{Image}
@@ -28,7 +29,8 @@ use Rattle.vr_history.specs.Step.{after_what, change_back, place_changes, state_
 use Rattle.vr_history.specs.declared.entry.Entry.{Entry}
 use Rattle.vr_history.specs.declared.entry.What.{What}
 use Rattle.vr_history.specs.declared.entry.What.TheVariants.{Asked, Undone, Claimed, Split, Faulted}
-use Rattle.vr_event.specs.Volume.{AreServedClusters, IsServedCluster}
+use Rattle.vr_edits.specs.Edits.{IsServedEntry}
+use Rattle.vr_event.specs.Volume.{AreServed as AreServedNow}
 use Rattle.vr_recover.specs.Opens.{AreServed}
 use Rattle.vr_recover.proofs.CallerLemmas.{may-open}
 use Rattle.vr_types.specs.Geometry.{IsAllowed}
@@ -45,7 +47,6 @@ use Rattle.vr_job.proofs.Effects.{IsDone, IsMade, done-is, refused-stays}
 use Rattle.vr_job.proofs.Effects.IsDone.{DoneChange, DoneEnd, DoneNothing}
 use Rattle.vr_job.proofs.Effects.MadeOr.{NoChange, OneChange}
 use Rattle.vr_job.proofs.Keeping.{keep-first, keep-then}
-use Rattle.vr_job.proofs.Served.{are-served}
 use Rattle.vr_job.proofs.UtilityRuns.{still-one}
 
 -- ---- what the items of a content spell
@@ -61,27 +62,27 @@ module _ (geometry : Geometry) where
   IsServedImage image = image.part ≡ 0 → IfSome image.old (IsServedItem geometry)
 
   served-entries : (content : Content) → AreServedItems content
-      → AreServedClusters geometry (entries_in content)
+      → AreServedNow geometry (entries_in content)
   served-entries [] are = tt
   served-entries (placed ∷ content) are = by_entry (option_and_then entry_of (record_of placed.1))
       are.0 (served-entries content are.1)
     where
-      by_entry : (entry : Option CatEntry) → IfSome entry (IsServedCluster geometry)
-          → AreServedClusters geometry (entries_in content)
-          → AreServedClusters geometry (cons_option entry (entries_in content))
+      by_entry : (entry : Option CatEntry) → IfSome entry (IsServedEntry geometry)
+          → AreServedNow geometry (entries_in content)
+          → AreServedNow geometry (cons_option entry (entries_in content))
       by_entry None is rest = rest
       by_entry (Some entry) is rest = (is, rest)
 
-  entries-served : (content : Content) → AreServedClusters geometry (entries_in content)
+  entries-served : (content : Content) → AreServedNow geometry (entries_in content)
       → AreServedItems content
   entries-served [] are = tt
   entries-served (placed ∷ content) are =
       by_entry (option_and_then entry_of (record_of placed.1)) are (entries-served content)
     where
       by_entry : (entry : Option CatEntry)
-          → AreServedClusters geometry (cons_option entry (entries_in content))
-          → (AreServedClusters geometry (entries_in content) → AreServedItems content)
-          → IfSome entry (IsServedCluster geometry) × AreServedItems content
+          → AreServedNow geometry (cons_option entry (entries_in content))
+          → (AreServedNow geometry (entries_in content) → AreServedItems content)
+          → IfSome entry (IsServedEntry geometry) × AreServedItems content
       by_entry None is further = (tt, further is)
       by_entry (Some entry) is further = (is.0, further is.1)
 
@@ -133,7 +134,7 @@ module _ (geometry : Geometry) where
 
   -- ---- over a history
 
-  -- what the state has of the catalog, and what it keeps, spells clusters that are served
+  -- what the state has of the catalog, and what it keeps, spells entries that are served
   pub record AllServed (state : State) : Type 0 where
     pub items : AreServedItems (state.contents 0)
     pub images : AllByRecursion IsServedImage state.befores
@@ -216,7 +217,7 @@ module _ (geometry : Geometry) where
   -- the catalog that is committed, whichever units count
   served-committed : (state : State) (counted : List UnitOfRecovery) → AllServed state
       → AreServed geometry (entries_in (committed_with counted state 0))
-  served-committed state counted served = are-served geometry
+  served-committed state counted served = All-from_recursion (IsServedEntry geometry)
       (entries_in (committed_with counted state 0))
       (served-entries (committed_with counted state 0)
       (served-back (kept_but counted state.befores) (standing (state.contents 0))
@@ -241,7 +242,7 @@ recovered-opens seen geometry number allowed recovered image recovers served dev
 module _ {D : Type 0} (seen : D → Seen) (geometry : Geometry) (number : ℕ)
     (allowed : IsAllowed geometry) (catalog : List CatEntry) (contents : ℕ → Content)
     (owned : List Owned) (is : catalog ≡ entries_in (contents 0))
-    (served : AreServedClusters geometry catalog) where
+    (served : AreServedNow geometry catalog) where
   abbrev opening : State
   opening = opening_state contents owned
 
@@ -252,7 +253,7 @@ module _ {D : Type 0} (seen : D → Seen) (geometry : Geometry) (number : ℕ)
 
   opening-served : AllServed geometry opening
   opening-served = record {
-    items = entries-served geometry (contents 0) (subst (AreServedClusters geometry) is served);
+    items = entries-served geometry (contents 0) (subst (AreServedNow geometry) is served);
     images = tt;
   }
 

@@ -15,9 +15,7 @@ use Rattle.vr_types.specs.declared.reply.Reply.{Reply}
 use Rattle.vr_types.specs.declared.reply.Reply.TheVariants.{Done as DoneReply, Refused}
 use Rattle.vr_types.specs.declared.request.Request.{Request}
 use Rattle.vr_types.specs.declared.request.FileRef.{FileRef}
-use Rattle.vr_types.specs.declared.request.Find.TheVariants.{Equal}
-use Rattle.vr_types.specs.declared.request.Request.TheVariants.{Add, Commit, Get}
-use Rattle.vr_types.specs.declared.unit.Integrity.TheVariants.{Nri}
+use Rattle.vr_types.specs.declared.request.Request.TheVariants.{Add, Commit}
 use Rattle.vr_types.specs.declared.unit.AreaNo.{AreaNo}
 use Rattle.vr_types.specs.declared.unit.PartNo.{PartNo}
 use Rattle.vr_types.specs.declared.unit.Unit.{Unit as UnitOfRecovery}
@@ -28,15 +26,15 @@ use Rattle.vr_history.specs.Step.{MayEnter, Step, case_of, state_after}
 use Rattle.vr_history.specs.declared.entry.Entry.{Entry}
 use Rattle.vr_history.specs.declared.entry.What.{What}
 use Rattle.vr_history.specs.declared.entry.What.TheVariants.{Asked, Claimed, Faulted, Split, Undone}
-use Rattle.vr_record_file.specs.EntryChange.{change_asked}
 use Rattle.vr_record_file.specs.Now.{FileNow}
 use Rattle.vr_event.specs.Made.{HasStopped as HasStoppedWith, IsStepFor, MadeBy}
 use Rattle.vr_event.specs.declared.act.Act.{Act}
 use Rattle.vr_event.specs.declared.act.Act.TheVariants.{Again, Done}
 use Rattle.vr_job.specs.Crash.{HaveDoneCommit, IsCommit, IsDoneCommit, as_done}
-use Rattle.vr_job.specs.Definitions.{AreBegun, IsRecorded, IsReplaced}
+use Rattle.vr_job.specs.Definitions.{AreBegun, IsRecorded}
 use Rattle.vr_job.specs.Events.{FaultsFollow, HasStopped, IsStop, IsStopAfter}
 use Rattle.vr_job.specs.Faultless.{AreFaultless, IsFaulted}
+use Rattle.vr_job.proofs.EditEntries.{edit-later}
 
 -- ---- a COMMIT that is answered 0 comes where its volume goes on
 
@@ -209,34 +207,15 @@ add-not-done : (file : FileRef) (named : Option (List ℕ)) (bytes : List ℕ) (
     → IsDoneCommit (Asked (Add file named bytes) reply) → ⊥
 add-not-done file named bytes reply done = cc
 
-get-not-done : (file : FileRef) (place : List ℕ) (reply : Reply)
-    → IsDoneCommit (Asked (Get file (Equal place) true Nri) reply) → ⊥
-get-not-done file place reply done = cc
-
-change-not-done : (file : FileRef) (bytes : Option (List ℕ)) (reply : Reply)
-    → IsDoneCommit (Asked (change_asked file bytes) reply) → ⊥
-change-not-done file None reply done = cc
-change-not-done file (Some bytes) reply done = cc
-
--- nor among what a definition, or a change of an entry, begins with
+-- nor among what a definition, or an edit of the catalog, begins with
 begun-not-done : (first more : List Entry) → AreBegun first → HaveDoneCommit (first ++ more)
     → HaveDoneCommit more
 begun-not-done first more begun done = ⊎_elim
     (λ none. subst (λ (them : List Entry). HaveDoneCommit (them ++ more)) none done)
     (λ begins. ⊎_elim
     (λ recorded. in-both recorded.0 recorded.1 recorded.2 recorded.3 recorded.4)
-    (λ replaced. in-change replaced.0 replaced.1 replaced.2 replaced.3 replaced.4) begins) begun
+    (λ changed. edit-later changed.2.volume changed.1 first more changed.2.are done) begins) begun
   where
-    in-change : (unit : UnitOfRecovery) (place before : List ℕ) (bytes : Option (List ℕ))
-        → IsReplaced unit place before bytes first → HaveDoneCommit more
-    in-change unit place before bytes is = ⊎_elim
-        (λ gets. absurd (get-not-done is.file place _ (subst IsDoneCommit is.got_is gets)))
-        (λ rest. ⊎_elim
-        (λ changes. absurd
-        (change-not-done is.file bytes _ (subst IsDoneCommit is.change_is changes)))
-        (λ later. later) rest)
-        (subst (λ (them : List Entry). HaveDoneCommit (them ++ more)) is.made_are done)
-
     in-both : (unit : UnitOfRecovery) (part : PartNo) (area : AreaNo) (bytes : List ℕ)
         → IsRecorded unit part area bytes first → HaveDoneCommit more
     in-both unit part area bytes is = ⊎_elim

@@ -1,11 +1,12 @@
 -- What an event of the utilities enters in the history of its volume, and what each of its entries
 -- is not; one that enters nothing, or the fault of a write alone, or a stage of the catalog; and
--- one that enters two entries, and ends their unit.
+-- one that enters entries of a unit, and ends it.
 use Rattle.std.proofs.Common.{◌≡◌, ◌≢◌, ◌⊎◌, ◌∙◌, ◌<◌, ◌≤◌, ◌+◌, inl, inr, ⊎_elim, ℕ, Bool, true}
 use Rattle.std.proofs.Common.{false, List, [], ◌∷◌, ◌++◌, Option, Some, None, All, ap, arith, length, refl}
 use Rattle.std.proofs.Common.{subst, sym}
 use Rattle.std.proofs.lemmas.List.{append-nil}
-use Rattle.std.proofs.lemmas.List.Elements.{All-from_recursion, All-head, All-nil, All-tail}
+use Rattle.std.proofs.lemmas.List.Elements.{All-append, All-from_recursion, All-head, All-nil}
+use Rattle.std.proofs.lemmas.List.Elements.{All-tail, All-weaker}
 use Rattle.vr_types.specs.Faults.{Faults}
 use Rattle.vr_types.specs.declared.bound.Bound.{Bound}
 use Rattle.vr_types.specs.declared.fault.DeviceFault.{DeviceFault}
@@ -35,7 +36,7 @@ use Rattle.vr_job.specs.Definitions.{AreBegun, IsCatalogStage}
 use Rattle.vr_job.specs.Events.{AnswersOnce, ChangesCatalogAtMost, FaultsFollow, IsStop}
 use Rattle.vr_job.specs.Events.{IsStopAfter, IsStopAlone, requests_in}
 use Rattle.vr_job.specs.Faultless.{AreFaultless, IsFaulted}
-use Rattle.vr_job.specs.ReadFaults.{read_fault, read_faults}
+use Rattle.vr_job.specs.ReadFaults.{read-faults-append, read_fault, read_faults}
 use Rattle.vr_job.proofs.UtilityMade.{HasRisen, IsStillBy, none-rose}
 
 -- ---- what an entry is not
@@ -312,40 +313,68 @@ module _ (after line : ℕ) (unit : UnitOfRecovery) (deck : unit.deck ≡ 0) (ol
           (inl refl) is same
       by_stage false None is = still-made false is (none-rose before now same)
 
--- ---- an event that enters two entries, and ends their unit
+-- ---- an event that enters entries of a unit, and ends it
 
 -- it enters these
 pub record IsMadeOf (made : List Entry) (old new : FileNow) (before now : Faults) : Type 0 where
   pub event : IsUtilityMade old new before now
   pub made_are : event.made ≡ made
 
-module _ (line : ℕ) (unit : UnitOfRecovery) (deck : unit.deck ≡ 0) (first second : Entry)
-    (one : IsEarly first) (two : IsEarly second) (begun : AreBegun (first ∷ second ∷ []))
-    (entries : List Entry) (old new : FileNow) (going : old.stopped ≡ None) (before now : Faults)
+-- none of the entries before the COMMIT was refused since a read failed,
+early-reads : (first : List Entry) → All IsEarly first → read_faults first ≡ 0
+early-reads [] early = refl
+early-reads (entry ∷ first) early = omega (
+  arith,
+  (All-head IsEarly entry first early).read,
+  early-reads first (All-tail IsEarly entry first early),
+)
+
+-- nor is one of them the COMMIT
+early-goes : (first more : List Entry) → All IsEarly first → HaveDoneCommit (first ++ more)
+    → HaveDoneCommit more
+early-goes [] more early done = done
+early-goes (entry ∷ first) more early done = ⊎_elim
+    (λ now. absurd ((All-head IsEarly entry first early).goes_on now))
+    (λ later. early-goes first more (All-tail IsEarly entry first early) later) done
+
+module _ (line : ℕ) (unit : UnitOfRecovery) (deck : unit.deck ≡ 0) (first : List Entry)
+    (early : All IsEarly first) (begun : AreBegun first) (entries : List Entry)
+    (old new : FileNow) (going : old.stopped ≡ None) (before now : Faults)
   where
+    -- what each of the first entries is, and each of the others, all are
+    all-of : (P : Entry → Type 0) → ((entry : Entry) → IsEarly entry → P entry)
+        → (more : List Entry) → All P more → All P (first ++ more)
+    all-of P each more rest =
+        All-append P first more (All-weaker IsEarly P each first early) rest
+
+    all-reads : (more : List Entry) → read_faults more ≡ 0 → read_faults (first ++ more) ≡ 0
+    all-reads more none =
+        omega (arith, read-faults-append first more, early-reads first early, none)
+
     -- its COMMIT is done,
     abbrev commit : Entry
     commit = entry_next entries 0 unit line (Asked Commit (DoneReply 0 None None))
 
-    pub ended-made : ChangesCatalogAtMost (first ∷ second ∷ commit ∷ [])
-        → new.entries ≡ old.entries ++ (first ∷ second ∷ commit ∷ [])
+    abbrev done : List Entry
+    done = first ++ commit ∷ []
+
+    pub ended-made : ChangesCatalogAtMost done → new.entries ≡ old.entries ++ done
         → new.geometry ≡ old.geometry → new.stopped ≡ old.stopped → now ≡ before
-        → IsMadeOf (first ∷ second ∷ commit ∷ []) old new before now
+        → IsMadeOf done old new before now
     ended-made changes entries-are geometry-is stopped-is same =
-        let made = first ∷ second ∷ commit ∷ [] in
-        let faultless = All-from_recursion NoFault made
-        (one.sound, (two.sound, (asked-sound _ _, tt))) in
+        let faultless = all-of NoFault (λ entry is. is.sound) (commit ∷ [])
+        (All-from_recursion NoFault (commit ∷ []) (asked-sound _ _, tt)) in
         let goes = stopped-is ∙ going in
         record {
           event = record {
-            made = made;
+            made = done;
             entries = entries-are;
             geometry = geometry-is;
-            own = All-from_recursion OfUtilities made
-                (one.of_utilities, (two.of_utilities, (deck, tt)));
+            own = all-of OfUtilities (λ entry is. is.of_utilities) (commit ∷ [])
+                (All-from_recursion OfUtilities (commit ∷ []) (deck, tt));
             utilities = changes;
             once = record {
-              first = first ∷ second ∷ [];
+              first = first;
               rest = commit ∷ [];
               made_are = refl;
               begun = begun;
@@ -354,14 +383,13 @@ module _ (line : ℕ) (unit : UnitOfRecovery) (deck : unit.deck ≡ 0) (first se
             faults = inr faultless;
             goes = λ done. goes;
             stops = λ stops. absurd (stops goes);
-            reads = omega (arith, one.read, two.read, ap (λ (f : Faults). f.reads) same);
-            failed = λ stop. absurd (stop-faulted made stop faultless);
+            reads = omega (arith, all-reads (commit ∷ []) refl, ap (λ (f : Faults). f.reads) same);
+            failed = λ stop. absurd (stop-faulted done stop faultless);
             unfailed = λ sound. ap (λ (f : Faults). f.writes) same;
             unread = λ sound. inl (ap (λ (f : Faults). f.reads) same);
-            space = All-from_recursion HasSpace made (
-              one.space,
-              (two.space, (λ asked need free. done-space Commit asked 0 need free None None, tt)),
-            );
+            space = all-of HasSpace (λ entry is. is.space) (commit ∷ [])
+                (All-from_recursion HasSpace (commit ∷ [])
+                (λ asked need free. done-space Commit asked 0 need free None None, tt));
           };
           made_are = refl;
         }
@@ -373,9 +401,12 @@ module _ (line : ℕ) (unit : UnitOfRecovery) (deck : unit.deck ≡ 0) (first se
     abbrev fault : Entry
     fault = entry_next (entries ++ refused ∷ []) 0 unit line (Faulted Write)
 
-    stops-after : IsStop (first ∷ second ∷ refused ∷ fault ∷ [])
+    abbrev both : List Entry
+    both = refused ∷ fault ∷ []
+
+    stops-after : IsStop (first ++ both)
     stops-after = inl (record {
-      before = first ∷ second ∷ [];
+      before = first;
       begun = begun;
       request = Commit;
       failing = refused;
@@ -387,27 +418,26 @@ module _ (line : ℕ) (unit : UnitOfRecovery) (deck : unit.deck ≡ 0) (first se
       line_is = refl;
     })
 
-    no-commit : HaveDoneCommit (first ∷ second ∷ refused ∷ fault ∷ []) → ⊥
-    no-commit done = ⊎_elim one.goes_on (λ rest. ⊎_elim two.goes_on
-        (λ rest. ⊎_elim refused-goes-on (λ rest. ⊎_elim faulted-goes-on (λ none. none) rest) rest)
-        rest) done
+    no-commit : HaveDoneCommit (first ++ both) → ⊥
+    no-commit done = ⊎_elim refused-goes-on
+        (λ rest. ⊎_elim faulted-goes-on (λ none. none) rest) (early-goes first both early done)
 
-    pub doubted-made : new.entries ≡ old.entries ++ (first ∷ second ∷ refused ∷ fault ∷ [])
+    pub doubted-made : new.entries ≡ old.entries ++ (first ++ both)
         → new.geometry ≡ old.geometry → before.reads ≤ now.reads → before.writes < now.writes
-        → IsMadeOf (first ∷ second ∷ refused ∷ fault ∷ []) old new before now
+        → IsMadeOf (first ++ both) old new before now
     doubted-made entries-are geometry-is reads rose =
-        let made = first ∷ second ∷ refused ∷ fault ∷ [] in
+        let made = first ++ both in
         record {
           event = record {
             made = made;
             entries = entries-are;
             geometry = geometry-is;
-            own = All-from_recursion OfUtilities made
-                (one.of_utilities, (two.of_utilities, (deck, (deck, tt))));
+            own = all-of OfUtilities (λ entry is. is.of_utilities) both
+                (All-from_recursion OfUtilities both (deck, (deck, tt)));
             utilities = inr (inr (inl stops-after));
             once = record {
-              first = first ∷ second ∷ [];
-              rest = refused ∷ fault ∷ [];
+              first = first;
+              rest = both;
               made_are = refl;
               begun = begun;
               once = asked-one refused Commit (Refused WriteFault) refl (fault ∷ []) refl;
@@ -415,20 +445,15 @@ module _ (line : ℕ) (unit : UnitOfRecovery) (deck : unit.deck ≡ 0) (first se
             faults = inl stops-after;
             goes = λ done. absurd (no-commit done);
             stops = λ stops. stops-after;
-            reads = omega (arith, one.read, two.read, reads);
+            reads = omega (arith, all-reads both refl, reads);
             failed = λ stop. rose;
             unfailed = λ sound. absurd (stop-faulted made stops-after sound);
             unread = λ sound. absurd (stop-faulted made stops-after sound);
-            space = All-from_recursion HasSpace made (
-              one.space,
-              (
-                two.space,
-                (
+            space = all-of HasSpace (λ entry is. is.space) both
+                (All-from_recursion HasSpace both (
                   λ asked need free. failed-space Commit asked need free,
                   (λ asked need free. faulted-space asked need free, tt),
-                ),
-              ),
-            );
+                ));
           };
           made_are = refl;
         }

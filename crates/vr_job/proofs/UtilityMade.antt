@@ -1,12 +1,13 @@
 -- What an event of the utilities adds to the history of a volume, and what it leaves of the rest
 -- that the record file has in memory; one that enters nothing, or the fault of a write alone, or a
--- stage of the catalog; and one that enters two entries, and ends their unit.
+-- stage of the catalog; and one that enters entries of a unit, and ends it.
 use Rattle.std.proofs.Common.{◌≡◌, ◌∙◌, ◌+◌, ◌<◌, ◌≤◌, ◌||◌, ℕ, Bool, true, false, List, [], ◌∷◌}
 use Rattle.std.proofs.Common.{◌++◌, All, Option, Some, None, ap, append_assoc, arith, inl, inr, max}
 use Rattle.std.proofs.Common.{refl, subst, sym}
 use Rattle.std.specs.Prelude.{is_some}
 use Rattle.std.proofs.lemmas.List.{append-nil}
-use Rattle.std.proofs.lemmas.List.Elements.{All-cons, All-nil}
+use Rattle.std.proofs.lemmas.List.Elements.{All-append, All-cons, All-nil}
+use Rattle.std.proofs.lemmas.List.Folds.{list_any-append}
 use Rattle.vr_types.specs.Faults.{Faults}
 use Rattle.vr_types.specs.declared.fault.DeviceFault.TheVariants.{Write}
 use Rattle.vr_types.specs.declared.reply.Refusal.TheVariants.{WriteFault}
@@ -29,7 +30,8 @@ use Rattle.vr_event.specs.Made.{AreNext}
 use Rattle.vr_event.specs.Staging.{stage_entered}
 use Rattle.vr_job.specs.Catalogs.{catalog_by}
 use Rattle.vr_job.specs.Faultless.{has_stopped, is_stop}
-use Rattle.vr_job.specs.ReadFaults.{read_fault, read_faults}
+use Rattle.vr_job.specs.Going.{catalog-append}
+use Rattle.vr_job.specs.ReadFaults.{read-faults-append, read_faults}
 use Rattle.vr_job.specs.Serving.{ShowUndoing}
 use Rattle.vr_job.proofs.Undoing.{asked-shows, fault-shows, step-shows}
 
@@ -207,25 +209,30 @@ module _ (after line : ℕ) (old : FileNow) where
 
 -- ---- an event that ends a unit
 
--- Two entries were made, the next ones, of a unit that goes on.
-pub record IsBegunBy (after line : ℕ) (old begun : FileNow) (first second : Entry) : Type 0 where
-  pub entries : begun.entries ≡ (old.entries ++ first ∷ []) ++ second ∷ []
-  pub first_next : first.stamp ≡ max (last_stamp 0 old.entries) after + 1
-  pub second_next : second.stamp ≡ first.stamp + 1
-  pub first_own : IsOfCommand line first
-  pub second_own : IsOfCommand line second
+-- each of these entries is next, and then each of those
+next-then : (before : ℕ) (first more : List Entry) → AreNext before first
+    → AreNext (last_stamp before first) more → AreNext before (first ++ more)
+next-then before [] more next later = later
+next-then before (entry ∷ first) more next later =
+    (next.0, next-then entry.stamp first more next.1 later)
+
+-- Entries were made, the next ones, of a unit that goes on.
+pub record IsBegunBy (after line : ℕ) (old begun : FileNow) (first : List Entry) : Type 0 where
+  pub entries : begun.entries ≡ old.entries ++ first
+  pub next : AreNext (max (last_stamp 0 old.entries) after) first
+  pub last : last_stamp 0 begun.entries
+      ≡ last_stamp (max (last_stamp 0 old.entries) after) first
+  pub own : All (IsOfCommand line) first
   pub geometry : begun.geometry ≡ old.geometry
-  pub catalog : begun.catalog ≡ catalog_by old.catalog (first ∷ second ∷ [])
+  pub catalog : begun.catalog ≡ catalog_by old.catalog first
   pub numbers : begun.numbers ≡ old.numbers
   pub stopped : begun.stopped ≡ old.stopped
-  pub first_read : read_fault first.what ≡ 0
-  pub second_read : read_fault second.what ≡ 0
-  pub first_goes : is_stop first.what ≡ false
-  pub second_goes : is_stop second.what ≡ false
+  pub unread : read_faults first ≡ 0
+  pub goes : has_stopped first ≡ false
   pub shows : ShowUndoing old → ShowUndoing begun
 
-module _ (after line : ℕ) (old begun : FileNow) (first second : Entry)
-    (is : IsBegunBy after line old begun first second) where
+module _ (after line : ℕ) (old begun : FileNow) (first : List Entry)
+    (is : IsBegunBy after line old begun first) where
   abbrev unit : UnitOfRecovery
   unit = utility_unit old
 
@@ -240,38 +247,40 @@ module _ (after line : ℕ) (old begun : FileNow) (first second : Entry)
   abbrev fault : Entry
   fault = entry_next (begun.entries ++ refused ∷ []) 0 unit line (Faulted Write)
 
-  last-is : last_stamp 0 begun.entries ≡ second.stamp
-  last-is = ap (last_stamp 0) is.entries ∙ last_stamp-append 0 (old.entries ++ first ∷ []) second
+  all-more : (more : List Entry) → begun.entries ++ more ≡ old.entries ++ (first ++ more)
+  all-more more = ap (λ (es : List Entry). es ++ more) is.entries
+      ∙ append_assoc old.entries first more
 
-  both-more : (more : List Entry)
-      → begun.entries ++ more ≡ old.entries ++ (first ∷ second ∷ more)
-  both-more more = ap (λ (es : List Entry). es ++ more) is.entries
-      ∙ append_assoc (old.entries ++ first ∷ []) (second ∷ []) more
-      ∙ append_assoc old.entries (first ∷ []) (second ∷ more)
+  all-next : (more : List Entry) → AreNext (last_stamp 0 begun.entries) more
+      → AreNext (max (last_stamp 0 old.entries) after) (first ++ more)
+  all-next more next = next-then (max (last_stamp 0 old.entries) after) first more is.next
+      (subst (λ (n : ℕ). AreNext n more) is.last next)
 
   current : unit ≡ utility_unit begun
   current = ap (λ (them : List DeckNumber). record { deck = 0; number = number_of them 0 })
       (sym is.numbers)
 
-  both-own : (more : List Entry) → All (IsOfCommand line) more
-      → All (IsOfCommand line) (first ∷ second ∷ more)
-  both-own more own = All-cons (IsOfCommand line) first (second ∷ more) is.first_own
-      (All-cons (IsOfCommand line) second more is.second_own own)
+  all-own : (more : List Entry) → All (IsOfCommand line) more
+      → All (IsOfCommand line) (first ++ more)
+  all-own more own = All-append (IsOfCommand line) first more is.own own
+
+  all-stop : (more : List Entry) → has_stopped (first ++ more) ≡ has_stopped more
+  all-stop more = list_any-append (λ (entry : Entry). is_stop entry.what) first more
+      ∙ ap (λ (b : Bool). b || has_stopped more) is.goes
 
   pub made-ended : HasMadeBy false after line old
       (with_event 0 unit line (Asked Commit (DoneReply 0 None None)) (ended unit begun))
   made-ended = record {
-    made = first ∷ second ∷ commit ∷ [];
-    entries = both-more (commit ∷ []);
-    next = (is.first_next, (is.second_next, (omega (arith, last-is), tt)));
-    own = both-own (commit ∷ [])
+    made = first ++ commit ∷ [];
+    entries = all-more (commit ∷ []);
+    next = all-next (commit ∷ []) (omega arith, tt);
+    own = all-own (commit ∷ [])
         (All-cons (IsOfCommand line) commit [] (refl, refl) (All-nil (IsOfCommand line)));
     geometry = is.geometry;
-    catalog = is.catalog;
+    catalog = is.catalog ∙ sym (catalog-append old.catalog first (commit ∷ []));
     decks = λ deck. raised-decks 0 deck begun.numbers ∙ ap (has_deck deck) is.numbers;
-    unread = omega (arith, is.first_read, is.second_read);
-    has_stop = ap (λ (b : Bool). b || (is_stop second.what || false)) is.first_goes
-        ∙ ap (λ (b : Bool). b || false) is.second_goes;
+    unread = omega (arith, read-faults-append first (commit ∷ []), is.unread);
+    has_stop = all-stop (commit ∷ []);
     stays = λ calm. is.stopped;
     stops = λ fails. absurd (false-true fails);
     shows = λ shows. asked-shows unit line Commit begun
@@ -292,28 +301,19 @@ module _ (after line : ℕ) (old begun : FileNow) (first second : Entry)
 
   pub made-in-doubt : HasMadeBy true after line old (failed 0 unit line Commit begun)
   made-in-doubt = record {
-    made = first ∷ second ∷ refused ∷ fault ∷ [];
+    made = first ++ refused ∷ fault ∷ [];
     entries = append_assoc begun.entries (refused ∷ []) (fault ∷ [])
-        ∙ both-more (refused ∷ fault ∷ []);
-    next = (
-      is.first_next,
-      (
-        is.second_next,
-        (
-          omega (arith, last-is),
-          (omega (arith, last_stamp-append 0 begun.entries refused), tt),
-        ),
-      ),
-    );
-    own = both-own (refused ∷ fault ∷ [])
+        ∙ all-more (refused ∷ fault ∷ []);
+    next = all-next (refused ∷ fault ∷ [])
+        (omega arith, (omega (arith, last_stamp-append 0 begun.entries refused), tt));
+    own = all-own (refused ∷ fault ∷ [])
         (All-cons (IsOfCommand line) refused (fault ∷ []) (refl, refl)
         (All-cons (IsOfCommand line) fault [] (refl, refl) (All-nil (IsOfCommand line))));
     geometry = is.geometry;
-    catalog = is.catalog;
+    catalog = is.catalog ∙ sym (catalog-append old.catalog first (refused ∷ fault ∷ []));
     decks = λ deck. ap (has_deck deck) is.numbers;
-    unread = omega (arith, is.first_read, is.second_read);
-    has_stop = ap (λ (b : Bool). b || (is_stop second.what || true)) is.first_goes
-        ∙ ap (λ (b : Bool). b || true) is.second_goes;
+    unread = omega (arith, read-faults-append first (refused ∷ fault ∷ []), is.unread);
+    has_stop = all-stop (refused ∷ fault ∷ []);
     stays = λ calm. absurd (false-true (sym calm));
     stops = λ fails. refl;
     shows = λ shows. asked-shows unit line Commit begun (failed 0 unit line Commit begun)

@@ -21,7 +21,7 @@ use Rattle.vr_job_ends.specs.declared.job_end.End.{End}
 use Rattle.vr_job_ends.specs.declared.job_end.End.TheVariants.{Ran}
 use Rattle.vr_record_file.specs.Now.{state_now}
 use Rattle.vr_event.specs.Opening.{owned_in}
-use Rattle.vr_event.specs.Volume.{AreServedClusters, IsWhole, VolumeNow}
+use Rattle.vr_event.specs.Volume.{AreServed, IsWhole, VolumeNow}
 use Rattle.vr_mount.specs.Areas.{AreOwners}
 use Rattle.vr_store.proofs.CallerLemmas.{stored-left}
 use Rattle.vr_recover.specs.Opening.{HasContents, IsLeftOpening}
@@ -227,7 +227,7 @@ module _ {D : Type 0} (tells : Bool) (seen : D → Seen) (faults : D → Faults)
       ascends = had.0.ascends;
       others = had.0.others;
       catalog_is = held.catalog_is;
-      served = subst (λ (g : Geometry). AreServedClusters g volume.file.catalog)
+      served = subst (λ (g : Geometry). AreServed g volume.file.catalog)
           (sym same-geometry) opens_so.whole.served;
       legal = run.held.file.legal;
       keeps_catalog = run.keeps_catalog;

@@ -4,8 +4,9 @@ use Rattle.std.specs.Prelude.{◌≡◌, ◌-◌, ◌^◌, ℕ, Bool, IsTrue, Li
 use Rattle.vr_types.specs.Faults.{Faults}
 use Rattle.vr_types.specs.Seen.{Seen}
 use Rattle.vr_catalog.specs.declared.entry.CatEntry.{CatEntry}
+use Rattle.vr_edits.specs.declared.edit.CatalogEdit.{CatalogEdit}
 use Rattle.vr_ams_define.specs.Answers.{Exchange}
-use Rattle.vr_ams_define.specs.Answers.Exchange.{Changing, Counting, Defining, Reading}
+use Rattle.vr_ams_define.specs.Answers.Exchange.{Counting, Defining, Editing, Reading}
 use Rattle.vr_ams_define.specs.declared.answer.Changed.{Changed}
 use Rattle.vr_ams_define.specs.declared.answer.Changed.TheVariants as changes
 use Rattle.vr_ams_define.specs.declared.answer.Counted.{Counted}
@@ -17,16 +18,16 @@ use Rattle.vr_ams_define.specs.declared.answer.ReadBack.TheVariants as reads
 use Rattle.vr_event.specs.Defining.{HasDefineFaults, utility_unit}
 use Rattle.vr_event.specs.DefineSteps.{HasCome, LacksRoomWhere}
 use Rattle.vr_event.specs.Counts.{AreCounts, CountedBy as CountedFor, HasCountFaults}
-use Rattle.vr_event.specs.EntryChange.{HasChangeFaults}
-use Rattle.vr_event.specs.EntryChangeSteps.{HasChangeCome}
+use Rattle.vr_event.specs.CatalogEdit.{HasEditFaults, LacksRoomWhereEdited}
+use Rattle.vr_event.specs.EditSteps.{HasEditCome}
 use Rattle.vr_event.specs.Reading.{HasReadFaults, ReadBy as ReadFor, first_records}
 use Rattle.vr_event.specs.Volume.{IsHeld, VolumeNow}
 use Rattle.vr_event.specs.declared.counts.Count.{Count}
 use Rattle.vr_event.specs.declared.counts.Count.TheVariants as counts
 use Rattle.vr_event.specs.declared.define.Define.{Define}
 use Rattle.vr_event.specs.declared.define.Define.TheVariants as events
-use Rattle.vr_event.specs.declared.entry_change.EntryChange.{EntryChange}
-use Rattle.vr_event.specs.declared.entry_change.EntryChange.TheVariants as changing
+use Rattle.vr_event.specs.declared.edit.Edit.{Edit}
+use Rattle.vr_event.specs.declared.edit.Edit.TheVariants as edits
 use Rattle.vr_event.specs.declared.reading.ReadThrough.{ReadThrough}
 use Rattle.vr_event.specs.declared.reading.ReadThrough.TheVariants as readings
 use Rattle.vr_history.specs.State.{State}
@@ -117,29 +118,31 @@ pub record IsReadIn {B : Type 0} (tells : Bool) (seen : B → Seen) (faults : B 
       → IsReadOf event entry from records opening ready.file
   pub cause : HasReadFaults (faults ready.blocks) (faults new.blocks) (Ok event)
 
--- what an event of a change came to, as its command has it
-abbrev pub changed_of : EntryChange → Changed
-changed_of changing.Done = changes.Done
-changed_of changing.Again = changes.Again
-changed_of changing.Held = changes.Held
-changed_of changing.Live = changes.Live
-changed_of changing.Full = changes.Full
-changed_of (changing.Fault fault) = changes.Fault fault
+-- what an event of an edit came to, as its command has it
+abbrev pub changed_of : Edit → Changed
+changed_of edits.Done = changes.Done
+changed_of edits.Again = changes.Again
+changed_of edits.NoRoom = changes.NoRoom
+changed_of edits.Held = changes.Held
+changed_of edits.Live = changes.Live
+changed_of edits.Full = changes.Full
+changed_of (edits.Fault fault) = changes.Fault fault
 
--- A change of an entry: so it was made ready, and in one event came to this answer.
-pub record IsChangedIn {B : Type 0} (tells : Bool) (seen : B → Seen) (faults : B → Faults)
-    (old : VolumeNow B) (line : ℕ) (entry : CatEntry) (to : Option CatEntry) (answer : Changed)
-    (new : VolumeNow B) : Type 0 where
+-- An edit of the catalog: so it was made ready, and in one event came to this answer.
+pub record IsEditedIn {B : Type 0} (tells : Bool) (seen : B → Seen) (faults : B → Faults)
+    (old : VolumeNow B) (line : ℕ) (edit : CatalogEdit) (answer : Changed) (new : VolumeNow B)
+    : Type 0 where
   pub ready : VolumeNow B
   pub stays : StaysServing tells seen faults old ready
   pub going : ready.file.stopped ≡ None
   pub went : WentOn tells seen faults ready new
   pub after : ℕ
-  pub event : EntryChange
+  pub event : Edit
   pub answer_is : answer ≡ changed_of event
-  pub come : HasChangeCome seen after (utility_unit ready.file) line entry to (Ok event) ready new
-  pub nearer : IsTrue tells → event ≡ changing.Again → LeavesLess old new
-  pub cause : HasChangeFaults (faults ready.blocks) (faults new.blocks) (Ok event)
+  pub come : HasEditCome seen after (utility_unit ready.file) line edit (Ok event) ready new
+  pub no_room : IsTrue tells → LacksRoomWhereEdited seen edit (Ok event) ready
+  pub nearer : IsTrue tells → event ≡ edits.Again → LeavesLess old new
+  pub cause : HasEditFaults (faults ready.blocks) (faults new.blocks) (Ok event)
 
 abbrev pub IsAnswered : {B : Type 0} → Bool → (B → Seen) → (B → Faults) → VolumeNow B → ℕ
     → Exchange → VolumeNow B → Type 0
@@ -147,7 +150,7 @@ IsAnswered tells seen faults old line (Defining entry answer) new =
     IsDefinedIn tells seen faults old line entry answer new
 IsAnswered tells seen faults old line (Counting entry counted) new =
     IsCountedIn tells seen faults old line entry counted new
-IsAnswered tells seen faults old line (Changing entry to answer) new =
-    IsChangedIn tells seen faults old line entry to answer new
+IsAnswered tells seen faults old line (Editing edit answer) new =
+    IsEditedIn tells seen faults old line edit answer new
 IsAnswered tells seen faults old line (Reading entry from records answer) new =
     IsReadIn tells seen faults old line entry from records answer new

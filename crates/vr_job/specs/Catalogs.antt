@@ -12,13 +12,12 @@ use Rattle.vr_catalog.specs.declared.entry.CatEntry.{CatEntry}
 use Rattle.vr_history.specs.declared.entry.Entry.{Entry}
 use Rattle.vr_history.specs.declared.entry.What.{What}
 use Rattle.vr_history.specs.declared.entry.What.TheVariants.{Asked, Undone, Claimed, Split, Faulted}
-use Rattle.vr_event.specs.Defining.{with_cluster}
-use Rattle.vr_event.specs.EntryChange.{with_altered, without_entry}
+use Rattle.vr_edits.specs.Edits.{with_altered, with_entry, without_entry}
 
 -- with the entry that a record spells, if it spells one
 abbrev pub with_spelled : Option CatEntry → List CatEntry → List CatEntry
 with_spelled None catalog = catalog
-with_spelled (Some entry) catalog = with_cluster entry catalog
+with_spelled (Some entry) catalog = with_entry entry catalog
 
 -- with the FREESPACE and the SHAREOPTIONS of the entry that a record spells, if it spells one
 abbrev pub altered_to : Option CatEntry → List CatEntry → List CatEntry

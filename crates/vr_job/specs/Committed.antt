@@ -10,6 +10,7 @@ use Rattle.vr_types.specs.declared.unit.Unit.{Unit as UnitOfRecovery}
 use Rattle.vr_catalog.specs.Catalog.{entry_with_part, parts_in}
 use Rattle.vr_catalog.specs.Record.{entry_of}
 use Rattle.vr_catalog.specs.declared.entry.CatEntry.{CatEntry}
+use Rattle.vr_edits.specs.Edits.{IsServedEntry}
 use Rattle.vr_history.specs.Change.{Change}
 use Rattle.vr_history.specs.Committed.{committed}
 use Rattle.vr_history.specs.Effects.{has_part}
@@ -18,7 +19,6 @@ use Rattle.vr_history.specs.Opened.{catalog_of}
 use Rattle.vr_history.specs.State.{State}
 use Rattle.vr_history.specs.Step.{place_changes, state_after}
 use Rattle.vr_history.specs.declared.entry.Entry.{Entry}
-use Rattle.vr_event.specs.Volume.{IsServedCluster}
 use Rattle.vr_volume.specs.Volume.{Recovers}
 use Rattle.vr_job.specs.Catalogs.{catalog_after, catalog_by}
 use Rattle.vr_job.specs.Crash.{AreInCommit, IsCommit, as_done}
@@ -64,17 +64,16 @@ abbrev pub MayChange : State → UnitOfRecovery → Change → Type 0
 MayChange state unit change = IsOffCatalog change
     ⊎ ((unit.deck ≡ 0) × (IsAddition state change ⊎ IsReplacement state change))
 
--- what a record spells that is an item of the catalog is a cluster that is served, if it spells an
--- entry
+-- what a record spells that is an item of the catalog is an entry that is served, if it spells one
 abbrev pub IsServedItem : Geometry → Item → Type 0
 IsServedItem geometry item =
-    IfSome (option_and_then entry_of (record_of item)) (IsServedCluster geometry)
+    IfSome (option_and_then entry_of (record_of item)) (IsServedEntry geometry)
 
 -- a change leaves nothing else in the catalog
 abbrev pub PutsServed : Geometry → Change → Type 0
 PutsServed geometry change = change.part ≡ 0 → IfSome change.new (IsServedItem geometry)
 
--- So does an entry, and what it leaves there is of clusters that are served; and the catalog after
+-- So does an entry, and what it leaves there is of entries that are served; and the catalog after
 -- it is what the entry makes of the one before: so what the history makes of the catalog of its
 -- opening is the catalog of its state.
 pub record KeepsCatalog (geometry : Geometry) (state : State) (entry : Entry) : Type 0 where
@@ -129,7 +128,7 @@ pub record IsCommittedBy (geometry : Geometry) (number : ℕ) (catalog : List Ca
   pub has : IsCommittedAt geometry number catalog opening before after image
 
 -- The image recovers to what these entries committed, perhaps with the unit whose COMMIT is entered
--- next; of a definition, or a change of an entry, after what it enters before.
+-- next; of a definition, or an edit of the catalog, after what it enters before.
 pub record IsCommittedWhile (geometry : Geometry) (number : ℕ) (catalog : List CatEntry)
     (opening : State) (entries made : List Entry) (image : Image) : Type 0 where
   pub first : List Entry

@@ -14,6 +14,7 @@ use Rattle.vr_types.specs.declared.reply.Reply.TheVariants.{Refused}
 use Rattle.vr_types.specs.declared.request.Request.{Request}
 use Rattle.vr_types.specs.declared.unit.AreaNo.{AreaNo}
 use Rattle.vr_types.specs.declared.unit.PartNo.{PartNo}
+use Rattle.vr_edits.specs.declared.edit.CatalogEdit.{CatalogEdit}
 use Rattle.vr_history.specs.Legal.{state_of}
 use Rattle.vr_history.specs.Merged.{request_in}
 use Rattle.vr_history.specs.State.{State}
@@ -21,7 +22,7 @@ use Rattle.vr_history.specs.declared.entry.Entry.{Entry}
 use Rattle.vr_history.specs.declared.entry.What.TheVariants.{Asked, Faulted}
 use Rattle.vr_volume.specs.Crashes.{RecoversTo}
 use Rattle.vr_job.specs.Crash.{HaveDoneCommit, IsLeftAt}
-use Rattle.vr_job.specs.Definitions.{AreBegun, IsCatalogStage, IsDefinition, IsEntryChange}
+use Rattle.vr_job.specs.Definitions.{AreBegun, IsCatalogStage, IsDefinition, IsEdit}
 use Rattle.vr_job.specs.Faultless.{AreFaultless}
 use Rattle.vr_job.specs.Kept.{KeepsItems}
 use Rattle.vr_job.specs.Lacking.{LacksArea}
@@ -42,8 +43,8 @@ abbrev pub requests_in : List Entry → List Bound
 requests_in entries = flat_map (λ (entry : Entry). request_in 0 entry.line entry.what) entries
 
 -- While an event goes on, an image recovers to what is committed by the history before it, perhaps
--- with the unit whose COMMIT it enters; of a definition, or a change of an entry, after what it enters
--- before.
+-- with the unit whose COMMIT it enters; of a definition, or an edit of the catalog, after what it
+-- enters before.
 pub record IsLeftWhile (geometry : Geometry) (number : ℕ) (opening : State)
     (entries made : List Entry) (image : Image) : Type 0 where
   pub first : List Entry
@@ -88,7 +89,7 @@ LackAreas geometry state now made = (entry : Entry) → Contains made entry
     → LacksArea geometry state entry.unit now request need free
 
 -- A request is refused since a write failed, and the fault, of its unit and line, stops the volume;
--- of a definition, and of a change of an entry, the request is the COMMIT of its unit.
+-- of a definition, and of an edit of the catalog, the request is the COMMIT of its unit.
 pub record IsStopAfter (made : List Entry) : Type 0 where
   pub before : List Entry
   pub begun : AreBegun before
@@ -129,15 +130,14 @@ pub record HasStopped (geometry : Geometry) (number : ℕ) (opening : State) (en
 abbrev pub FaultsFollow : List Entry → Type 0
 FaultsFollow made = IsStop made ⊎ AreFaultless made
 
--- What the utilities enter in an event: a definition, or a change of an entry, or either of them in
+-- What the utilities enter in an event: a definition, or an edit of the catalog, or either of them in
 -- which a write failed, or stages of the catalog, or nothing.
 abbrev pub ChangesCatalogAtMost : List Entry → Type 0
 ChangesCatalogAtMost made = ((part : PartNo) × (area : AreaNo) × (bytes : List ℕ)
     × IsDefinition part area bytes made)
-    ⊎ (((before : List ℕ) × (bytes : Option (List ℕ)) × IsEntryChange before bytes made)
-    ⊎ (IsStop made ⊎ All IsCatalogStage made))
+    ⊎ (((edit : CatalogEdit) × IsEdit edit made) ⊎ (IsStop made ⊎ All IsCatalogStage made))
 
--- It answered one request at most, beside those with which a definition or a change of an entry begins.
+-- It answered one request at most, beside those with which a definition or an edit begins.
 pub record AnswersOnce (made : List Entry) : Type 0 where
   pub first : List Entry
   pub rest : List Entry
@@ -147,7 +147,7 @@ pub record AnswersOnce (made : List Entry) : Type 0 where
 
 -- An event, with the blocks and the history as it left them: all that it entered is of the deck
 -- that asked for it, and the utilities do nothing but change the catalog; it answered one request at
--- most, or defined a cluster, or changed an entry; it touched no block, or each image at each moment
+-- most, or defined a cluster, or edited the catalog; it touched no block, or each image at each moment
 -- of it is as above; and it
 -- leaves the volume at rest, with the items of the state wherever no live unit changed them, and
 -- each part as the owner of the areas that the history gives it, and with an interval more for each

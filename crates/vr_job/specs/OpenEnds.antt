@@ -6,14 +6,14 @@ use Rattle.vr_recover.specs.Opening.{IsDamaged, IsOfVersion}
 use Rattle.vr_recover.specs.declared.open_no.OpenNo.{OpenNo}
 use Rattle.vr_recover.specs.declared.open_no.OpenNo.TheVariants as nos
 use Rattle.vr_recover.specs.declared.open_no.Unserved.{Unserved}
-use Rattle.vr_recover.specs.declared.open_no.Unserved.TheVariants.{OtherKind, LongRecord}
+use Rattle.vr_recover.specs.declared.open_no.Unserved.TheVariants.{BuiltIndex, LongRecord}
 use Rattle.vr_recover.specs.Unserved.{IsUnserved}
 use Rattle.vr_trace.specs.declared.ending.EndLine.{EndLine}
 use Rattle.vr_trace.specs.declared.ending.EndLine.TheVariants.{Damaged, DeviceFault, NoMemory, Version}
 
 -- the rule by which a line shows what isn't served: that of the catalog's records
 abbrev pub unserved_rule : Unserved → ℕ
-unserved_rule OtherKind = 17
+unserved_rule BuiltIndex = 17
 unserved_rule LongRecord = 17
 
 -- the line of an answer about this volume

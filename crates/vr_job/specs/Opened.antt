@@ -20,7 +20,7 @@ use Rattle.vr_space.specs.Part.{part_no}
 use Rattle.vr_event.specs.Opening.{IsOpened, opened_store, owned_in}
 use Rattle.vr_store.specs.Store.{IsSet, PartNow, shape_among}
 use Rattle.vr_volume.specs.Laid.{shape_by, shape_in}
-use Rattle.vr_event.specs.Volume.{AreServedClusters, VolumeNow}
+use Rattle.vr_event.specs.Volume.{AreServed, VolumeNow}
 use Rattle.vr_store.specs.declared.parts.Laid.{Laid}
 use Rattle.vr_recover.specs.Opening.{IsVolume}
 use Rattle.vr_recover.specs.Recovered.{IsRecovered, standing_all}
@@ -42,9 +42,8 @@ opened_now part = record {
   known = known_any part;
 }
 
--- Whatever the blocks have: what was opened is that of a set volume, its catalog has clusters alone,
--- each with records that have room in an interval, and each area that is owned is so by a part that
--- the catalog lays.
+-- Whatever the blocks have: what was opened is that of a set volume, the entries of its catalog are
+-- served, and each area that is owned is so by a part that the catalog lays.
 pub record IsReady (geometry : Geometry) (catalog : List CatEntry) (parts : List PartNow)
     (log : LogNow) (space : List (Option PartNo)) (now : Seen) : Type 0 where
   pub set : IsSet (opened_store log parts space) now
@@ -52,7 +51,7 @@ pub record IsReady (geometry : Geometry) (catalog : List CatEntry) (parts : List
   pub laid : (part : ℕ) → shape_among parts part ≡ shape_in geometry catalog part
   pub records : log.records ≡ []
   pub sound : log.broken ≡ false
-  pub clusters : AreServedClusters geometry catalog
+  pub served : AreServed geometry catalog
   pub owned : AllByRecursion (λ (area : OwnedArea). has_part (parts_laid catalog) area.part ≡ true)
       (owned_in space)
 

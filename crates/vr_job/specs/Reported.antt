@@ -1,10 +1,9 @@
 -- What the steps of IDCAMS of a job report, by what the volumes had as each of them ran. The rules
 -- are this project's own.
 use Rattle.std.specs.Prelude.{◌≡◌, ◌≢◌, ◌≤◌, ◌+◌, ◌-◌, ◌^◌, ◌∷◌, ◌++◌, ℕ, All, Bool, IsTrue, List, [], None}
-use Rattle.std.specs.Prelude.{Option, Some, drop, length, slice_get, take}
-use Rattle.std.specs.Option.{option_map}
+use Rattle.std.specs.Prelude.{Contains, Option, Some, drop, length, slice_get, take}
 use Rattle.vr_types.specs.LogSpace.{IsLogFull, log_size}
-use Rattle.vr_types.specs.Locks.{first_conflict}
+use Rattle.vr_types.specs.Locks.{Lock, first_conflict}
 use Rattle.vr_types.specs.declared.request.Request.TheVariants.{Commit}
 use Rattle.vr_types.specs.declared.unit.Mode.TheVariants.{Exclusive}
 use Rattle.vr_types.specs.declared.unit.Unit.{Unit as UnitOfRecovery}
@@ -12,16 +11,17 @@ use Rattle.vr_history.specs.Legal.{state_of}
 use Rattle.vr_history.specs.RefusedRoom.{free_areas}
 use Rattle.vr_history.specs.State.{State}
 use Rattle.vr_history.specs.Step.{case_of}
+use Rattle.vr_record_file.specs.CatalogEdit.{RecordChange}
 use Rattle.vr_record_file.specs.Defining.{entry_name, need_to_define}
 use Rattle.vr_event.specs.Counts.{AreCounts}
 use Rattle.vr_event.specs.Defining.{entry_place}
-use Rattle.vr_event.specs.EntryChange.{log_for_change}
+use Rattle.vr_event.specs.CatalogEdit.{changes_of, entry_added, log_for_edit}
 use Rattle.vr_event.specs.Reading.{first_records}
 use Rattle.vr_event.specs.declared.counts.Counts.{Counts}
 use Rattle.vr_trace.specs.declared.statistics.Statistics.{Statistics}
 use Rattle.vr_ams_define.specs.Answers.{Exchange, IsShownAfter, IsShownCounted, IsShownRead}
-use Rattle.vr_ams_define.specs.Answers.Exchange.{Changing, Counting, Defining, Reading}
-use Rattle.vr_ams_define.specs.EntryChanges.{IsShownChanged}
+use Rattle.vr_ams_define.specs.Answers.Exchange.{Counting, Defining, Editing, Reading}
+use Rattle.vr_ams_define.specs.Edited.{IsShownEdited}
 use Rattle.vr_ams_define.specs.declared.answer.Changed.{Changed}
 use Rattle.vr_ams_define.specs.declared.answer.Changed.TheVariants as changes
 use Rattle.vr_ams_define.specs.declared.answer.Counted.{Counted}
@@ -40,6 +40,7 @@ use Rattle.vr_types.specs.declared.fault.DeviceFault.TheVariants.{Read, Write}
 use Rattle.vr_types.specs.declared.geometry.Geometry.{Geometry}
 use Rattle.vr_catalog.specs.Record.{spelling}
 use Rattle.vr_catalog.specs.declared.entry.CatEntry.{CatEntry}
+use Rattle.vr_edits.specs.declared.edit.CatalogEdit.{CatalogEdit}
 use Rattle.vr_history.specs.declared.entry.Entry.{Entry}
 use Rattle.vr_job_text.specs.declared.job.JobStep.{JobStep}
 use Rattle.vr_job_text.specs.declared.job.JobStep.TheVariants.{Decks, Utilities}
@@ -47,7 +48,7 @@ use Rattle.vr_job_text.specs.declared.job.UtilityStep.{UtilityStep}
 use Rattle.vr_trace.specs.declared.report.StepReport.{StepReport}
 use Rattle.vr_worker.specs.Steps.{AreOfSteps}
 use Rattle.vr_job.specs.Catalogs.{catalog_by}
-use Rattle.vr_job.specs.Definitions.{IsDefinition, IsEntryChange}
+use Rattle.vr_job.specs.Definitions.{IsDefinition, IsEdit}
 pub use Rattle.vr_job.specs.Definitions.{IsCatalogStage}
 use Rattle.vr_job.specs.Events.{IsStop}
 use Rattle.vr_job.specs.Faultless.{has_stopped}
@@ -124,24 +125,22 @@ ReadBy reads.Done made = made ≡ []
 ReadBy (reads.Fault Read) made = made ≡ []
 ReadBy (reads.Fault Write) made = IsStop made
 
--- The change of the entry is entered where it is done, stages of the catalog where it is to be asked
--- again, a stop where a write failed, and nothing where it is refused.
-abbrev pub record_of : Option CatEntry → Option (List ℕ)
-record_of to = option_map spelling to
-
-abbrev pub ChangedBy : Changed → CatEntry → Option CatEntry → List Entry → Type 0
-ChangedBy changes.Done entry to made = IsEntryChange (spelling entry) (record_of to) made
-ChangedBy changes.Again entry to made = All IsCatalogStage made
-ChangedBy changes.Held entry to made = made ≡ []
-ChangedBy changes.Live entry to made = made ≡ []
-ChangedBy changes.Full entry to made = made ≡ []
-ChangedBy (changes.Fault Read) entry to made = made ≡ []
-ChangedBy (changes.Fault Write) entry to made = IsStop made
+-- The edit is entered where it is done, stages of the catalog where it is to be asked again, a stop
+-- where a write failed, and nothing where it is refused.
+abbrev pub EditedBy : Changed → CatalogEdit → List Entry → Type 0
+EditedBy changes.Done edit made = IsEdit edit made
+EditedBy changes.Again edit made = All IsCatalogStage made
+EditedBy changes.NoRoom edit made = made ≡ []
+EditedBy changes.Held edit made = made ≡ []
+EditedBy changes.Live edit made = made ≡ []
+EditedBy changes.Full edit made = made ≡ []
+EditedBy (changes.Fault Read) edit made = made ≡ []
+EditedBy (changes.Fault Write) edit made = IsStop made
 
 abbrev pub MadeBy : Exchange → List Entry → Type 0
 MadeBy (Defining entry answer) made = DefinedBy answer entry made
 MadeBy (Counting entry counted) made = CountedBy counted made
-MadeBy (Changing entry to answer) made = ChangedBy answer entry to made
+MadeBy (Editing edit answer) made = EditedBy answer edit made
 MadeBy (Reading entry from records answer) made = ReadBy answer made
 
 -- ---- and by the state that its history gives
@@ -189,27 +188,35 @@ ReadCause reads.Done entry from records at =
     records ≡ first_records (2 ^ 64 - 1) from ((state_at at).contents entry.part.0)
 ReadCause (reads.Fault fault) entry from records at = Unit {0}
 
--- Why a change is refused: a unit of recovery is live; a lock is on the place of the record; the log has
--- no room for the change.
-abbrev pub ChangeCause : Changed → CatEntry → VolumeAt → Type 0
-ChangeCause changes.Live entry at = (state_at at).logged ≢ []
-ChangeCause changes.Held entry at = first_conflict (state_at at).locks
-    (utility_unit_in (state_at at)) Exclusive (entry_name (entry_place entry)) ≢ None
-ChangeCause changes.Full entry at =
-    IsLogFull at.geometry (state_at at).used (log_for_change entry)
-ChangeCause answer entry at = Unit {0}
+-- the lock of a unit that is in the way of a change of a record, where there is one
+abbrev pub conflict_at : VolumeAt → RecordChange → Option Lock
+conflict_at at change = first_conflict (state_at at).locks (utility_unit_in (state_at at)) Exclusive
+    (entry_name change.place)
+
+-- Why an edit is refused: a unit of recovery is live; a lock is on the place of one of its records;
+-- the log has no room for it; or, where none of these is so, the catalog has no room for the record
+-- of the entry that it adds, which its blocks show.
+abbrev pub EditCause : Changed → CatalogEdit → VolumeAt → Type 0
+EditCause changes.Live edit at = (state_at at).logged ≢ []
+EditCause changes.Held edit at = (change : RecordChange) × Contains (changes_of edit) change
+    × (conflict_at at change ≢ None)
+EditCause changes.Full edit at = IsLogFull at.geometry (state_at at).used (log_for_edit edit)
+EditCause changes.NoRoom edit at = ((entry : CatEntry) × (entry_added edit ≡ Some entry))
+    × All (λ (change : RecordChange). conflict_at at change ≡ None) (changes_of edit)
+    × ((state_at at).used + log_for_edit edit ≤ log_size at.geometry)
+EditCause answer edit at = Unit {0}
 
 abbrev pub CauseBy : Exchange → VolumeAt → Type 0
 CauseBy (Defining entry answer) at = DefineCause answer entry at
 CauseBy (Counting entry counted) at = CountCause counted entry at
-CauseBy (Changing entry to answer) at = ChangeCause answer entry at
+CauseBy (Editing edit answer) at = EditCause answer edit at
 CauseBy (Reading entry from records answer) at = ReadCause answer entry from records at
 
 -- what a volume shows then
 abbrev pub IsShownBy : Exchange → Shown → Shown → Type 0
 IsShownBy (Defining entry answer) old new = IsShownAfter answer entry old new
 IsShownBy (Counting entry counted) old new = IsShownCounted counted old new
-IsShownBy (Changing entry to answer) old new = IsShownChanged answer entry to old new
+IsShownBy (Editing edit answer) old new = IsShownEdited answer edit old new
 IsShownBy (Reading entry from records answer) old new = IsShownRead answer old new
 
 -- What it enters is the utilities' own, on the line of the command; it shows what its answer leaves,

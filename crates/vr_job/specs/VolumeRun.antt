@@ -19,7 +19,7 @@ use Rattle.vr_history.specs.State.{State, opening_state}
 use Rattle.vr_history.specs.declared.entry.Entry.{Entry}
 use Rattle.vr_job_text.specs.declared.job.JobStep.{JobStep}
 use Rattle.vr_event.specs.Opening.{owned_in}
-use Rattle.vr_event.specs.Volume.{AreServedClusters, IsWhole, VolumeNow}
+use Rattle.vr_event.specs.Volume.{AreServed, IsWhole, VolumeNow}
 use Rattle.vr_mount.specs.Areas.{AreOwners}
 use Rattle.vr_recover.specs.Opening.{HasContents, IsLeftOpening, IsNoVolume, IsVolume}
 use Rattle.vr_recover.specs.Recovered.{IsRecovered, KeepsAll, standing_all}
@@ -48,7 +48,7 @@ abbrev pub opening_of : (ℕ → Content) → List (Option PartNo) → State
 opening_of contents owners = opening_state contents (owned_in owners)
 
 -- The volume was opened: the blocks were one's of this number and shape, which recovered to the
--- records of contents with this catalog, of clusters that are served. Each place of these contents
+-- records of contents with this catalog, of entries that are served. Each place of these contents
 -- has what the blocks had; or, where a unit without an end had changed it, what putting its
 -- before-image back leaves. So what was withdrawn is where the blocks had it, and where an added
 -- record of an entry-sequenced part was put back, and nowhere else; and a part that isn't laid has
@@ -79,7 +79,7 @@ pub record IsRun {D : Type 0} (tells : Bool) (seen : D → Seen) (faults : D →
   pub ascends : (part : ℕ) → Ascends (contents part)
   pub others : (part : ℕ) → shape_by geometry (contents 0) part ≡ None → contents part ≡ []
   pub catalog_is : catalog ≡ entries_in (contents 0)
-  pub served : AreServedClusters geometry catalog
+  pub served : AreServed geometry catalog
   pub legal : IsLegal geometry (opening_state contents (owned_in owners)) entries
   pub keeps_catalog : KeepTheCatalog geometry (opening_state contents (owned_in owners)) entries
   pub moments : Guards (seen old) (seen new) (λ image. Left (seen old) image

@@ -12,9 +12,9 @@
 //! that no request moves another file than its own.
 #![tactic(auto)]
 
-mod changing;
 mod counting;
 mod done;
+mod editing;
 mod formatting;
 mod job;
 mod laws;

@@ -32,7 +32,7 @@ fn unserved_rule(cause: Unserved) -> u32
     ensures { result ≡ ends.unserved_rule cause }
 {
     match cause {
-        Unserved::OtherKind | Unserved::LongRecord => 17,
+        Unserved::BuiltIndex | Unserved::LongRecord => 17,
     }
 }
 

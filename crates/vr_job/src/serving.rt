@@ -1,12 +1,13 @@
 //! A volume that the threads of decks share, and the utilities between them: one event of a
-//! request, under the volume's latch, or of a definition, a change, a count or a reading.
+//! request, under the volume's latch, or of a definition, an edit, a count or a reading.
 ghost use Rattle.std.specs.Prelude.{◌≡◌, ◌<◌, ◌≤◌, ◌==◌, ◌+◌, ◌-◌, ◌^◌, [], IsTrue, OnErr, OnOk};
-ghost use Rattle.std.specs.Prelude.{false, true, Contains, IfOk, IfSome, IsErr, None, Ok, is_some};
+ghost use Rattle.std.specs.Prelude.{false, true, Contains, IfOk, IsErr, None, Ok, is_some};
 ghost use Rattle.std.specs.Option.{option_copied};
 ghost use Rattle.vr_catalog.specs.declared.entry.EntryKind.TheVariants.{Cluster};
 ghost use Rattle.vr_ams_define.specs.Answers.{HasRead, IsShownAfter, IsShownCounted, IsShownRead};
-ghost use Rattle.vr_ams_define.specs.Answers.Exchange.{Changing, Counting, Defining};
-ghost use Rattle.vr_ams_define.specs.EntryChanges.{IsAltered, IsClusterThere, IsShownChanged};
+ghost use Rattle.vr_edits.specs.Edits.{MayEdit};
+ghost use Rattle.vr_ams_define.specs.Answers.Exchange.{Counting, Defining, Editing};
+ghost use Rattle.vr_ams_define.specs.Edited.{IsShownEdited};
 ghost use Rattle.vr_ams_define.specs.Grown.{HasEntered as HasEnteredOn};
 ghost use Rattle.vr_ams_define.specs.NewCluster.{IsNewCluster};
 ghost use Rattle.vr_event.specs.DefineSteps.{HasCome, LacksRoomWhere, MayDefineNow};
@@ -24,14 +25,15 @@ ghost use Rattle.vr_job.specs.Going.{Follows, WentOn};
 ghost use Rattle.vr_job.specs.Serving.{IsNearerFor, IsServing, LeavesLess, StaysServing, is_done};
 ghost use Rattle.vr_job.specs.Serving.{shown_of, unit_of};
 
-use crate::changing::change;
 use crate::counting::count;
+use crate::editing::edit_catalog;
 use crate::reading::read;
 use std::alloc::Global;
 use std::marker::Model;
 use vr_ams_define::{Changed, Counted, Defined, OwnedVolume, ReadBack};
 use vr_catalog::{CatEntry, Catalog};
 use vr_device::BlockDevice;
+use vr_edits::CatalogEdit;
 use vr_event::{Act, Define, Volume};
 use vr_history::History;
 use vr_part::AnyPart;
@@ -61,7 +63,7 @@ fn enter<B: Blocks, P: Part>(volume: &mut Volume<B, P>, deck: u32) -> Result<(),
 fn make_room<B: Blocks, P: Part>(volume: &mut Volume<B, P>, deck: u32) -> Result<(), OutOfMemory>
     requires { IsServing B.tells B.seen volume.old }
     ensures deck { OnOk result (has_deck deck volume.new.file.numbers ≡ true) }
-    ensures room { OnOk result (4 ≤ volume.new.file.room) }
+    ensures room { OnOk result (6 ≤ volume.new.file.room) }
     ensures files_room { OnOk result (0 < volume.new.file.files_room) }
     ensures stopped { volume.new.file.stopped ≡ volume.old.file.stopped }
     ensures stays { StaysServing B.tells B.seen B.faults volume.old volume.new }
@@ -79,7 +81,7 @@ pub(crate) fn make_ready<B: Blocks, P: Part>(
 ) -> Result<(), RunNo>
     requires { IsServing B.tells B.seen volume.old }
     ensures deck { OnOk result (has_deck deck volume.new.file.numbers ≡ true) }
-    ensures room { OnOk result (4 ≤ volume.new.file.room) }
+    ensures room { OnOk result (6 ≤ volume.new.file.room) }
     ensures files_room { OnOk result (0 < volume.new.file.files_room) }
     ensures last { OnOk result (last_stamp 0 volume.new.file.entries < 2 ^ 62) }
     ensures after { OnOk result (after < 2 ^ 62) }
@@ -428,26 +430,19 @@ impl<D: BlockDevice> OwnedVolume for Serving<D> {
         )
     }
 
-    fn change(
-        &mut self,
-        line: u32,
-        entry: &CatEntry,
-        to: Option<&CatEntry>,
-        after: u64,
-    ) -> Result<Changed, RunNo>
+    fn edit(&mut self, line: u32, edit: &CatalogEdit, after: u64) -> Result<Changed, RunNo>
         requires going { is_some self.old.file.stopped ≡ false }
-        requires entry { IsClusterThere self.old.file.catalog entry.now }
-        requires to { IfSome (option_copied to) (IsAltered entry.now) }
+        requires edit { MayEdit self.old.file.geometry self.old.file.catalog edit.now }
         ensures changed { IfOk result (λ answer. IsAnswered D.tells D.seen D.faults self.old line
-            (Changing entry.now (option_copied to.entry) answer) self.new) }
-        ensures shown { IfOk result (λ answer. IsShownChanged answer entry.now
-            (option_copied to.entry) (shown_of self.old) (shown_of self.new)) }
+            (Editing edit.now answer) self.new) }
+        ensures shown { IfOk result (λ answer. IsShownEdited answer edit.now (shown_of self.old)
+            (shown_of self.new)) }
         ensures refused { IsErr result → shown_of self.new ≡ shown_of self.old }
         ensures entered { HasEnteredOn line after self.old.file.entries self.new.file.entries }
         ensures goes { Follows D.tells D.seen D.faults self.old self.new }
         ensures geometry { self.new.file.geometry ≡ self.old.file.geometry }
     {
-        change(self.alloc, &mut self.volume, line, entry, to, after)
+        edit_catalog(self.alloc, &mut self.volume, line, edit, after)
     }
 }
 

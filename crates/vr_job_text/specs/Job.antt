@@ -2,7 +2,7 @@
 -- where the step ends, at the next EXEC card or at the end of the text, so its fault goes before the
 -- faults of later cards.
 use Rattle.std.specs.Prelude.{◌≡◌, ◌⊎◌, ℕ, Bool, true, false, not, if◌then◌else◌}
-use Rattle.std.specs.Prelude.{List, [], ◌∷◌, length, sum_by, Option, Some, None, Ok, Err, is_some}
+use Rattle.std.specs.Prelude.{List, [], ◌∷◌, length, sum_by, Option, Some, None, Ok, Err}
 use Rattle.vr_amsparse.specs.declared.command.Command.{Command}
 use Rattle.vr_amsparse.specs.declared.command.Command.TheVariants.{Define, Alter, Delete, Repro}
 use Rattle.vr_amsparse.specs.declared.command.Command.TheVariants.{BuildIndex, Print, ListCatalog}
@@ -103,17 +103,16 @@ deck_steps [] = []
 deck_steps (Decks step ∷ steps) = step ∷ deck_steps steps
 deck_steps (Utilities step ∷ steps) = deck_steps steps
 
--- a cluster that isn't spanned
-abbrev pub is_plain_cluster : NewEntry → Bool
-is_plain_cluster (Cluster kind spanned options) = not spanned
-is_plain_cluster (Alternate related unique options) = false
-is_plain_cluster (Path related) = false
+-- each but a spanned cluster
+abbrev pub is_entry_run : NewEntry → Bool
+is_entry_run (Cluster kind spanned options) = not spanned
+is_entry_run (Alternate related unique options) = true
+is_entry_run (Path related) = true
 
--- the commands that are run: DEFINE of a cluster that isn't spanned, ALTER without NEWNAME, DELETE,
--- PRINT, LISTCAT, VERIFY, and the modal commands IF and SET
+-- the commands that are run: DEFINE but of a spanned cluster, ALTER, DELETE, PRINT, LISTCAT, VERIFY, and the modal commands IF and SET
 abbrev pub is_run : Command → Bool
-is_run (Define define) = is_plain_cluster define.order.what
-is_run (Alter order) = not (is_some order.new_name)
+is_run (Define define) = is_entry_run define.order.what
+is_run (Alter order) = true
 is_run (Delete delete) = true
 is_run (Repro repro) = false
 is_run (BuildIndex build) = false

@@ -1,6 +1,6 @@
 //! What a job is: its steps, of decks and of IDCAMS.
 ghost use Rattle.std.specs.Prelude.{◌≡◌, List, [], ◌∷◌, ◌++◌, OnOk, OnErr};
-ghost use Rattle.vr_job_text.specs.Job.{is_plain_cluster, is_run, unrun, unrun_in};
+ghost use Rattle.vr_job_text.specs.Job.{is_entry_run, is_run, unrun, unrun_in};
 
 use crate::fault::{TextFault, form_fault};
 use crate::text::Step;
@@ -83,26 +83,25 @@ pub struct Job {
     pub steps: JobSteps,
 }
 
-/// Whether it is a cluster that isn't spanned.
-fn is_plain_cluster(what: &NewEntry) -> bool
-    ensures { result ≡ is_plain_cluster what.now }
+/// Whether a DEFINE of it is run yet: of all but a spanned cluster.
+fn is_entry_run(what: &NewEntry) -> bool
+    ensures { result ≡ is_entry_run what.now }
 {
     match what {
         NewEntry::Cluster { spanned, .. } => !*spanned,
-        NewEntry::Alternate { .. } | NewEntry::Path { .. } => false,
+        NewEntry::Alternate { .. } | NewEntry::Path { .. } => true,
     }
 }
 
-/// Whether a command is run yet: DEFINE of a cluster that isn't spanned is, ALTER without NEWNAME,
-/// DELETE, PRINT, LISTCAT, VERIFY, and IF and SET.
+/// Whether a command is run yet: DEFINE but of a spanned cluster is, ALTER, DELETE, PRINT, LISTCAT,
+/// VERIFY, and IF and SET.
 fn is_run(command: &Command) -> bool
     ensures { result ≡ is_run command.now }
 {
     match command {
-        Command::Define(define) => is_plain_cluster(&define.order.what),
-        Command::Alter(order) => order.new_name.is_none(),
+        Command::Define(define) => is_entry_run(&define.order.what),
         Command::Delete(_) | Command::ListCatalog(_) | Command::If(_) | Command::Set(_) => true,
-        Command::Print(_) | Command::Verify(_) => true,
+        Command::Print(_) | Command::Verify(_) | Command::Alter(_) => true,
         Command::Repro(_) | Command::BuildIndex(_) | Command::Examine(_) => false,
     }
 }

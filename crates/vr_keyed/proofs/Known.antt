@@ -1,21 +1,24 @@
 -- What a keyed part keeps in memory of its blocks: which area a place comes to, the split that is
 -- under way and what the part answers by it, and what was met.
-use Rattle.std.proofs.Common.{◌≡◌, ◌<◌, ℕ, Bool, true, false, IsTrue, List, [], ◌∷◌, Option}
+use Rattle.std.proofs.Common.{◌≡◌, ◌<◌, ℕ, zero, suc, Bool, true, false, IsTrue, List, [], ◌∷◌, Option}
 use Rattle.std.proofs.Common.{Some, None, All, refl, sym, ap, subst, ◌∙◌, arith, take, ⊎_elim}
-use Rattle.std.specs.Prelude.{◌⊎◌, Contains, IsSome, bytes_eq, cond, filter, not}
+use Rattle.std.specs.Prelude.{◌⊎◌, Contains, IfSome, IsSome, bytes_eq, cond, filter, not}
 use Rattle.std.specs.Ordering.{is_le}
 use Rattle.std.proofs.lemmas.List.Elements.{All-cons, All-filter, All-nil, All-take, All-weaker}
 use Rattle.std.proofs.lemmas.List.Elements.{Contains-append_left, Contains-append_right}
 use Rattle.vr_types.specs.Blocks.{Keeps}
 use Rattle.vr_types.specs.Content.{place_cmp}
 use Rattle.vr_types.specs.Geometry.{area_count}
-use Rattle.vr_types.specs.Image.{Image}
-use Rattle.vr_types.specs.Seen.{Seen}
+use Rattle.vr_types.specs.Image.{Block, Image}
+use Rattle.vr_types.specs.Seen.{Left, Seen}
 use Rattle.vr_types.specs.declared.unit.StageKind.{StageKind}
 use Rattle.vr_space.specs.declared.room.Room.{Room}
 use Rattle.vr_space.specs.declared.room.Room.TheVariants.{Stage}
 use Rattle.vr_space.specs.Areas.{ChainKeepsRoom, IsChainOn, KeyedChain, KnowsAreas, area_by}
-use Rattle.vr_space.specs.Areas.{area_for, area_of, areas_in, intervals_in}
+use Rattle.vr_space.specs.Areas.{EachAfter, IsFollowed, LinksIn, area_for, area_of, areas_in}
+use Rattle.vr_space.specs.Areas.{end_of, head_in, head_of, intervals_in}
+use Rattle.vr_space.specs.Rosters.{IsOf}
+use Rattle.vr_seqset.specs.Reading.{record_in}
 use Rattle.vr_space.specs.Keyed.{InArea, KeepsRoom, Keyed}
 use Rattle.vr_space.specs.Met.{IsChainMet, IsMet, Met, met_next}
 use Rattle.vr_space.specs.Part.{InHeld, KeyedShape, Knows, Stands}
@@ -25,7 +28,7 @@ use Rattle.vr_space.specs.Split.{AreaSplit, MoveNow, SplitNow, area_room, keyed_
 use Rattle.vr_space.specs.Split.{room_after, split_in, stage_under}
 use Rattle.vr_space.specs.UnderWay.{AreaUnderWay, KeyedUnderWay}
 use Rattle.vr_space.proofs.CallerLemmas.{ComesTo, IsLinkedArea, area-on, comes-to, each-here}
-use Rattle.vr_space.proofs.CallerLemmas.{knows-area, links-in-area, move-keeps, room-of-area}
+use Rattle.vr_space.proofs.CallerLemmas.{area-each, knows-area, links-in-area, move-keeps, room-of-area}
 use Rattle.vr_attach.specs.Areas.{AreasNow}
 use Rattle.vr_keyed.specs.Lent.{ArePlaces}
 use Rattle.vr_keyed.specs.Owned.{InAreas, IsMine, known_by, split_at}
@@ -121,6 +124,46 @@ module _ (chain : AreasNow) (image : Image)
   -- Where the blocks stand for a content, an entry of its head has the place.
   pub area-comes : Stands (KeyedShape chain.part) image → ComesTo chain.part image place area
   area-comes stands = comes-to chain.part image stands.0 stands.1 place area area-known
+
+-- What is kept has room in each area that the image has in its chain.
+linked-rooms : (part : KeyedChain) (now : Seen) → IsChainOn part now → Left now now.cur
+    → (kept : Lengths) (k area : ℕ) (low : Option (List ℕ)) → LinksIn part now.cur k area low
+    → EachAfter part (λ at. KeepsRoom (area_of part at) kept now) now.may k area
+    → EachAfter part (λ at. KeepsRoom (area_of part at) kept now) (IsOf now.cur) k area
+linked-rooms part now on left kept zero area low chain room = tt
+linked-rooms part now on left kept (suc k) area low chain room =
+    let there : head_of part area < now.count =
+    omega (arith, (area-on part now on area chain.there).0) in
+    let each : IfSome (record_in (head_in part now.cur area)).next
+    (EachAfter part (λ at. KeepsRoom (area_of part at) kept now) (IsOf now.cur) k) =
+    by (record_in (head_in part now.cur area)).next chain.next
+    (room.1 (head_in part now.cur area) (left.each (head_of part area) there))
+    (λ further more rooms. linked-rooms part now on left kept k further
+    (end_of (head_in part now.cur area)) more rooms) in (
+      room.0,
+      λ top here. subst (λ (block : Block). IfSome (record_in block).next
+          (EachAfter part (λ at. KeepsRoom (area_of part at) kept now) (IsOf now.cur) k))
+          (sym here) each,
+    )
+  where
+    by : (next : Option ℕ)
+        → IsFollowed part (LinksIn part now.cur k) (head_in part now.cur area) next
+        → IfSome next (EachAfter part (λ at. KeepsRoom (area_of part at) kept now) now.may k)
+        → ((further : ℕ) → LinksIn part now.cur k further (end_of (head_in part now.cur area))
+        → EachAfter part (λ at. KeepsRoom (area_of part at) kept now) now.may k further
+        → EachAfter part (λ at. KeepsRoom (area_of part at) kept now) (IsOf now.cur) k further)
+        → IfSome next (EachAfter part (λ at. KeepsRoom (area_of part at) kept now) (IsOf now.cur) k)
+    by None followed is more = tt
+    by (Some further) followed is more = more further followed is
+
+pub rooms-of-area : (part : KeyedChain) (now : Seen) → IsChainOn part now → Left now now.cur
+    → (kept : Lengths) → Stands (KeyedShape part) now.cur → ChainKeepsRoom part kept now
+    → (area : ℕ) → Contains (areas_in part now.cur) area → KeepsRoom (area_of part area) kept now
+rooms-of-area part now on left kept stands room area inside =
+    area-each part (λ at. KeepsRoom (area_of part at) kept now) now.cur (area_count part.geometry)
+    part.first area
+    (linked-rooms part now on left kept (area_count part.geometry) part.first None stands.1.chain
+    room) inside
 
 -- what is kept for the part is kept for places of it
 pub kept-places : (part : KeyedChain) (kept : Lengths) (now : Seen) → IsChainOn part now

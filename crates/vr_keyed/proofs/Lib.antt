@@ -6,6 +6,7 @@ pub mod Parts
 pub mod Contents
 pub mod Roomy
 pub mod Setting
+pub mod InPlace
 pub mod Refreshing
 pub mod SetThen
 pub mod Looking

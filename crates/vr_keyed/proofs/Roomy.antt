@@ -213,6 +213,38 @@ module _ (part : Keyed) (range : Range) (place : List ℕ) (new : Option (List �
 
   -- ---- room
 
+  -- A record no longer than the one at the place needs no more.
+  pub no-longer : (kept : Lengths) (bytes : List ℕ) (n : ℕ)
+      → item_at (records_of part old) place ≡ Some (Standing bytes) → n ≤ length bytes
+      → weight (lengths_of part kept range old) ≤ part.size - 4
+      → weight (with_length (lengths_of part kept range old) place n) ≤ part.size - 4
+  no-longer kept bytes n stands less fits =
+      let all : Lengths = with_lengths (lengths before) (lengths_in range kept) in
+      let rise : Rise (with_lengths (lengths before) (lengths_in range kept)) =
+      rise-withs (lengths before) (lengths_in range kept) rise-before in
+      let there : NoMore (Some (length bytes))
+      (length_at (with_lengths (lengths before) (lengths_in range kept)) place) =
+      subst (λ (o : Option ℕ). NoMore o (length_at all place))
+      (at-before place here ∙ ap length_in stands)
+      ((under-more (lengths before) (lengths_in range kept) rise-before).each place) in
+      let under : IsUnder (with_length all place n) all = record {
+        each = λ q. at-by all place n q rise (λ (o : Option ℕ). NoMore o (length_at all q))
+            (λ equal. subst (λ (p : List ℕ). NoMore (Some (most_of n (length_at all place)))
+            (length_at all p)) (sym (same_place q place equal))
+            (most-there (length_at all place) there))
+            (λ apart. no-more-same (length_at all q) (length_at all q) refl);
+      } in
+      omega (
+        arith,
+        fits,
+        under-weight (with_length all place n) all (rise-with all place n rise) rise under,
+      )
+    where
+      most-there : (o : Option ℕ) → NoMore (Some (length bytes)) o
+          → NoMore (Some (most_of n o)) o
+      most-there None there = there
+      most-there (Some k) there = omega (arith, there, less)
+
   -- What is set has room: beside what is there and what is kept, or in what is kept for the
   -- place, or it is taken away.
   abbrev pub HasPlace : Lengths → Type 0

@@ -1,6 +1,7 @@
 pub mod Lent
 pub mod Slots
 pub mod Setting
+pub mod InPlace
 pub mod Ready
 pub mod Look
 pub mod Next

@@ -71,6 +71,8 @@ pub(crate) fn room_over<B: Blocks, K: Kept>(
         (known_in areas.now splits.now (mets slots.old)) (B.seen blocks.old) }
     requires slots { AreSlotsOf (area_of areas.now.part areas.now.part.first) slots.old }
     requires mine { All (IsMine areas.now) (mets slots.old) }
+    requires rooms { IsTrue B.tells → ChainKeepsRoom areas.now.part
+        (K.kept kept.now (part_no (KeyedShape areas.now.part))) (B.seen blocks.old) }
     requires weights { HasRoomFor (area_of areas.now.part areas.now.part.first) weights.old }
     requires kept { IsTrue B.tells → ArePlaces areas.now.part.key
         (K.kept kept.now (part_no (KeyedShape areas.now.part))) }

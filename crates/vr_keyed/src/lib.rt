@@ -10,6 +10,7 @@ mod begin;
 mod chain;
 mod change;
 mod gather;
+mod in_place;
 mod keyed;
 mod look;
 mod meet;

@@ -1,13 +1,17 @@
 //! Whether a record has room at its place, and which stage comes first where it has none.
-ghost use Rattle.std.specs.Prelude.{◌≡◌, ◌<◌, ℕ, List, Option, IsTrue, All, length, MatchOption};
+ghost use Rattle.std.specs.Prelude.{◌≡◌, ◌<◌, ◌≤◌, ℕ, List, Option, IsTrue, All, length, MatchOption};
 ghost use Rattle.std.specs.Prelude.{Some, None, nat_eq, IfOk, OnOk, IfSome};
 ghost use Rattle.std.specs.List.{list_any, flat_map};
+ghost use Rattle.vr_types.specs.Content.{item_at};
+ghost use Rattle.vr_types.specs.Content.Item.{Standing};
 ghost use Rattle.vr_types.specs.Image.{block_at};
 ghost use Rattle.vr_types.specs.Blocks.{Keeps};
 ghost use Rattle.vr_types.specs.Faults.{HasCause};
 ghost use Rattle.vr_seqset.specs.Entry.{Entry};
 ghost use Rattle.vr_space.specs.AreaCalls.{area_part, IsAreaOn};
-ghost use Rattle.vr_space.specs.Keyed.{IsHead, entry_block};
+ghost use Rattle.vr_space.specs.Keyed.{HoldsRange, IsHead, KeepsRoom, entry_block, lengths_of};
+ghost use Rattle.vr_space.specs.Keyed.{records_of};
+ghost use Rattle.vr_space.specs.Room.{HaveRoom, Range};
 ghost use Rattle.vr_space.specs.Split.{SplitNow, area_room, can_grow, free_from, free_interval};
 ghost use Rattle.vr_space.specs.Split.{room_by_split};
 ghost use Rattle.vr_space.specs.Split.{stage_at};
@@ -25,7 +29,7 @@ use crate::meet::meet;
 use crate::slot::Slot;
 use crate::slots::Slots;
 use vr_seqset::{SeqEntry, SeqView, interval_limit};
-use vr_space::{Kept, Layout, LentRange, Room};
+use vr_space::{Kept, Layout, LentRange, Room, record_at};
 use vr_split::Weights;
 use vr_types::{Blocks, DeviceFault, Place, StageKind};
 
@@ -136,6 +140,18 @@ fn room_beyond<B: Blocks>(
     }
 }
 
+/// Whether a record at least as long as this stands at a place of an interval.
+fn stands_as_long(layout: &Layout, block: &[u8], place: &[u8], longest: u32) -> bool
+    ensures stands { (range : Range) → HoldsRange layout.now range block.now → IsTrue result
+        → (bytes : List ℕ) × (item_at (records_of layout.now block.now) place.now
+        ≡ Some (Standing bytes)) × (longest ≤ length bytes) }
+{
+    match record_at(layout, block, place) {
+        Some(record) => record.len() >= longest as usize,
+        None => false,
+    }
+}
+
 /// The range of the interval that a slot keeps.
 pub(crate) fn range_of(slot: &Slot) -> LentRange<'_>
     ensures { range_lent result ≡ (met_in slot.now).range }
@@ -153,6 +169,8 @@ pub(crate) fn range_of(slot: &Slot) -> LentRange<'_>
 
 /// What stands in the way of a record of this length at a place whose interval was met: a split of
 /// the area, or the stage of the part's split, wherever it is. So many areas are free on the volume.
+/// What is kept has room in the interval already, so a record no longer than the one that stands at
+/// the place has it too, and nothing is weighed.
 pub(crate) fn room_met<B: Blocks, K: Kept>(
     layout: &Layout,
     split: Option<UnderWay>,
@@ -169,6 +187,9 @@ pub(crate) fn room_met<B: Blocks, K: Kept>(
     requires stands { IsTrue B.tells → AreaStands layout.now (B.seen blocks.old).cur }
     requires met { IsTrue B.tells
         → IsMet layout.now (B.seen blocks.old).cur (met_in slot.now) }
+    requires fits { IsTrue B.tells → HaveRoom layout.now.size
+        (lengths_of layout.now (K.kept kept.now (area_part layout.now))
+        (met_in slot.now).range (met_in slot.now).block) }
     requires slot { slot.now.place.place ≡ place.now }
     requires place { length place.now ≡ layout.now.key }
     requires room { HasRoomFor layout.now weights.old }
@@ -184,16 +205,12 @@ pub(crate) fn room_met<B: Blocks, K: Kept>(
     if let Some(stage) = stage_of(layout, split, slot.number) {
         return Ok(Room::Stage(stage));
     }
+    let block = slot.bytes.as_slice();
+    if stands_as_long(layout, block, place.as_slice(), longest) {
+        return Ok(Room::Ready);
+    }
     let range = range_of(slot);
-    if fits(
-        layout,
-        &range,
-        slot.bytes.as_slice(),
-        kept,
-        place,
-        longest,
-        weights,
-    ) {
+    if fits(layout, &range, block, kept, place, longest, weights) {
         return Ok(Room::Ready);
     }
     room_beyond(layout, under_way, blocks, place, free)
@@ -221,6 +238,8 @@ pub(crate) fn room_at<B: Blocks, K: Kept>(
     requires inside { All (IsInside layout.now place.now) (mets slots.old) }
     requires met { IsTrue B.tells
         → All (IsMetAt layout.now (B.seen blocks.old).cur place.now) (mets slots.old) }
+    requires rooms { IsTrue B.tells → KeepsRoom layout.now
+        (K.kept kept.now (area_part layout.now)) (B.seen blocks.old) }
     requires room { HasRoomFor layout.now weights.old }
     requires kept { IsTrue B.tells
         → ArePlaces layout.now.key (K.kept kept.now (area_part layout.now)) }

@@ -14,6 +14,7 @@ ghost use Rattle.vr_space.specs.Part.{given};
 ghost use Rattle.vr_keyed.specs.Setting.{items_given, items_set};
 ghost use Rattle.vr_keyed.specs.Slots.{low_kept, met_in};
 
+use crate::in_place::write_in_place;
 use crate::slot::Slot;
 use crate::stretch::{Stretch, add_stretch};
 use vr_ci::{CiView, CiWriter, Form};
@@ -81,7 +82,8 @@ fn add_set(
 }
 
 /// Writes the interval of a slot with what is given in place of the record at a place: its records
-/// in its range alone, and not busy. It answers false where it is no interval or they have no room.
+/// in its range alone, and not busy. A record as long as the one that stands there is written over
+/// it, and nothing is moved. It answers false where it is no interval or they have no room.
 pub(crate) fn write_set(
     layout: &Layout,
     slot: &Slot,
@@ -104,6 +106,9 @@ pub(crate) fn write_set(
     let Ok(view) = CiView::read(Form::Plain, slot.bytes.as_slice()) else {
         return false;
     };
+    if write_in_place(layout, &view, slot, place, bytes, out) {
+        return true;
+    }
     let mut writer = CiWriter::begin(Form::Plain, out);
     if !add_set(layout, &view, slot, place, bytes, &mut writer) {
         return false;

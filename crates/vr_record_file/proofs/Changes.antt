@@ -34,7 +34,7 @@ use Rattle.vr_history.specs.State.{BeforeImage, Logged, Owned, State}
 use Rattle.vr_history.specs.Step.{IsLastKept, IsLeastFree, after_asked, case_of, change_back}
 use Rattle.vr_history.proofs.Same.{unit_same}
 use Rattle.vr_answer.specs.After.{IsChanged, change_at}
-use Rattle.vr_answer.specs.Scope.{AreClusters}
+use Rattle.vr_answer.specs.Scope.{AreUnbuilt}
 use Rattle.vr_answer.proofs.CallerLemmas.{after_change, kept_with, names_at, taken}
 use Rattle.vr_record_file.specs.Now.{FileNow, IsLockedIn, IsOf, IsOfCluster, IsOfDeck, IsStateOf}
 use Rattle.vr_record_file.specs.Now.{IsKeptByDeck, IsOfClusterByDeck, MayBeAsked}
@@ -112,7 +112,7 @@ module _ (file : FileNow) (before : List Lock) (state : State) (unit : UnitOfRec
         positions = λ d s. old.positions d s ∙ ap (λ (p : ℕ → ℕ → _). p d s) (sym made.positions);
         numbers = λ d. is.numbers d ∙ ap (λ (n : ℕ → ℕ). n d) (sym made.numbers);
         stopped = is.stopped ∙ sym made.stopped;
-        alone = subst AreClusters catalog is.alone;
+        unbuilt = subst AreUnbuilt catalog is.unbuilt;
         owned = λ going. subst (λ (l : List Owned). AllByRecursion
             (λ owned. has_part (parts_laid file.catalog) owned.part ≡ true) l) (sym made.owned)
             (is.owned going);
@@ -167,7 +167,7 @@ changed_state opening file after line unit request reply before place feedback s
     let state : State = state_now opening was in
     let case : Case = case_of file.geometry state unit request in
     let names : lock_names case request ≡ record_name case place ∷ [] =
-    names_of case request place refl at ∙ names_at case place is.now.alone at in
+    names_of case request place refl at ∙ names_at case place is.now.unbuilt at in
     entered opening was (lets_go unit.deck request file) after line unit (Asked request reply) is (
       may.current,
       may.reply_is,
@@ -175,7 +175,7 @@ changed_state opening file after line unit request reply before place feedback s
     (changed_is file before state unit request place is.now may.of_deck
     (after_asked case reply)
     (subst (λ (r : Reply). IsChanged case place (after_asked case r)) (sym done)
-    (after_change file.geometry state unit request place feedback shown bytes is.now.alone at))
+    (after_change file.geometry state unit request place feedback shown bytes is.now.unbuilt at))
     (locked ∙ ap (λ (l : List LockName). with_locks unit Exclusive l before) names) other)
   where
     no_refusal : (reply : Reply) → reply ≡ Done feedback shown bytes
@@ -246,7 +246,7 @@ module _ (file : FileNow) (state : State) (unit : UnitOfRecovery) (kept : Before
         positions = is.positions;
         numbers = is.numbers;
         stopped = is.stopped;
-        alone = subst AreClusters catalog is.alone;
+        unbuilt = subst AreUnbuilt catalog is.unbuilt;
         owned = is.owned;
         locked = is.locked;
         of_decks = is.of_decks;
@@ -291,7 +291,7 @@ claimed_state opening file after unit line part area is free laid =
       positions = now.positions;
       numbers = now.numbers;
       stopped = now.stopped;
-      alone = now.alone;
+      unbuilt = now.unbuilt;
       owned = λ going. all_append
           (λ owned. has_part (parts_laid file.catalog) owned.part ≡ true)
           (state_now opening file).owned (record { area = area.0; part = part.0 })

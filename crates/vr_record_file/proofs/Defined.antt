@@ -2,7 +2,7 @@
 use Rattle.std.proofs.Common.{◌≡◌, ℕ, ◌+◌, ◌-◌, ◌<◌, ◌^◌, ◌==◌, ◌&&◌, Bool, true, false, not}
 use Rattle.std.proofs.Common.{if◌then◌else◌, List, [], ◌∷◌, ◌++◌, filter, Option, Some, None}
 use Rattle.std.proofs.Common.{refl, sym, ap, ◌∙◌, subst, arith}
-use Rattle.std.proofs.lemmas.Bool.{true≢false}
+use Rattle.std.proofs.lemmas.Bool.{false_from_ne_true, true≢false}
 use Rattle.std.proofs.lemmas.Bool.Decides.{nat_tests}
 use Rattle.std.proofs.lemmas.Option.{none-some}
 use Rattle.std.specs.List.{AllByRecursion, list_any}
@@ -24,7 +24,7 @@ use Rattle.vr_history.specs.Case.{file_of}
 use Rattle.vr_history.specs.Effects.{drops_held, ends_unit, has_part, is_other, parts_laid, stops}
 use Rattle.vr_history.specs.Effects.{placed_in, used_after, with_change}
 use Rattle.vr_history.specs.State.{BeforeImage, Logged, Owned, State}
-use Rattle.vr_answer.specs.Scope.{AreClusters}
+use Rattle.vr_answer.specs.Scope.{AreUnbuilt}
 use Rattle.vr_answer.proofs.CallerLemmas.{taken}
 use Rattle.vr_record_file.specs.Defining.{IsDefined, IsInDoubt, MayDefine, defined, entry_change}
 use Rattle.vr_record_file.specs.Defining.{entry_image, entry_logged, entry_name}
@@ -70,10 +70,6 @@ all_more : {X : Type 0} (P Q : X → Type 0) → ((x : X) → P x → Q x) → (
     → AllByRecursion P xs → AllByRecursion Q xs
 all_more P Q so [] are = tt
 all_more P Q so (x ∷ xs) are = (so x are.0, all_more P Q so xs are.1)
-
-never_true : (b : Bool) → (b ≡ true → ⊥) → b ≡ false
-never_true true never = absurd (never refl)
-never_true false never = refl
 
 zero_same : (n : ℕ) → (n == 0) ≡ true → n ≡ 0
 zero_same n same = grind (arith, nat_tests, same)
@@ -150,10 +146,10 @@ module _ (opening : State) (file : FileNow) (unit : UnitOfRecovery) (part : Part
   lacking : (other : ℕ) → has_part (parts_in catalog) other ≡ false
       → with_change (entry_change place bytes) old.contents other ≡ []
   lacking other lacks =
-      let beside : (other == 0) ≡ false = never_true (other == 0) (λ same.
+      let beside : (other == 0) ≡ false = false_from_ne_true (other == 0) (λ same.
       true≢false (sym (ap (has_part (parts_in catalog)) (zero_same other same)) ∙ lacks)) in
       let lacked : has_part (parts_in file.catalog) other ≡ false =
-      never_true (has_part (parts_in file.catalog) other)
+      false_from_ne_true (has_part (parts_in file.catalog) other)
       (λ had. true≢false (sym (more_parts other had) ∙ lacks)) in
       ap (λ (b : Bool). if b then placed_in place (Some (Standing bytes)) (old.contents other) else
       old.contents other) beside ∙ may.empty other lacked
@@ -221,7 +217,7 @@ module _ (opening : State) (file : FileNow) (unit : UnitOfRecovery) (part : Part
               ∙ ap (λ (n : ℕ). if d == unit.deck then n + 1 else n) (is.now.numbers d)
               ∙ sym (done.numbers d);
           stopped = is.now.stopped ∙ sym done.stopped;
-          alone = subst AreClusters catalog_is may.clusters;
+          unbuilt = subst AreUnbuilt catalog_is may.unbuilt;
           owned = λ going. subst (AllByRecursion (λ (o : Owned). Has parts_laid catalog o.part))
               (sym done.owned) all_laid;
           locked = subst (λ (l : List Lock). AllByRecursion (IsLockedIn l) new.logged)
@@ -282,7 +278,7 @@ module _ (opening : State) (file : FileNow) (unit : UnitOfRecovery) (part : Part
           numbers = λ d. ap (λ (l : List DeckNumber). number_of l d) numbers ∙ is.now.numbers d
               ∙ ap (λ (n : ℕ → ℕ). n d) (sym adds.numbers);
           stopped = stops;
-          alone = subst AreClusters (sym catalog_with) may.clusters;
+          unbuilt = subst AreUnbuilt (sym catalog_with) may.unbuilt;
           owned = λ none. absurd (never none);
           locked = locked_too;
           of_decks = λ none. absurd (never none);

@@ -138,7 +138,7 @@ module _ (file : FileNow) (state : State) (unit : UnitOfRecovery) (is : IsOf fil
     numbers = λ d. number_raised unit.deck file.numbers has less d
         ∙ ap (λ (n : ℕ). if d == unit.deck then n + 1 else n) (is.numbers d);
     stopped = is.stopped;
-    alone = is.alone;
+    unbuilt = is.unbuilt;
     owned = λ on. all_left (λ owned. has_part (parts_laid file.catalog) owned.part ≡ true)
         (λ owned. has_part (parts_laid (catalog_of (without_unit unit state))) owned.part)
         state.owned (is.owned on);

@@ -59,7 +59,7 @@ module _ (file : FileNow) (state : State) (deck slot : ℕ) (to : Position) (new
     positions = λ d s. set_at d s (d == deck && s == slot) refl;
     numbers = is.numbers;
     stopped = is.stopped;
-    alone = is.alone;
+    unbuilt = is.unbuilt;
     owned = is.owned;
     locked = is.locked;
     of_decks = is.of_decks;

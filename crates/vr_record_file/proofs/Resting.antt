@@ -24,7 +24,7 @@ use Rattle.vr_history.specs.Step.{case_of}
 use Rattle.vr_answer.specs.Here.{or_start}
 use Rattle.vr_answer.specs.InHand.{IsCaseOf, IsFileOf}
 use Rattle.vr_answer.specs.Numbered.{AreNumbersOf}
-use Rattle.vr_answer.specs.Scope.{AreClusters, AreKeyedClusters, HasKeyedAlone}
+use Rattle.vr_answer.specs.Scope.{AreUnbuilt, AreKeyedClusters, HasKeyedAlone}
 use Rattle.vr_answer.specs.declared.case.Case.{Case as CaseInHand}
 use Rattle.vr_record_file.specs.Now.{FileNow, IsOf, IsOfDeck, IsStateOf, has_deck, held_in}
 use Rattle.vr_record_file.specs.Now.{is_of_deck, number_of, stand_in, state_now}
@@ -34,10 +34,10 @@ use Rattle.vr_record_file.proofs.Legal.{NoUtilityUndoes}
 -- the opening
 pub new_state : (file : FileNow) → file.locks ≡ [] → file.files ≡ [] → file.numbers ≡ []
     → file.stopped ≡ None → file.entries ≡ [] → (contents : ℕ → Content) (owned : List Owned)
-    → file.catalog ≡ entries_in (contents 0) → AreClusters file.catalog
+    → file.catalog ≡ entries_in (contents 0) → AreUnbuilt file.catalog
     → AllByRecursion (λ area. has_part (parts_laid file.catalog) area.part ≡ true) owned
     → IsStateOf (opening_state contents owned) file
-new_state file locks files numbers stopped entries contents owned catalog alone laid =
+new_state file locks files numbers stopped entries contents owned catalog unbuilt laid =
     let opening : State = opening_state contents owned in
     let none : IsLegal file.geometry opening [] =
     record { steps = tt; backs_out = tt; stops = tt } in
@@ -47,7 +47,7 @@ new_state file locks files numbers stopped entries contents owned catalog alone 
       positions = λ d s. ap (λ (l : List FilePosition). position_of l d s) files;
       numbers = λ d. ap (λ (l : List DeckNumber). number_of l d) numbers;
       stopped = stopped;
-      alone = subst AreClusters catalog alone;
+      unbuilt = subst AreUnbuilt catalog unbuilt;
       owned = λ going. laid;
       locked = tt;
       of_decks = λ going. tt;
@@ -74,7 +74,7 @@ roomy_state opening file room files_room is = let now = is.now in record {
     positions = now.positions;
     numbers = now.numbers;
     stopped = now.stopped;
-    alone = now.alone;
+    unbuilt = now.unbuilt;
     owned = now.owned;
     locked = now.locked;
     of_decks = now.of_decks;
@@ -97,7 +97,7 @@ numbered_state opening file numbers same is = let now = is.now in record {
     positions = now.positions;
     numbers = λ deck. same deck ∙ now.numbers deck;
     stopped = now.stopped;
-    alone = now.alone;
+    unbuilt = now.unbuilt;
     owned = now.owned;
     locked = now.locked;
     of_decks = now.of_decks;
@@ -206,7 +206,7 @@ module _ (opening : State) (file : FileNow) (is : IsStateOf opening file) (case 
     changing = changing ∙ sym (and_false (not (case.unit.deck == 0)) _
         (changing_none state.logged state.stopped
         (λ going. is.now.of_decks (is.now.stopped ∙ going))));
-    alone = is.now.alone;
+    unbuilt = is.now.unbuilt;
   }
 
   -- and of all else
@@ -228,7 +228,7 @@ module _ (opening : State) (file : FileNow) (is : IsStateOf opening file) (case 
         stand = file_is.stand;
         stopped = file_is.stopped;
         changing = file_is.changing;
-        alone = file_is.alone;
+        unbuilt = file_is.unbuilt;
       };
       locks = locks;
       free =

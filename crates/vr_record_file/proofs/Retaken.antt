@@ -1,4 +1,5 @@
--- A lock that a unit takes again: it isn't in the unit's way, and nothing comes of it.
+-- Locks that a unit takes: none of them is in the unit's way, and nothing comes of one that it takes
+-- again.
 use Rattle.std.proofs.Common.{◌≡◌, ◌&&◌, ◌||◌, Bool, true, false, cond, not, List, [], ◌∷◌, ◌++◌}
 use Rattle.std.proofs.Common.{find, map, Option, Some, None, refl, ap, ◌∙◌}
 use Rattle.std.specs.List.{list_any}
@@ -39,52 +40,53 @@ module _ (unit : UnitOfRecovery) (name : LockName) where
   abbrev raising : Lock → Lock
   raising lock = raises unit name Exclusive lock
 
-  abbrev in_the_way : Lock → Bool
-  in_the_way lock = conflicts unit Exclusive name lock
-
   mine_own : is_own unit name mine ≡ true
   mine_own = ap (λ (b : Bool). b && lock_name_eq name name) (unit_self unit) ∙ name_self name
 
-  -- ---- it isn't in the way
+  -- ---- it isn't in the way, whichever name the unit asks for
 
-  own_passes : (lock : Lock) → same_unit unit lock.unit ≡ true → in_the_way lock ≡ false
-  unfolding stands_against
-  own_passes lock own =
-      ap (λ (b : Bool). lock_name_eq name lock.name && (not b && true)) own
-      ∙ and_false (lock_name_eq name lock.name)
+  module _ (other : LockName) where
+    abbrev in_the_way : Lock → Bool
+    in_the_way lock = conflicts unit Exclusive other lock
 
-  raised_passes : (lock : Lock) (own : Bool) → is_own unit name lock ≡ own
-      → in_the_way lock ≡ false
-      → in_the_way (cond own (record lock { mode = raised lock.mode Exclusive }) lock) ≡ false
-  raised_passes lock true is passes =
-      own_passes (record lock { mode = raised lock.mode Exclusive }) (first_holds _ _ is)
-  raised_passes lock false is passes = passes
+    own_passes : (lock : Lock) → same_unit unit lock.unit ≡ true → in_the_way lock ≡ false
+    unfolding stands_against
+    own_passes lock own =
+        ap (λ (b : Bool). lock_name_eq other lock.name && (not b && true)) own
+        ∙ and_false (lock_name_eq other lock.name)
 
-  none_raised : (locks : List Lock) → find in_the_way locks ≡ None
-      → find in_the_way (map raising locks) ≡ None
-  none_raised [] none = none
-  none_raised (lock ∷ locks) none =
-      still_none (in_the_way lock) (in_the_way (raising lock)) lock (raising lock)
-      (find in_the_way locks) (find in_the_way (map raising locks))
-      (raised_passes lock (is_own unit name lock) refl) (none_raised locks) none
+    raised_passes : (lock : Lock) (own : Bool) → is_own unit name lock ≡ own
+        → in_the_way lock ≡ false
+        → in_the_way (cond own (record lock { mode = raised lock.mode Exclusive }) lock) ≡ false
+    raised_passes lock true is passes =
+        own_passes (record lock { mode = raised lock.mode Exclusive }) (first_holds _ _ is)
+    raised_passes lock false is passes = passes
 
-  none_more : (locks : List Lock) → find in_the_way locks ≡ None
-      → find in_the_way (locks ++ mine ∷ []) ≡ None
-  none_more [] none =
-      ap (λ (b : Bool). cond b (Some mine) None) (own_passes mine (unit_self unit))
-  none_more (lock ∷ locks) none =
-      still_none (in_the_way lock) (in_the_way lock) lock lock (find in_the_way locks)
-      (find in_the_way (locks ++ mine ∷ [])) (λ fails. fails) (none_more locks) none
+    none_raised : (locks : List Lock) → find in_the_way locks ≡ None
+        → find in_the_way (map raising locks) ≡ None
+    none_raised [] none = none
+    none_raised (lock ∷ locks) none =
+        still_none (in_the_way lock) (in_the_way (raising lock)) lock (raising lock)
+        (find in_the_way locks) (find in_the_way (map raising locks))
+        (raised_passes lock (is_own unit name lock) refl) (none_raised locks) none
 
-  none_if : (b : Bool) (locks : List Lock) → find in_the_way locks ≡ None
-      → find in_the_way (cond b (map raising locks) (locks ++ mine ∷ [])) ≡ None
-  none_if true locks none = none_raised locks none
-  none_if false locks none = none_more locks none
+    none_more : (locks : List Lock) → find in_the_way locks ≡ None
+        → find in_the_way (locks ++ mine ∷ []) ≡ None
+    none_more [] none =
+        ap (λ (b : Bool). cond b (Some mine) None) (own_passes mine (unit_self unit))
+    none_more (lock ∷ locks) none =
+        still_none (in_the_way lock) (in_the_way lock) lock lock (find in_the_way locks)
+        (find in_the_way (locks ++ mine ∷ [])) (λ fails. fails) (none_more locks) none
 
-  -- where no lock was in the unit's way, none is once it has taken its own
-  pub none_with_own : (locks : List Lock) → first_conflict locks unit Exclusive name ≡ None
-      → first_conflict (with_lock unit Exclusive name locks) unit Exclusive name ≡ None
-  none_with_own locks none = none_if (list_any (is_own unit name) locks) locks none
+    none_if : (b : Bool) (locks : List Lock) → find in_the_way locks ≡ None
+        → find in_the_way (cond b (map raising locks) (locks ++ mine ∷ [])) ≡ None
+    none_if true locks none = none_raised locks none
+    none_if false locks none = none_more locks none
+
+    -- where no lock was in the unit's way, none is once it has taken its own
+    pub none_with_own : (locks : List Lock) → first_conflict locks unit Exclusive other ≡ None
+        → first_conflict (with_lock unit Exclusive name locks) unit Exclusive other ≡ None
+    none_with_own locks none = none_if (list_any (is_own unit name) locks) locks none
 
   -- ---- nothing comes of it
 

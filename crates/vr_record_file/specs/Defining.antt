@@ -29,7 +29,7 @@ use Rattle.vr_history.specs.Effects.{with_change}
 use Rattle.vr_history.specs.Names.{with_lock}
 use Rattle.vr_history.specs.State.{BeforeImage, Logged, State}
 use Rattle.vr_history.specs.Step.{IsLeastFree, IsOfUnit}
-use Rattle.vr_answer.specs.Scope.{AreClusters}
+use Rattle.vr_answer.specs.Scope.{AreUnbuilt}
 use Rattle.vr_record_file.specs.Now.{FileNow, ended, failed, lets_go, state_now, with_event}
 
 -- ---- what it enters
@@ -81,8 +81,8 @@ abbrev pub need_to_define : List ℕ → ℕ
 need_to_define place = before_length place None + end_length
 
 -- A unit of the utilities may define a part: the record is valid in the catalog, stands at its key,
--- where none stood, and makes this catalog, of clusters alone, which lays the part; the area is the
--- least that no part has; and neither a lock nor the log is in the way.
+-- where none stood, and makes this catalog, which has no alternate index that is built and lays the
+-- part; the area is the least that no part has; and neither a lock nor the log is in the way.
 pub record MayDefine (opening : State) (file : FileNow) (unit : UnitOfRecovery) (part : PartNo)
     (area : AreaNo) (add : Request) (place bytes : List ℕ) (commit : Request)
     (catalog : List CatEntry) : Type 0 where
@@ -104,7 +104,7 @@ pub record MayDefine (opening : State) (file : FileNow) (unit : UnitOfRecovery) 
   pub room : (state_now opening file).used + need_to_define place ≤ log_size file.geometry
   pub catalog_is : entries_in
       (with_change (entry_change place bytes) (state_now opening file).contents 0) ≡ catalog
-  pub clusters : AreClusters catalog
+  pub unbuilt : AreUnbuilt catalog
   pub laid : has_part (parts_laid catalog) part.0 ≡ true
   -- parts that the catalog lacks have no content
   pub empty : (other : ℕ) → has_part (parts_in file.catalog) other ≡ false

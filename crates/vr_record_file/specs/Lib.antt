@@ -1,3 +1,3 @@
+pub mod CatalogEdit
 pub mod Defining
-pub mod EntryChange
 pub mod Now

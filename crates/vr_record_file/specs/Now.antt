@@ -45,7 +45,7 @@ use Rattle.vr_history.specs.State.{BeforeImage, Logged, State}
 use Rattle.vr_history.specs.Step.{IsOfUnit, case_of, read_on}
 use Rattle.vr_answer.specs.Kept.{is_under}
 use Rattle.vr_answer.specs.Least.{found_at}
-use Rattle.vr_answer.specs.Scope.{HasClustersAlone}
+use Rattle.vr_answer.specs.Scope.{HasNoneBuilt}
 use Rattle.vr_record_file.specs.declared.numbers.DeckNumber.{DeckNumber}
 
 -- what it is seen as
@@ -134,8 +134,8 @@ is_undoing unit entries = is_undoing_from unit false entries
 
 -- What is in memory is what this state has. Once the volume has stopped, no answer looks at locks;
 -- and until then each owned area is of a part in the catalog, and only decks have part in what live
--- units logged and keep. A definition, or a change of an entry, that meets a fault of a write
--- leaves its unit, of the utilities, in doubt, and the areas of a part that goes with its entry
+-- units logged and keep. A definition, or an edit of the catalog, that meets a fault of a
+-- write leaves its unit, of the utilities, in doubt, and the areas of a part that goes with its entry
 -- owned.
 pub record IsOf (file : FileNow) (state : State) : Type 0 where
   pub catalog : file.catalog ≡ catalog_of state
@@ -144,7 +144,7 @@ pub record IsOf (file : FileNow) (state : State) : Type 0 where
       ≡ state.positions deck slot
   pub numbers : (deck : ℕ) → number_of file.numbers deck ≡ state.numbers deck
   pub stopped : file.stopped ≡ state.stopped
-  pub alone : HasClustersAlone state
+  pub unbuilt : HasNoneBuilt state
   pub owned : file.stopped ≡ None
       → AllByRecursion (λ owned. has_part (parts_laid file.catalog) owned.part ≡ true) state.owned
   pub locked : AllByRecursion (IsLockedIn state.locks) state.logged

@@ -6,7 +6,7 @@ ghost use Rattle.vr_catalog.specs.Catalog.{entries_in};
 ghost use Rattle.vr_history.specs.Effects.{has_part, parts_laid};
 ghost use Rattle.vr_history.specs.Merged.{last_stamp};
 ghost use Rattle.vr_history.specs.State.{Owned, State, opening_state};
-ghost use Rattle.vr_answer.specs.Scope.{AreClusters};
+ghost use Rattle.vr_answer.specs.Scope.{AreUnbuilt};
 ghost use Rattle.vr_record_file.specs.Now.{IsStateOf, lets_go, next_stamp, with_event};
 ghost use Rattle.vr_history.specs.declared.entry.What.TheVariants.{Asked};
 
@@ -52,15 +52,15 @@ impl Model for RecordFile {
 
 impl RecordFile {
     /// A record file with no lock, no position, no deck and no entry, on this catalog. It takes no
-    /// memory. It is what no history gives from a volume that is opened with this catalog, of
-    /// clusters alone, whose areas are all of parts in it (`state`).
+    /// memory. It is what no history gives from a volume that is opened with this catalog, which
+    /// has no alternate index that is built, whose areas are all of parts in it (`state`).
     pub fn new(alloc: Global, geometry: Geometry, catalog: Catalog) -> RecordFile
         ensures geometry { result.geometry ≡ geometry }
         ensures catalog { result.catalog ≡ catalog }
         ensures entries { result.entries ≡ [] }
         ensures stopped { result.stopped ≡ None }
         ensures state { (contents : ℕ → Content) (owned : List Owned)
-            → catalog ≡ entries_in (contents 0) → AreClusters catalog
+            → catalog ≡ entries_in (contents 0) → AreUnbuilt catalog
             → AllByRecursion (λ area. has_part (parts_laid catalog) area.part ≡ true) owned
             → IsStateOf (opening_state contents owned) result }
     {
@@ -131,21 +131,21 @@ impl RecordFile {
         self.history
     }
 
-    /// Makes room for four entries and one more file. It fails only if memory runs out. All else
+    /// Makes room for six entries and one more file. It fails only if memory runs out. All else
     /// stays, whatever the answer.
     pub fn reserve(&mut self) -> Result<(), OutOfMemory>
         ensures same { self.new ≡ record self.old {
           room = self.new.room;
           files_room = self.new.files_room;
         } }
-        ensures room { OnOk result (4 ≤ self.new.room) }
+        ensures room { OnOk result (6 ≤ self.new.room) }
         ensures files_room { OnOk result (0 < self.new.files_room) }
         ensures room_kept { self.old.room ≤ self.new.room }
         ensures files_room_kept { self.old.files_room ≤ self.new.files_room }
         ensures state { (opening : State) → IsStateOf opening self.old
             → IsStateOf opening self.new }
     {
-        self.history.reserve(4)?;
+        self.history.reserve(6)?;
         self.positions.reserve()?;
         Ok(())
     }

@@ -17,9 +17,10 @@ ghost use Rattle.vr_types.specs.declared.unit.PartNo.{PartNo};
 ghost use Rattle.vr_history.specs.Merged.{last_stamp};
 ghost use Rattle.vr_record_file.specs.Defining.{IsDefined, IsInDoubt, MayDefine, defined};
 ghost use Rattle.vr_record_file.specs.Defining.{failed_to_define};
-ghost use Rattle.vr_record_file.specs.EntryChange.{IsCatalogChanged, IsChangeInDoubt};
-ghost use Rattle.vr_record_file.specs.EntryChange.{MayChangeEntry, entry_changed};
-ghost use Rattle.vr_record_file.specs.EntryChange.{failed_to_change};
+ghost use Rattle.vr_record_file.specs.CatalogEdit.{IsCatalogEdited, IsEditInDoubt};
+ghost use Rattle.vr_record_file.specs.CatalogEdit.{MayEditCatalog, RecordChange, catalog_edited};
+ghost use Rattle.vr_record_file.specs.CatalogEdit.{failed_to_edit};
+ghost use Rattle.vr_record_file.specs.declared.entry_step.EntryStep.{EntryStep};
 ghost use Rattle.vr_record_file.specs.Now.{FileNow, IsLockedIn, IsStateOf, state_now};
 
 /// A place that the log has is under its unit's exclusive lock, which is in the way of every other
@@ -67,26 +68,26 @@ pub fn definition_in_doubt()
         (state_now opening file) (state_now opening to) }
 {}
 
-/// What the entries of a change of an entry leave of the state, field by field: the new record
-/// stands in the catalog, or none does, a part that the catalog lacks then has no content and no
-/// area, the log is empty, the number of its deck rises, and nothing else is left of its unit.
-pub fn changed_state()
+/// What the entries of an edit of the catalog leave of the state, field by field: its changes are
+/// made, a part that the catalog lacks then has no content and no area, the log is empty, the number
+/// of its deck rises, and nothing else is left of its unit.
+pub fn edited_state()
     ensures { (opening : State) (file : FileNow) (after line : ℕ) (unit : units.Unit)
-        (get change : Request) (place before : List ℕ) (bytes : Option (List ℕ))
-        (commit : Request) (catalog : List CatEntry) → IsStateOf opening file
-        → MayChangeEntry opening file unit get change place before bytes commit catalog
-        → IsCatalogChanged unit place bytes catalog (state_now opening file) (state_now opening
-        (entry_changed after unit line get change place before commit catalog file)) }
+        (steps : List EntryStep) (changes : List RecordChange) (commit : Request)
+        (catalog : List CatEntry) → IsStateOf opening file
+        → MayEditCatalog opening file unit steps changes commit catalog
+        → IsCatalogEdited unit changes catalog (state_now opening file) (state_now opening
+        (catalog_edited after unit line steps commit catalog file)) }
 {}
 
-/// And what they leave where a write failed: the new record stands in the catalog, or none does,
-/// the unit is in doubt, with its before-image, and the volume stopped at the last stamp.
-pub fn change_in_doubt()
+/// And what they leave where a write failed: its changes are made, the unit is in doubt, with its
+/// before-images, and the volume stopped at the last stamp.
+pub fn edit_in_doubt()
     ensures { (opening : State) (file : FileNow) (after line : ℕ) (unit : units.Unit)
-        (get change : Request) (place before : List ℕ) (bytes : Option (List ℕ))
-        (commit : Request) (catalog : List CatEntry) → IsStateOf opening file
-        → MayChangeEntry opening file unit get change place before bytes commit catalog
-        → let to = failed_to_change after unit line get change place before commit catalog file in
-        IsChangeInDoubt unit get place before bytes (last_stamp 0 to.entries)
+        (steps : List EntryStep) (changes : List RecordChange) (commit : Request)
+        (catalog : List CatEntry) → IsStateOf opening file
+        → (may : MayEditCatalog opening file unit steps changes commit catalog)
+        → let to = failed_to_edit after unit line steps commit catalog file in
+        IsEditInDoubt unit may.on changes (last_stamp 0 to.entries)
         (state_now opening file) (state_now opening to) }
 {}

@@ -7,8 +7,9 @@
 mod asked;
 mod changing;
 mod defining;
+mod editing;
 mod ending;
-mod entry_change;
+mod entry_step;
 mod file;
 mod laws;
 mod numbers;
@@ -16,8 +17,9 @@ mod positioning;
 mod reading;
 mod refusing;
 
+pub use entry_step::EntryStep;
 pub use file::RecordFile;
 pub use laws::{
-    change_in_doubt, changed_state, defined_state, definition_in_doubt, logged_places_are_locked,
+    defined_state, definition_in_doubt, edit_in_doubt, edited_state, logged_places_are_locked,
     stopped_volumes_look_at_no_lock,
 };

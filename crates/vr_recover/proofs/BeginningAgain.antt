@@ -1,12 +1,12 @@
 -- What a log that begins again leaves of a volume whose units of recovery have all ended.
-use Rattle.std.proofs.Common.{◌≡◌, ◌∙◌, ◌<◌, ◌≤◌, ⊎_elim, inl, inr, ℕ, List, [], Some, ap, arith}
-use Rattle.std.proofs.Common.{length, refl, subst, sym, take}
+use Rattle.std.proofs.Common.{◌≡◌, ◌∙◌, ◌<◌, ◌≤◌, ⊎_elim, inl, inr, ℕ, List, [], ap, arith}
+use Rattle.std.proofs.Common.{length, refl, subst, sym}
 use Rattle.std.proofs.lemmas.List.{take_all}
 use Rattle.vr_types.specs.Content.{Content}
 use Rattle.vr_types.specs.Image.{Block, Image, block_at}
 use Rattle.vr_types.specs.Moments.{Guards}
 use Rattle.vr_types.specs.Regions.{IsImageOn, Outside, Touches}
-use Rattle.vr_types.specs.Seen.{Left, Seen}
+use Rattle.vr_types.specs.Seen.{Seen}
 use Rattle.vr_types.specs.declared.geometry.Geometry.{Geometry}
 use Rattle.vr_types.proofs.CallerLemmas.{during-weaken}
 use Rattle.vr_space.specs.Owners.{Owners}
@@ -20,7 +20,6 @@ use Rattle.vr_log.specs.Spells.{Spells}
 use Rattle.vr_log.specs.Standing.{InLog, LogStands}
 use Rattle.vr_log.specs.declared.record.LogRecord.{LogRecord}
 use Rattle.vr_log.proofs.CallerLemmas.{stands_has}
-use Rattle.vr_volume.specs.Laid.{shape_by}
 use Rattle.vr_volume.specs.PutBack.{images_of, oldest}
 use Rattle.vr_volume.specs.Safe.{IsImageSafe, IsSafe, IsSafeBy}
 use Rattle.vr_volume.proofs.Calls.{safe-less}

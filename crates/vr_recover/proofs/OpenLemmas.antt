@@ -1,5 +1,5 @@
 -- What opening a volume comes to, step by step.
-use Rattle.std.proofs.Common.{◌≡◌, ◌⊎◌, ⊎_elim, inl, inr, ℕ, ◌+◌, ◌<◌, ◌≤◌, ◌^◌, Bool, List, []}
+use Rattle.std.proofs.Common.{◌≡◌, ◌⊎◌, ⊎_elim, inl, inr, ℕ, ◌≤◌, ◌^◌, Bool, List, []}
 use Rattle.std.proofs.Common.{Option, Some, None, length, refl, sym, ap, subst, ◌∙◌, arith, map}
 use Rattle.std.proofs.Common.{get_or, IsTrue, false}
 use Rattle.std.specs.Prelude.{All, Contains, slice_get}
@@ -457,8 +457,7 @@ module _ (geometry : Geometry) (content : LogContent) (entries : List CatEntry)
     records = records;
     generation = low;
     distinct = planned.may.distinct;
-    clusters = planned.clusters;
-    plain = planned.may.plain;
+    served = planned.served;
     shapes = shapes-of;
     laid = laid-of;
     on = subst (All (λ (shape : Shape). IsOn shape now)) (sym same)

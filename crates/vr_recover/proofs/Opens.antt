@@ -1,11 +1,16 @@
 -- A volume whose catalog is served is refused for nothing that its blocks have.
-use Rattle.std.proofs.Common.{◌≡◌, ◌∙◌, ℕ, List, ap, refl, subst, sym}
+use Rattle.std.proofs.Common.{◌≡◌, ◌∙◌, ◌+◌, ◌≤◌, All, ℕ, List, ap, get_or, refl, subst, sym}
+use Rattle.std.specs.Prelude.{IfSome}
 use Rattle.vr_types.specs.Content.{Content}
 use Rattle.vr_types.specs.Seen.{Seen}
 use Rattle.vr_types.specs.declared.geometry.Geometry.{Geometry}
 use Rattle.vr_attach.specs.Laid.{catalog_shape}
-use Rattle.vr_catalog.specs.Catalog.{entries_in}
+use Rattle.vr_catalog.specs.Catalog.{cluster_definition, entries_in}
+use Rattle.vr_catalog.specs.declared.definition.Definition.{Definition}
 use Rattle.vr_catalog.specs.declared.entry.CatEntry.{CatEntry}
+use Rattle.vr_catalog.specs.declared.entry.EntryKind.{EntryKind}
+use Rattle.vr_catalog.specs.declared.entry.EntryKind.TheVariants.{Alternate, Cluster, Path}
+use Rattle.vr_edits.specs.Edits.{IsServedEntry, IsUnbuilt}
 use Rattle.vr_log.specs.Content.{Content as LogContent}
 use Rattle.vr_log.specs.Spells.{Spells}
 use Rattle.vr_mount.proofs.Headers.{one_shape}
@@ -16,16 +21,39 @@ use Rattle.vr_volume.specs.Volume.{Recovers}
 use Rattle.vr_recover.specs.Images.{catalog_by}
 use Rattle.vr_recover.specs.Opening.{IsVolume}
 use Rattle.vr_recover.specs.Opens.{AreServed, MayBeOpened}
-use Rattle.vr_recover.specs.Unserved.{IsEntryCause, IsUnserved}
+use Rattle.vr_recover.specs.Unserved.{IsEntryCause, IsPlain, IsUnserved}
 use Rattle.vr_recover.specs.declared.open_no.OpenNo.TheVariants as nos
 use Rattle.vr_recover.specs.declared.open_no.Unserved.{Unserved}
-use Rattle.vr_recover.specs.declared.open_no.Unserved.TheVariants.{LongRecord, OtherKind}
+use Rattle.vr_recover.specs.declared.open_no.Unserved.TheVariants.{BuiltIndex, LongRecord}
 use Rattle.vr_recover.proofs.Logs.{same_log}
+
+-- the longest record of a cluster that is served has room; and what passes both tests is served
+served-plain : (geometry : Geometry) (entry : CatEntry) → IsServedEntry geometry entry
+    → IsPlain geometry entry
+served-plain geometry entry served = by-kind entry.entry_kind refl
+  where
+    by-kind : (kind : EntryKind) → entry.entry_kind ≡ kind
+        → IfSome (cluster_definition kind entry)
+        (λ (definition : Definition). definition.maximum + 7 ≤ geometry.size)
+    by-kind Cluster is = served.plain is
+    by-kind Alternate is = tt
+    by-kind Path is = tt
+
+pub served-both : (geometry : Geometry) (entries : List CatEntry) → All IsUnbuilt entries
+    → All (IsPlain geometry) entries → AreServed geometry entries
+served-both geometry entries unbuilt plain = λ k entry below. record {
+  plain = λ kind. subst (λ (one : EntryKind). IfSome (cluster_definition one (get_or entries k entry))
+      (λ (definition : Definition). definition.maximum + 7 ≤ geometry.size)) kind
+      (plain k entry below);
+  unbuilt = unbuilt k entry below;
+}
 
 served-cause : (geometry : Geometry) (entries : List CatEntry) → AreServed geometry entries
     → (cause : Unserved) → IsEntryCause geometry entries cause → ⊥
-served-cause geometry entries served OtherKind other = other served.clusters
-served-cause geometry entries served LongRecord long = long served.plain
+served-cause geometry entries served BuiltIndex built =
+    built (λ k entry below. (served k entry below).unbuilt)
+served-cause geometry entries served LongRecord long = long (λ k entry below.
+    served-plain geometry (get_or entries k entry) (served k entry below))
 
 module _ (geometry : Geometry) (number : ℕ) (contents : ℕ → Content) (now : Seen)
     (is : IsVolume number geometry contents now)

@@ -22,6 +22,7 @@ use Rattle.vr_attach.specs.CatalogRules.{IsCatalog}
 use Rattle.vr_attach.specs.Header.{header_block}
 use Rattle.vr_attach.specs.Laid.{AreApart, HasArea, catalog_shape, keyed_part, shape_by_kind}
 use Rattle.vr_attach.specs.Laid.{shape_in, shape_of}
+use Rattle.vr_edits.specs.Edits.{IsServedEntry}
 use Rattle.vr_history.specs.State.{BeforeImage}
 use Rattle.vr_keyed.specs.Attached.{IsAttachedTo}
 use Rattle.vr_keyed.specs.Owned.{Owned}
@@ -50,7 +51,7 @@ use Rattle.vr_recover.specs.declared.open_no.OpenNo.TheVariants as nos
 use Rattle.vr_recover.specs.declared.open_no.OpenNo.TheVariants.{Damaged, Version, Read, Write}
 use Rattle.vr_recover.specs.declared.open_no.OpenNo.TheVariants.{Memory}
 use Rattle.vr_recover.specs.declared.open_no.Unserved.{Unserved}
-use Rattle.vr_recover.specs.Unserved.{IsEntryCause, IsPlain, IsServedCluster}
+use Rattle.vr_recover.specs.Unserved.{IsEntryCause, IsPlain}
 
 -- an answer that says of the blocks what P does where they are damaged, and Q where they aren't
 -- served
@@ -215,7 +216,7 @@ pub record IsMounted (geometry : Geometry) (entries : List CatEntry) (parts : Li
   pub owned : AreOwnersBy geometry parts owners
   pub may : MayAdd geometry entries
   pub apart : AreApart (shape_in geometry entries)
-  pub clusters : All IsServedCluster entries
+  pub served : All (IsServedEntry geometry) entries
 
 -- These are the catalog's entries, and no part number comes twice in them.
 pub record AreEntries (geometry : Geometry) (images : List BeforeImage) (now : Seen)
@@ -273,7 +274,7 @@ pub record IsPlanned (geometry : Geometry) (content : LogContent) (entries : Lis
   pub shapes_are : AreShapesOf geometry entries shapes
   pub may : MayAdd geometry entries
   pub apart : AreApart (shape_in geometry entries)
-  pub clusters : All IsServedCluster entries
+  pub served : All (IsServedEntry geometry) entries
   pub back : MayGoBack (images_of content.records) shapes
 
 -- And by what the blocks have: the header, the log, the catalog with its before-images put back,

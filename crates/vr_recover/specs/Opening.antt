@@ -1,6 +1,6 @@
 -- What is found on the blocks of a volume as it is opened, and why one is not opened. The rules are
 -- this project's own.
-use Rattle.std.specs.Prelude.{◌≡◌, ◌≢◌, ◌⊎◌, ◌<◌, ◌≤◌, ◌+◌, ◌^◌, ℕ, false, List, [], ◌∷◌, All, None}
+use Rattle.std.specs.Prelude.{◌≡◌, ◌≢◌, ◌⊎◌, ◌<◌, ◌≤◌, ◌^◌, ℕ, false, List, [], ◌∷◌, All, None}
 use Rattle.std.specs.Prelude.{Some}
 use Rattle.std.specs.Prelude.{Option, length, map, nat_eq, slice_get, slice_index_or}
 use Rattle.std.specs.List.{IsDistinct, filter_map}
@@ -20,6 +20,7 @@ use Rattle.vr_attach.specs.Linked.{IsLinkedShown}
 use Rattle.vr_attach.specs.Laid.{AreApart, HasArea, IsReachedElsewhere, catalog_shape, keyed_part}
 use Rattle.vr_attach.specs.Laid.{shape_by, shape_in, shape_of}
 use Rattle.vr_attach.specs.Owning.{owner_of}
+use Rattle.vr_edits.specs.Edits.{IsServedEntry}
 use Rattle.vr_history.specs.State.{BeforeImage}
 use Rattle.vr_log.specs.Content.{Content as LogContent}
 use Rattle.vr_log.specs.Damage.{IsDamagedAt}
@@ -38,7 +39,7 @@ use Rattle.vr_recover.specs.Images.{CannotGoBack, catalog_by}
 use Rattle.vr_recover.specs.Recovered.{KeepsAll}
 pub use Rattle.vr_recover.specs.Recovered.{IsRecovered}
 use Rattle.vr_recover.specs.Undone.{IsLaidPastLog, IsReady, IsUndone}
-use Rattle.vr_recover.specs.Unserved.{IsPlain, IsServedCluster, IsUnserved}
+use Rattle.vr_recover.specs.Unserved.{IsUnserved}
 use Rattle.vr_recover.specs.declared.open_no.OpenNo.{OpenNo}
 use Rattle.vr_recover.specs.declared.open_no.OpenNo.TheVariants.{Damaged, Version, Unserved, Read}
 use Rattle.vr_recover.specs.declared.open_no.OpenNo.TheVariants.{Write}
@@ -281,9 +282,10 @@ pub record AreShapesOf (geometry : Geometry) (entries : List CatEntry) (shapes :
     pub by_number : AreByNumber entries ordered
     pub are : shapes ≡ shapes_laid geometry ordered
 
--- What is handed out, whatever the blocks have: the catalog has clusters alone, each with records
--- that have room in an interval, the parts are those that it lays, in the order of their numbers,
--- each on blocks of the volume past the log, in areas that are its own, and the log has no record.
+-- What is handed out, whatever the blocks have: the catalog has clusters with records that have
+-- room in an interval, alternate indexes that aren't built, and paths; the parts are those that it
+-- lays, in the order of their numbers, each on blocks of the volume past the log, in areas that are
+-- its own, and the log has no record.
 pub record IsHandedOut (geometry : Geometry) (entries : List CatEntry) (parts : List AnyPart)
     (log : LogNow) (owners : List (Option PartNo)) (now : Seen) : Type 0 where
   pub allowed : IsAllowed geometry
@@ -294,8 +296,7 @@ pub record IsHandedOut (geometry : Geometry) (entries : List CatEntry) (parts : 
   pub records : log.records ≡ []
   pub generation : log.generation ≤ 2 ^ 62
   pub distinct : IsDistinct nat_eq (0 ∷ parts_in entries)
-  pub clusters : All IsServedCluster entries
-  pub plain : All (IsPlain geometry) entries
+  pub served : All (IsServedEntry geometry) entries
   pub shapes : AreShapesOf geometry entries (map shape_any parts)
   pub laid : AreLaid geometry entries (map shape_any parts)
   pub on : All (λ (shape : Shape). IsOn shape now) (map shape_any parts)

@@ -10,9 +10,9 @@ use Rattle.vr_space.specs.Part.{StandsFor}
 use Rattle.vr_catalog.specs.Catalog.{cluster_definition, entries_in}
 use Rattle.vr_catalog.specs.declared.definition.Definition.{Definition}
 use Rattle.vr_catalog.specs.declared.entry.CatEntry.{CatEntry}
-use Rattle.vr_catalog.specs.declared.entry.EntryKind.TheVariants.{Cluster}
 use Rattle.vr_attach.specs.CatalogRules.{IsCatalog}
 use Rattle.vr_attach.specs.Laid.{catalog_shape}
+use Rattle.vr_edits.specs.Edits.{IsUnbuilt}
 use Rattle.vr_history.specs.State.{BeforeImage}
 use Rattle.vr_log.specs.Content.{Content as LogContent}
 use Rattle.vr_log.specs.Spells.{Spells}
@@ -20,13 +20,9 @@ use Rattle.vr_mount.specs.Header.{IsHeaderOf}
 use Rattle.vr_volume.specs.PutBack.{images_of}
 use Rattle.vr_recover.specs.Images.{catalog_by}
 use Rattle.vr_recover.specs.declared.open_no.Unserved.{Unserved}
-use Rattle.vr_recover.specs.declared.open_no.Unserved.TheVariants.{OtherKind, LongRecord}
+use Rattle.vr_recover.specs.declared.open_no.Unserved.TheVariants.{BuiltIndex, LongRecord}
 
 -- ---- what is served
-
--- an entry of a cluster, of any kind
-abbrev pub IsServedCluster : CatEntry → Type 0
-IsServedCluster entry = entry.entry_kind ≡ Cluster
 
 -- the longest record of a cluster has room in an interval of its own
 abbrev pub IsPlain : Geometry → CatEntry → Type 0
@@ -37,7 +33,7 @@ IsPlain geometry entry = IfSome (cluster_definition entry.entry_kind entry)
 
 -- of a catalog by its entries
 abbrev pub IsEntryCause : Geometry → List CatEntry → Unserved → Type 0
-IsEntryCause geometry entries OtherKind = All IsServedCluster entries → ⊥
+IsEntryCause geometry entries BuiltIndex = All IsUnbuilt entries → ⊥
 IsEntryCause geometry entries LongRecord = All (IsPlain geometry) entries → ⊥
 
 -- The catalog's blocks stand for a catalog with such entries, once these before-images are put back

@@ -8,6 +8,7 @@ ghost use Rattle.vr_attach.specs.Laid.{AreApart, catalog_shape, shape_in};
 ghost use Rattle.vr_attach.specs.Laid.{keyed_part as part_of};
 ghost use Rattle.vr_catalog.specs.Catalog.{parts_in};
 ghost use Rattle.vr_catalog.specs.Definition.{catalog_definition as definition_of_catalog};
+ghost use Rattle.vr_edits.specs.Edits.{IsServedEntry};
 ghost use Rattle.vr_keyed.specs.Attached.{IsAttachedTo};
 ghost use Rattle.vr_part.specs.Any.{shape_any};
 ghost use Rattle.vr_space.specs.Areas.{KnowsAreas, intervals_in};
@@ -39,14 +40,14 @@ ghost use Rattle.vr_recover.specs.OpenNo.{HasOpenCause, IsOwnNo, IsSilentNo};
 ghost use Rattle.vr_recover.specs.Opening.{AreOwnersBy, AreShapesOf, HasNoSplit};
 ghost use Rattle.vr_recover.specs.Opening.{IsCatalogPartShown};
 ghost use Rattle.vr_recover.specs.Opening.{IsEntryShown};
-ghost use Rattle.vr_recover.specs.Unserved.{IsCatalogUnserved, IsPlain, IsServedCluster};
+ghost use Rattle.vr_recover.specs.Unserved.{IsCatalogUnserved, IsPlain};
 
 use crate::begun::Begun;
 use crate::catalog_back::put_images;
 use crate::fitting::may_put_back;
 use crate::laid::{add, add_entries, by_number};
 use crate::open_no::{OpenNo, Unserved, cannot_go_back};
-use crate::served::{are_plain, are_served};
+use crate::served::{are_plain, are_unbuilt};
 use std::alloc::Global;
 use vr_catalog::{Catalog, catalog_definition};
 use vr_keyed::Keyed;
@@ -272,7 +273,7 @@ fn check_areas(geometry: &Geometry, catalog: &Catalog) -> Result<(), OpenNo>
     requires parts { IsDistinct nat_eq (0 ∷ parts_in catalog.now) }
     ensures apart { OnOk result (AreApart (shape_in geometry.now catalog.now)) }
     ensures on { OnOk result (AreOn geometry.now catalog.now) }
-    ensures clusters { OnOk result (All IsServedCluster catalog.now) }
+    ensures served { OnOk result (All (IsServedEntry geometry.now) catalog.now) }
     ensures plain { OnOk result (All (IsPlain geometry.now) catalog.now) }
     ensures damaged { IfErr result (ShowsBoth (IsAreaNo geometry.now catalog.now)
         (IsEntryNo geometry.now catalog.now)) }
@@ -290,8 +291,8 @@ fn check_areas(geometry: &Geometry, catalog: &Catalog) -> Result<(), OpenNo>
             rule: 4,
         });
     }
-    if !are_served(catalog) {
-        return Err(catalog_unserved(geometry, Unserved::OtherKind));
+    if !are_unbuilt(catalog) {
+        return Err(catalog_unserved(geometry, Unserved::BuiltIndex));
     }
     if !are_plain(geometry, catalog) {
         return Err(catalog_unserved(geometry, Unserved::LongRecord));

@@ -8,8 +8,8 @@ use vr_types::{DeviceFault, OutOfMemory};
 /// own.
 #[derive(Clone, Copy)]
 pub enum Unserved {
-    /// The catalog has an entry that is no cluster: an alternate index or a path.
-    OtherKind,
+    /// The catalog has an alternate index that is built, which no request changes with its base yet.
+    BuiltIndex,
     /// The catalog has a cluster whose longest record has no room in an interval of its own.
     LongRecord,
 }

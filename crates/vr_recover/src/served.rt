@@ -1,27 +1,28 @@
-//! Which catalogs are served: those of clusters, whose longest records have room in an interval of
-//! their own.
+//! Which catalogs are served: those without an alternate index that is built, where the longest
+//! record of each cluster has room in an interval of its own.
 ghost use Rattle.std.specs.Prelude.{◌≡◌, ◌↔◌, IsTrue, All};
-ghost use Rattle.vr_recover.specs.Unserved.{IsServedCluster, IsPlain};
+ghost use Rattle.vr_edits.specs.Edits.{IsUnbuilt};
+ghost use Rattle.vr_recover.specs.Unserved.{IsPlain};
 
 use vr_catalog::{CatEntry, Catalog, EntryKind};
 use vr_types::Geometry;
 
-/// Whether an entry is of a cluster, of any kind.
-fn is_served_cluster(entry: &CatEntry) -> bool
-    ensures { IsTrue result ↔ IsServedCluster entry.now }
+/// Whether an entry is of something else than an alternate index that is built.
+fn is_unbuilt(entry: &CatEntry) -> bool
+    ensures { IsTrue result ↔ IsUnbuilt entry.now }
 {
     match entry.entry_kind {
-        EntryKind::Cluster => true,
-        EntryKind::Alternate | EntryKind::Path => false,
+        EntryKind::Alternate => !entry.built,
+        EntryKind::Cluster | EntryKind::Path => true,
     }
 }
 
-/// Whether each entry of a catalog is of a cluster.
-pub(crate) fn are_served(catalog: &Catalog) -> bool
-    ensures { IsTrue result ↔ All IsServedCluster catalog.now }
+/// Whether a catalog has no alternate index that is built.
+pub(crate) fn are_unbuilt(catalog: &Catalog) -> bool
+    ensures { IsTrue result ↔ All IsUnbuilt catalog.now }
 {
     let entries = catalog.as_slice();
-    entries.iter().all(|entry| is_served_cluster(entry))
+    entries.iter().all(|entry| is_unbuilt(entry))
 }
 
 /// Whether the longest record of an entry has room in an interval of its own, where it is a cluster.

@@ -112,7 +112,7 @@ fn say_no(out: &mut String, no: OpenNo) -> Answer {
 
 fn cause_word(cause: Unserved) -> &'static str {
     match cause {
-        Unserved::OtherKind => "OtherKind",
+        Unserved::BuiltIndex => "BuiltIndex",
         Unserved::LongRecord => "LongRecord",
     }
 }

@@ -1,10 +1,11 @@
 //! A sequence-set record that was read.
 ghost use Rattle.std.specs.Prelude.{◌≡◌, ◌<◌, length, slice_index, slice_get, position, Some, None};
-ghost use Rattle.std.specs.Prelude.{IfOk, IfErr, IfSome, IfNone, IsOkAnd};
-ghost use Rattle.vr_seqset.specs.SequenceSet.{SequenceSet, IsSequenceSet};
-ghost use Rattle.vr_seqset.specs.Reading.{entry_of};
+ghost use Rattle.std.specs.Prelude.{IfOk, IfErr, IfSome, IfNone, IsOkAnd, ℕ};
+ghost use Rattle.std.specs.Option.{IsSomeAnd};
+ghost use Rattle.vr_seqset.specs.SequenceSet.{SequenceSet, IsSequenceSet, HasLengths};
+ghost use Rattle.vr_seqset.specs.Reading.{entry_of, record_in};
 ghost use Rattle.vr_seqset.specs.Search.{reaches};
-ghost use Rattle.vr_seqset.specs.Faults.{Keeps, IsFirstBroken};
+ghost use Rattle.vr_seqset.specs.Faults.{Keeps, IsFirstBroken, CanBeCut};
 
 use crate::checks::{are_used_once, ascend, begins_with, has_zeros, keeps_chain, rest_of};
 use crate::entries::SeqEntries;
@@ -67,6 +68,23 @@ impl<'a> SeqView<'a> {
             return Err(SeqFault::Zeros);
         }
         Ok(view)
+    }
+
+    /// Cuts a head block into its fields and entries, for a caller that knows that it spells a
+    /// record, or wants to know nothing of one that doesn't: the lengths and counts alone are
+    /// looked at, since they bound what is lent. None where one of them is wrong.
+    #[tactic(auto)]
+    pub fn cut(bytes: &'a [u8]) -> Option<SeqView<'a>>
+        // It shows what the block has at the places of the fields.
+        ensures shown { IfSome result (λ view. view ≡ record_in bytes.now) }
+        ensures lengths { IfSome result (HasLengths (length bytes.now)) }
+        // What a block spells is shown.
+        ensures only { (cis : ℕ) (s : SequenceSet) → IsSequenceSet cis bytes.now s
+            → IsSomeAnd result (λ view. view ≡ s) }
+        ensures none { IfNone result (¬ (CanBeCut bytes.now)) }
+    {
+        rest_of(bytes)?;
+        Some(SeqView { block: bytes })
     }
 
     /// Whether it is the first of its part's chain.

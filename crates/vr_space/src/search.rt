@@ -78,8 +78,9 @@ pub fn find_entry<'a>(view: &SeqView<'a>, place: &[u8]) -> Option<(usize, SeqEnt
 
 /// The same as `entry_for`, of a head that was read.
 fn found_in<'a>(area: u16, view: &SeqView<'a>, place: &[u8]) -> Option<FoundEntry<'a>>
-    requires { (size : ℕ) × KeepsRules area size view.now }
-    ensures found { (top : Block) → record_in top ≡ view.now → MatchOption result
+    requires whole { All (IsWhole (length view.now.low)) view.now.entries }
+    ensures found { (top : Block) (size : ℕ) → record_in top ≡ view.now
+        → KeepsRules area size view.now → MatchOption result
         (entry_in top place.now ≡ None)
         (IsEntryFor top place.now) }
     ensures interval { IfSome result (λ found. found.interval < area) }
@@ -87,9 +88,13 @@ fn found_in<'a>(area: u16, view: &SeqView<'a>, place: &[u8]) -> Option<FoundEntr
 {
     let count = view.count();
     let (number, entry) = find_entry(view, place)?;
+    let interval = entry.interval(0);
+    if interval >= area {
+        return None;
+    }
     Some(FoundEntry {
         number,
-        interval: entry.interval(0),
+        interval,
         low: low_at(view, number),
         high: entry.high(),
         last: number + 1 == count,
@@ -97,7 +102,8 @@ fn found_in<'a>(area: u16, view: &SeqView<'a>, place: &[u8]) -> Option<FoundEntr
 }
 
 /// The entry of a head whose range holds the place: the first that reaches it, where the place is
-/// above the low one of the head. None where no entry does, or the block is no head.
+/// above the low one of the head. None where no entry does. Of a block that is no head it may answer
+/// either: the rules of a head are not tested at each search, but where it is attached or written.
 pub fn entry_for<'a>(layout: &Layout, top: &'a [u8], place: &[u8]) -> Option<FoundEntry<'a>>
     ensures found { IsHead layout.now top.now → MatchOption result
         (entry_in top.now place.now ≡ None)
@@ -106,9 +112,7 @@ pub fn entry_for<'a>(layout: &Layout, top: &'a [u8], place: &[u8]) -> Option<Fou
     ensures interval { IfSome result (λ found. found.interval < layout.now.area) }
     ensures places { IfSome result (HasPlaces layout.now.key) }
 {
-    let Ok(view) = SeqView::read(top, layout.area) else {
-        return None;
-    };
+    let view = SeqView::cut(top)?;
     if view.low().len() != usize::from(layout.key) {
         return None;
     }
@@ -117,8 +121,9 @@ pub fn entry_for<'a>(layout: &Layout, top: &'a [u8], place: &[u8]) -> Option<Fou
 
 /// The same as `entry_at`, of a head that was read.
 fn found_at<'a>(area: u16, view: &SeqView<'a>, number: usize) -> Option<FoundEntry<'a>>
-    requires { (size : ℕ) × KeepsRules area size view.now }
-    ensures found { (top : Block) → record_in top ≡ view.now → MatchOption result
+    requires whole { All (IsWhole (length view.now.low)) view.now.entries }
+    ensures found { (top : Block) (size : ℕ) → record_in top ≡ view.now
+        → KeepsRules area size view.now → MatchOption result
         (length (entries_of top) ≤ number) (IsEntryAt top number) }
     ensures interval { IfSome result (λ found. found.interval < area) }
     ensures places { IfSome result (HasPlaces (length view.now.low)) }
@@ -127,16 +132,21 @@ fn found_at<'a>(area: u16, view: &SeqView<'a>, number: usize) -> Option<FoundEnt
         return None;
     }
     let entry = view.entry(number);
+    let interval = entry.interval(0);
+    if interval >= area {
+        return None;
+    }
     Some(FoundEntry {
         number,
-        interval: entry.interval(0),
+        interval,
         low: low_at(view, number),
         high: entry.high(),
         last: number + 1 == view.count(),
     })
 }
 
-/// The entry of a number, from 0 on. None where there is none, or the block is no head.
+/// The entry of a number, from 0 on. None where there is none. Of a block that is no head it may
+/// answer either, as `entry_for`.
 pub fn entry_at<'a>(layout: &Layout, top: &'a [u8], number: usize) -> Option<FoundEntry<'a>>
     ensures found { IsHead layout.now top.now → MatchOption result
         (length (entries_of top.now) ≤ number) (IsEntryAt top.now number) }
@@ -144,22 +154,18 @@ pub fn entry_at<'a>(layout: &Layout, top: &'a [u8], number: usize) -> Option<Fou
     ensures interval { IfSome result (λ found. found.interval < layout.now.area) }
     ensures places { IfSome result (HasPlaces layout.now.key) }
 {
-    let Ok(view) = SeqView::read(top, layout.area) else {
-        return None;
-    };
+    let view = SeqView::cut(top)?;
     if view.low().len() != usize::from(layout.key) {
         return None;
     }
     found_at(layout.area, &view, number)
 }
 
-/// How many entries a head has. None where the block is no head.
+/// How many entries a head has. None where the lengths or counts of the block are no head's.
 pub fn entry_count(layout: &Layout, top: &[u8]) -> Option<usize>
     ensures { IsHead layout.now top.now → result ≡ Some (length (entries_of top.now)) }
 {
-    let Ok(view) = SeqView::read(top, layout.area) else {
-        return None;
-    };
+    let view = SeqView::cut(top)?;
     Some(view.count())
 }
 

@@ -2,6 +2,8 @@
 -- others. The rules are this project's own.
 use Rattle.std.specs.Prelude.{◌≡◌, ◌≢◌, ℕ, cond, List, [], ◌∷◌, map, None, IfSome}
 use Rattle.vr_types.specs.declared.unit.StageKind.{StageKind}
+use Rattle.vr_space.specs.Known.{places_met}
+use Rattle.vr_space.specs.Met.{met_next}
 use Rattle.vr_space.specs.Part.{HasMore}
 use Rattle.vr_store.specs.Store.{PartNow, has_number, part_among}
 
@@ -50,6 +52,12 @@ abbrev pub HasMoreAt : ℕ → StageKind → List PartNow → List PartNow → �
 HasMoreAt number kind old new free now = IfSome (part_among old number) (λ (before : PartNow).
     IfSome (part_among new number) (λ (after : PartNow).
     HasMore before.shape kind before.known after.known free now))
+
+-- The part of this number met a place, and still keeps the one that it met last before.
+abbrev pub MeetsNext : ℕ → List ℕ → List PartNow → List PartNow → Type 0
+MeetsNext number place old new = IfSome (part_among old number) (λ (before : PartNow).
+    IfSome (part_among new number) (λ (after : PartNow).
+    places_met after.known ≡ met_next (places_met before.known) place))
 
 -- Of the part of this number alone there is something new: what it keeps beside its splits, its
 -- areas and how many intervals they use,

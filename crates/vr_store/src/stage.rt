@@ -14,7 +14,7 @@ ghost use Rattle.vr_history.specs.State.{State};
 ghost use Rattle.vr_volume.specs.Committed.{committed_by};
 ghost use Rattle.vr_volume.specs.Safe.{IsSafeImage};
 ghost use Rattle.vr_store.specs.Left.{left_for, parts_left};
-ghost use Rattle.vr_store.specs.Parts.{HasMoreAt, OnlyMet, OnlySplit};
+ghost use Rattle.vr_store.specs.Parts.{HasMoreAt, MeetsNext, OnlyMet, OnlySplit};
 ghost use Rattle.vr_store.specs.Room.{IsDueAt, IsRoomAt};
 ghost use Rattle.vr_store.specs.Store.{IsSet, IsStored, Stands, part_among, part_now, shape_among};
 ghost use Rattle.vr_store.specs.Store.{store_of};
@@ -60,6 +60,9 @@ pub(crate) fn ask_at<B: Blocks, P: Part>(
     ensures met { OnOk result (IfSome
         (part_among (map (part_now P.shape P.known) parts.new.items) number.0)
         (λ part. HasMet part.known place.now)) }
+    ensures next { OnOk result (MeetsNext number.0 place.now
+        (map (part_now P.shape P.known) parts.old.items)
+        (map (part_now P.shape P.known) parts.new.items)) }
     ensures set { IsSet (store_of P.shape P.known log.now undo.now parts.new.items
         changed.now.items space.now) (B.seen blocks.new) }
     ensures stored { IsTrue B.tells → (volume : ℕ) (state : State)
@@ -181,6 +184,9 @@ impl<P: Part> Store<P> {
             IsRoomAt self.new (B.seen blocks.new).cur number.0 place.now length room) }
         ensures met { OnOk result (IfSome (part_among self.new.parts number.0)
             (λ part. HasMet part.known place.now)) }
+        // And it keeps the place that it met last before.
+        ensures next { OnOk result
+            (MeetsNext number.0 place.now self.old.parts self.new.parts) }
         ensures set { IsSet self.new (B.seen blocks.new) }
         ensures stored { IsTrue B.tells → (volume : ℕ) (state : State)
             → IsStored volume self.old state (B.seen blocks.old)

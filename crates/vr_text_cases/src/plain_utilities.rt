@@ -123,10 +123,10 @@ fn first_unrun(nodes: &[Node]) -> Option<u32> {
     for node in nodes.iter().rev() {
         let runs = match &node.command {
             Command::Define(define) => {
-                matches!(define.order.what, NewEntry::Cluster { spanned: false, .. })
+                !matches!(define.order.what, NewEntry::Cluster { spanned: true, .. })
             }
-            Command::Alter(order) => order.new_name.is_none(),
-            Command::Delete(_)
+            Command::Alter(_)
+            | Command::Delete(_)
             | Command::Print(_)
             | Command::ListCatalog(_)
             | Command::Verify(_)

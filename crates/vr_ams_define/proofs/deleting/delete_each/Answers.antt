@@ -1,5 +1,5 @@
 use Rattle.std.proofs.Common.{refl, true}
-use Rattle.vr_ams_define.proofs.Deletions.{all-deleted, all-lines, grew-now, left-next, left-now}
+use Rattle.vr_ams_define.proofs.Deletions.{all-deleted, grew-now, left-next, left-now}
 use Rattle.vr_ams_define.proofs.Deletions.{none-deleted, one-deleted}
 use Rattle.vr_ams_define.proofs.deleting.delete_each.Goals as goal
 
@@ -10,19 +10,19 @@ loop-name-init g c =
     V.goes_further c.args.line c.args.kind c.args.names.now c.args.volumes.now c.new.result
     c.new-2.result.items c.new.ensures c.new-2.ensures.items
 
-pub returns-in_err-failure-clause-left : goal.returns-in_err-failure-clause-left
-returns-in_err-failure-clause-left g c none =
+pub returns-in_err-end-clause-left : goal.returns-in_err-end-clause-left
+returns-in_err-end-clause-left g c none =
     let V = g.V.OwnedVolume in
     left-now g.V.ShownVolume.shown V.geometry V.answers V.history V.goes V.goes_nowhere
     V.goes_further c.args.line c.args.kind c.args.names.now c.args.volumes.now
     c.loop-name.name-index c.loop-name.volumes c.loop-name.deletions.lines
     c.loop-name.deletions.failures.items c.name-item.result c.loop-name.invariant
     c.loop-name-test.true c.name-item.is c.delete_one.new.volumes
-    (c.in_err-failure.ensures.unchanged
+    (c.in_err-end.ensures.unchanged
     (refl {a = true}))
 
-pub returns-in_err-failure-clause-ran : goal.returns-in_err-failure-clause-ran
-returns-in_err-failure-clause-ran g c =
+pub returns-in_err-end-clause-ran : goal.returns-in_err-end-clause-ran
+returns-in_err-end-clause-ran g c =
     let V = g.V.OwnedVolume in
     grew-now g.V.ShownVolume.shown V.geometry V.answers V.history V.goes V.goes_nowhere
     V.goes_further c.args.line c.args.kind c.args.names.now c.args.volumes.now
@@ -37,8 +37,8 @@ returns-in_err-add-clause-left g c none =
     V.goes_further c.args.line c.args.kind c.args.names.now c.args.volumes.now
     c.loop-name.name-index c.loop-name.volumes c.loop-name.deletions.lines
     c.loop-name.deletions.failures.items c.name-item.result c.loop-name.invariant
-    c.loop-name-test.true c.name-item.is c.delete_one.new.volumes c.in_ok-failure.failure
-    c.in_ok-failure.ensures.deleted
+    c.loop-name-test.true c.name-item.is c.delete_one.new.volumes c.in_ok-end.end.why
+    c.in_ok-end.end.lines c.in_ok-end.ensures.deleted
 
 pub returns-in_err-add-clause-ran : goal.returns-in_err-add-clause-ran
 returns-in_err-add-clause-ran g c =
@@ -56,8 +56,8 @@ loop-name-preserved g c =
     V.goes_further c.args.line c.args.kind c.args.names.now c.args.volumes.now
     c.loop-name.name-index c.loop-name.volumes c.loop-name.deletions.lines
     c.loop-name.deletions.failures.items c.name-item.result c.loop-name.invariant
-    c.loop-name-test.true c.name-item.is c.delete_one.new.volumes c.in_ok-failure.failure
-    c.in_ok-failure.ensures.deleted c.add.new.self.lines c.add.new.self.failures.items
+    c.loop-name-test.true c.name-item.is c.delete_one.new.volumes c.in_ok-end.end.why
+    c.in_ok-end.end.lines c.in_ok-end.ensures.deleted c.add.new.self.lines c.add.new.self.failures.items
     c.in_ok-add.ensures.lines c.in_ok-add.ensures.failures c.delete_one.ensures.ran
     c.delete_one.ensures.geometry
 
@@ -65,14 +65,6 @@ pub returns-clause-deleted : goal.returns-clause-deleted
 returns-clause-deleted g c =
     let V = g.V.OwnedVolume in
     all-deleted g.V.ShownVolume.shown V.geometry V.answers V.history V.goes V.goes_nowhere
-    V.goes_further c.args.line c.args.kind c.args.names.now c.args.volumes.now
-    c.loop-name.name-index c.loop-name.volumes c.loop-name.deletions.lines
-    c.loop-name.deletions.failures.items c.loop-name.invariant c.loop-name-test.false
-
-pub returns-clause-lines : goal.returns-clause-lines
-returns-clause-lines g c =
-    let V = g.V.OwnedVolume in
-    all-lines g.V.ShownVolume.shown V.geometry V.answers V.history V.goes V.goes_nowhere
     V.goes_further c.args.line c.args.kind c.args.names.now c.args.volumes.now
     c.loop-name.name-index c.loop-name.volumes c.loop-name.deletions.lines
     c.loop-name.deletions.failures.items c.loop-name.invariant c.loop-name-test.false

@@ -1,19 +1,12 @@
 use Rattle.std.proofs.Common.{Some, map, subst, sym}
 use Rattle.vr_catalog.specs.Catalog.{entry_named}
 use Rattle.vr_ams_define.specs.Altered.{failure_on, name_failure}
-use Rattle.vr_ams_define.specs.ChangeSteps.{IsRefusedBy, IsTargetOn}
-use Rattle.vr_ams_define.proofs.Targets.{err-handed, named-at, refused-at, there-at}
+use Rattle.vr_ams_define.specs.EditSteps.{IsRefusedBy, IsTargetOn}
+use Rattle.vr_ams_define.proofs.Targets.{err-handed, named-at, refused-at}
 use Rattle.vr_ams_define.proofs.target.find_target.Goals as goal
 
 pub returns-clause-named : goal.returns-clause-named
 returns-clause-named g c = named-at g.V.ShownVolume.shown c.args.volumes.now c.args.name.now
-    c.in-Some.place c.index-volumes-place.result c.in-Some.ensures.within
-    (sym c.in-Some.ensures.place) c.in_ok-entry.entry (subst
-    (λ volume. IsTargetOn (g.V.ShownVolume.shown volume) c.args.name.now c.in_ok-entry.entry)
-    c.index-volumes-place.is c.in_ok-entry.ensures.found)
-
-pub returns-clause-there : goal.returns-clause-there
-returns-clause-there g c = there-at g.V.ShownVolume.shown c.args.volumes.now c.args.name.now
     c.in-Some.place c.index-volumes-place.result c.in-Some.ensures.within
     (sym c.in-Some.ensures.place) c.in_ok-entry.entry (subst
     (λ volume. IsTargetOn (g.V.ShownVolume.shown volume) c.args.name.now c.in_ok-entry.entry)

@@ -4,7 +4,7 @@ use Rattle.vr_ams_define.specs.Grown.{AreRunOn}
 use Rattle.vr_ams_define.proofs.GrownLemmas.{run-nothing}
 use Rattle.vr_ams_print.specs.Printed.{has_keys}
 use Rattle.vr_ams_print.specs.Record.{printed_line}
-use Rattle.vr_ams_print.specs.Steps.{HasHandedOver}
+use Rattle.vr_ams_print.specs.Steps.{HasHandedOver, after_record, is_done}
 use Rattle.vr_ams_print.proofs.Answered.{print-answered}
 use Rattle.vr_ams_print.proofs.Sources.{there-of, within}
 use Rattle.vr_ams_print.proofs.print.print_source.Given.{Over}
@@ -37,14 +37,14 @@ read_source-requires-clause-within g c =
 
 pub returns-in-Done-clause-printed : goal.returns-in-Done-clause-printed
 returns-in-Done-clause-printed g c =
-    let printing = c.read_source.new.printing in
+    let printing = c.read_source.new.visitor in
     let outcome = c.in_ok-into_outcome-in-Done.field-0 in
     print-answered g.V.ShownVolume.shown g.V.OwnedVolume.answers c.args.line c.args.command.now
     c.args.source.now c.args.alloc c.args.volumes.now c.read_source.new.volumes
     c.in_ok-printing.printing printing c.in_ok-read_source.field-0 outcome c.requires.found
     c.in_ok-printing.ensures c.in-Done.is
-    (subst (λ (from : Option (List ℕ)). HasHandedOver g.V.OwnedVolume.answers c.args.line
-    c.args.source.now from c.in_ok-printing.printing printing c.args.volumes.now
+    (subst (λ (from : Option (List ℕ)). HasHandedOver g.V.OwnedVolume.answers after_record is_done
+    c.args.line c.args.source.now from c.in_ok-printing.printing printing c.args.volumes.now
     c.read_source.new.volumes c.in_ok-read_source.field-0)
     (c.as_ref.ensures.value ∙ c.in_ok-from.ensures) c.in_ok-read_source.ensures.read)
     c.in_ok-into_outcome-in-Done.ensures.few

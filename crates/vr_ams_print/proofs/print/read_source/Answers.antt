@@ -16,7 +16,7 @@ read-requires-clause-entry g c = has-there g.V.ShownVolume.shown c.args.volumes.
 pub returns-clause-read : goal.returns-clause-read
 returns-clause-read g c = handed-so g.V.ShownVolume.shown c.args.volumes.now
     c.args.source.now c.requires.there c.index-volumes-number.result g.V.OwnedVolume.answers
-    c.args.line _ c.args.printing.now c.read.new.visitor c.read.new.self c.read.result
+    _ _ c.args.line _ c.args.visitor.now c.read.new.visitor c.read.new.self c.read.result
     c.read.ensures.read
 
 pub returns-clause-shown : goal.returns-clause-shown

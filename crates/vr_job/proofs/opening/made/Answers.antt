@@ -36,7 +36,7 @@ module _ (g : Rattle.vr_job.proofs.opening.made.Given.Over) (c : goal.After-new 
 
 pub returns-clause-whole : goal.returns-clause-whole
 returns-clause-whole g c =
-    c.new.ensures.whole (ready g c).clusters (ready g c).set (ready g c).geometry_is
+    c.new.ensures.whole (ready g c).served (ready g c).set (ready g c).geometry_is
     (ready g c).laid
 
 pub returns-clause-run : goal.returns-clause-run
@@ -47,13 +47,13 @@ returns-clause-run g c told contents catalog unlaid opened =
     let now = g.B.Blocks.seen c.args.blocks in
     let of-taken = subst (λ (r : Ready). IsOpened c.args.number (owner_of r.log.geometry r.space)
     r.log (map laid_now r.parts.items) contents now) (sym (same g c)) opened in
-    let held = c.new.ensures.held told contents (same-catalog g c ∙ catalog) is.clusters
+    let held = c.new.ensures.held told contents (same-catalog g c ∙ catalog) is.served
     is.geometry_is is.records is.sound (is.set.areas ∙ ap area_count is.geometry_is) is.owned
     (subst (λ (entries : List CatEntry). OwnLaid t.geometry entries t.space)
     (sym (same-catalog g c))
     (subst (λ (r : Ready). OwnLaid r.geometry b.catalog.value r.space) (sym (same g c)) unlaid))
     of-taken in
-    let whole = c.new.ensures.whole is.clusters is.set is.geometry_is is.laid in
+    let whole = c.new.ensures.whole is.served is.set is.geometry_is is.laid in
     let run = opening-run g.B.Blocks.seen g.B.Blocks.faults
     (opening_state contents (owned_in t.space)) c.new.result
     c.new.ensures.entries c.new.ensures.stopped whole held

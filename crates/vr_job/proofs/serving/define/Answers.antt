@@ -27,7 +27,7 @@ pub define_event-requires-clause-may : goal.define_event-requires-clause-may
 define_event-requires-clause-may g c = record {
   whole = c.make_ready.ensures.stays.serving.whole;
   going = c.make_ready.ensures.stopped ∙ c.requires.going;
-  room = c.in_ok-make_ready.ensures.room;
+  room = omega (arith, c.in_ok-make_ready.ensures.room);
   last = omega (arith, c.in_ok-make_ready.ensures.last);
   after_is = omega (arith, c.in_ok-make_ready.ensures.after);
   deck = c.in_ok-make_ready.ensures.deck;

@@ -4,7 +4,7 @@ use Rattle.vr_types.specs.Image.{block_at}
 use Rattle.vr_types.specs.declared.unit.PartNo.{PartNo}
 use Rattle.vr_space.specs.AreaCalls.{area_part}
 use Rattle.vr_space.specs.Areas.{area_by, area_of, content_in}
-use Rattle.vr_space.specs.Keyed.{IsHead, Keyed}
+use Rattle.vr_space.specs.Keyed.{IsHead, KeepsRoom, Keyed}
 use Rattle.vr_space.specs.Part.{KeyedShape, part_no}
 use Rattle.vr_space.specs.Room.{Lengths}
 use Rattle.vr_space.specs.Split.{AreaSplit, MoveNow, SplitNow, area_room, move_stage, split_in}
@@ -13,7 +13,7 @@ use Rattle.vr_keyed.specs.Look.{AreaStands, HasEntry}
 use Rattle.vr_keyed.specs.Slots.{IsMetAt, LeavesMet, MeetsAt, mets}
 use Rattle.vr_keyed.proofs.Known.{area-at, area-comes, area-known, knows-still, layout-at}
 use Rattle.vr_keyed.proofs.Known.{leaves-met, leaves-mine, meets-places, met-at}
-use Rattle.vr_keyed.proofs.Known.{room-there, room-waits}
+use Rattle.vr_keyed.proofs.Known.{area-inside, room-there, room-waits, rooms-of-area}
 use Rattle.vr_keyed.proofs.change.room_over.Goals as goal
 
 pub room_at-requires-clause-stands : goal.room_at-requires-clause-stands
@@ -65,6 +65,24 @@ room_at-requires-clause-met g c told =
     subst (λ (one : Keyed). All (IsMetAt one a.cur place) (mets c.args.slots.now)) (sym layout)
     (met-at chain.part a.cur place area (area-known chain a.cur known.0 place area is)
     (mets c.args.slots.now) known.1)
+
+pub room_at-requires-clause-rooms : goal.room_at-requires-clause-rooms
+room_at-requires-clause-rooms g c told =
+    let chain = c.args.areas.now in
+    let a = g.B.Blocks.seen c.args.blocks.now in
+    let place = c.args.place.now in
+    let area : ℕ = c.area_of-area.result in
+    let layout : c.area-layout.result ≡ area_of chain.part area =
+    layout-at c.area-layout.result c.layout.result.now chain.part area c.area-layout.ensures.layout
+    c.layout.ensures in
+    let is : area_by chain.areas chain.ends place ≡ Some area =
+    area-at chain c.as_slice.result.now place area c.as_slice.ensures
+    c.area_of-area.ensures.area in
+    let all : PartNo → Lengths = g.K.Kept.kept c.args.kept.now in
+    subst (λ (one : Keyed). KeepsRoom one (all (area_part one)) a) (sym layout)
+    (rooms-of-area chain.part a c.requires.on (g.met.B.Blocks.cur_may c.args.blocks.now told)
+    (all (part_no (KeyedShape chain.part))) (c.requires.stands told) (c.requires.rooms told) area
+    (area-inside chain a.cur (c.requires.knows told).blocks.0 place area is))
 
 pub returns-clause-answer : goal.returns-clause-answer
 returns-clause-answer g c told =

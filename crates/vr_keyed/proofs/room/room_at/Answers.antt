@@ -1,9 +1,11 @@
 use Rattle.std.proofs.Common.{List, ℕ, All, sym, subst}
 use Rattle.vr_types.specs.Image.{Image}
+use Rattle.vr_space.specs.AreaCalls.{area_part}
 use Rattle.vr_space.specs.Met.{IsMet}
 use Rattle.vr_keyed.specs.Look.{AreaStands, HasEntry}
 use Rattle.vr_keyed.specs.Slots.{IsInside, IsMetAt, LeavesMet, MeetsAt, met_in, mets}
 use Rattle.vr_keyed.proofs.Adding.{on-ok-from}
+use Rattle.vr_keyed.proofs.MetRoom.{met-kept}
 use Rattle.vr_keyed.proofs.room.room_at.Goals as goal
 
 pub meet-requires-clause-entry : goal.meet-requires-clause-entry
@@ -39,6 +41,14 @@ pub room_met-requires-clause-met : goal.room_met-requires-clause-met
 room_met-requires-clause-met g c told =
     subst (λ (image : Image). IsMet c.args.layout.now image (met_in c.meet.new.slots.first))
     (sym (c.meet.ensures.keeps.content told)) (c.in_ok-meet.ensures.meets.newly.is_met told)
+
+pub room_met-requires-clause-fits : goal.room_met-requires-clause-fits
+room_met-requires-clause-fits g c told =
+    let part = c.args.layout.now in
+    let newly = c.in_ok-meet.ensures.meets.newly in
+    met-kept part (g.K.Kept.kept c.args.kept.now (area_part part)) (met_in c.meet.new.slots.first)
+    (g.B.Blocks.seen c.args.blocks.now) (newly.is_met told) c.requires.on newly.inside
+    (g.met.B.Blocks.cur_may c.args.blocks.now told) (c.requires.rooms told)
 
 pub returns-clause-meets : goal.returns-clause-meets
 returns-clause-meets g c =

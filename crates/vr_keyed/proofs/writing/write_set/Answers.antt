@@ -27,6 +27,19 @@ returns-in_default c = record {
       holds.spelled));
 }
 
+pub write_in_place-requires-clause-read : goal.write_in_place-requires-clause-read
+write_in_place-requires-clause-read c =
+    subst (λ (block : List ℕ). ci.IsInterval Plain block c.in-Ok.view) c.as_slice.ensures.value
+    c.in-Ok.ensures.ok
+
+pub returns-then-write_in_place : goal.returns-then-write_in_place
+returns-then-write_in_place c = record {
+  written = λ holds some fits. (
+    refl,
+    c.write_in_place.ensures.written c.if-write_in_place.true holds,
+  );
+}
+
 pub returns-then-not-add_set : goal.returns-then-not-add_set
 returns-then-not-add_set c = record {
   written = λ holds some fits.
@@ -42,7 +55,7 @@ returns-then-not-add_set c = record {
       ci.room (items_set part range c.args.place.now new items)) same in
       absurd (true≢false (sym (c.add_set.ensures.added c.begin-writer.ensures.empty
       (subst (All (IsKept part)) (sym same) holds.kept) some
-      (omega (arith, fits, room, c.begin-writer.ensures.size))).0 ∙ c.if-not-add_set.true));
+      (omega (arith, fits, room, c.begin-writer.ensures.size, c.write_in_place.ensures.size))).0 ∙ c.if-not-add_set.true));
 }
 
 pub returns : goal.returns
@@ -61,7 +74,7 @@ returns c = record {
       in
       let added = c.add_set.ensures.added c.begin-writer.ensures.empty
       (subst (All (IsKept part)) (sym same) holds.kept) some
-      (omega (arith, fits, room, c.begin-writer.ensures.size)) in
+      (omega (arith, fits, room, c.begin-writer.ensures.size, c.write_in_place.ensures.size)) in
       let items : List ci.Item = items_set part range place new (items_of slot.bytes.items) in
       let held : Holds c.add_set.new.writer items =
       subst (λ (xs : List ci.Item). Holds c.add_set.new.writer (items_set part range place new xs))

@@ -103,7 +103,7 @@ returns-clause-planned g c =
       shapes_are = mounted.shapes;
       may = mounted.may;
       apart = mounted.apart;
-      clusters = mounted.clusters;
+      served = mounted.served;
       back = subst (λ (ps : List AnyPart). MayGoBack (images_of content.records) (map shape_any ps))
           c.deref_mut.ensures.value c.in_ok-undo.ensures.back;
     })

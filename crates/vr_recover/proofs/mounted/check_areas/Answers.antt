@@ -1,4 +1,7 @@
-use Rattle.std.proofs.Common.{inr, refl}
+use Rattle.std.proofs.Common.{All, inr, refl}
+use Rattle.vr_edits.specs.Edits.{IsUnbuilt}
+use Rattle.vr_recover.specs.Unserved.{IsPlain}
+use Rattle.vr_recover.proofs.Opens.{served-both}
 use Rattle.vr_recover.proofs.Attaching.{holds-if, not-if}
 use Rattle.vr_attach.specs.Laid.{AreApart, shape_in}
 use Rattle.vr_recover.proofs.mounted.check_areas.Goals as goal
@@ -18,3 +21,10 @@ pub returns-clause-apart : goal.returns-clause-apart
 returns-clause-apart c = holds-if c.are_apart.result
     (AreApart (shape_in c.args.geometry.now c.args.catalog.now))
     (c.are_apart.ensures c.args.geometry.now) c.if-not-are_apart.false
+
+pub returns-clause-served : goal.returns-clause-served
+returns-clause-served c = served-both c.args.geometry.now c.args.catalog.now
+    (holds-if c.are_unbuilt.result (All IsUnbuilt c.args.catalog.now) c.are_unbuilt.ensures
+    c.if-not-are_unbuilt.false)
+    (holds-if c.are_plain.result (All (IsPlain c.args.geometry.now) c.args.catalog.now)
+    c.are_plain.ensures c.if-not-are_plain.false)

@@ -1,5 +1,6 @@
 use Rattle.std.proofs.Common.{◌≡◌, refl, ap, map, set, None}
 use Rattle.std.proofs.Common.{IsTrue}
+use Rattle.std.specs.Prelude.{IfSome}
 use Rattle.std.proofs.lemmas.Result.{IfOk-weaker}
 use Rattle.vr_space.specs.Known.{HasMet, places_met}
 use Rattle.vr_space.specs.Met.{met_next}
@@ -8,7 +9,7 @@ use Rattle.vr_space.specs.declared.room.Room.{Room}
 use Rattle.vr_space.proofs.CallerLemmas.{held-same}
 use Rattle.vr_store.specs.Parts.{but_split}
 use Rattle.vr_store.specs.Room.{IsRoomAt}
-use Rattle.vr_store.specs.Store.{PartNow, StoreNow, changed_by, part_now, store_of}
+use Rattle.vr_store.specs.Store.{PartNow, StoreNow, changed_by, part_among, part_now, store_of}
 use Rattle.vr_store.proofs.PartsAt.{found-new, laid-at, laid-found, none-laid, only-met, part-split}
 use Rattle.vr_store.proofs.PartsAt.{same-met}
 use Rattle.vr_store.proofs.Recorded.{at-part, at-shape, number-at, rested-at, set-at, stand-at}
@@ -107,6 +108,16 @@ returns g c =
           _
           (λ room is. at-part (λ (one : PartNow). HasMet one.known place) parts number after there
           (met-first before.known after.known place is))
+          c.room.ensures.met;
+      next = IfOk-weaker c.room.result
+          (λ room. places_met after.known ≡ met_next (places_met before.known) place)
+          _
+          (λ room is. at-part (λ (one : PartNow). IfSome (part_among parts number)
+          (λ (next : PartNow). places_met next.known ≡ met_next (places_met one.known) place))
+          store.parts number before at.found
+          (at-part (λ (next : PartNow).
+          places_met next.known ≡ met_next (places_met before.known) place) parts number after
+          there is))
           c.room.ensures.met;
       set = set-unclaimed store number before after parts store.space at same a b
           c.room.ensures.keeps.count_same c.room.ensures.keeps.size_same

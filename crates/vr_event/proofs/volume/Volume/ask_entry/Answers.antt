@@ -74,3 +74,8 @@ returns-clause-moments g c told opening held =
     (recovers-keeps before.number before.store (state_now opening before.file)
     (seen before.blocks) (seen c.ask_room.new.blocks) (was.stored goes) g.B.Blocks.tells told
     c.ask_room.ensures.keeps)
+
+pub returns-clause-content : goal.returns-clause-content
+returns-clause-content g c told =
+    subst (λ (v : VolumeNow g.row.B.Denot). (g.B.Blocks.seen c.ask_room.new.blocks).cur
+    ≡ (g.B.Blocks.seen v.blocks).cur) c.self.view_is (c.ask_room.ensures.keeps.content told)

@@ -3,7 +3,7 @@ use Rattle.std.proofs.lemmas.Option.{none-some}
 use Rattle.vr_types.specs.declared.reply.Refusal.TheVariants.{WriteFault}
 use Rattle.vr_types.specs.declared.reply.Reply.TheVariants.{Refused}
 use Rattle.vr_record_file.specs.Now.{FileNow, MayBeAsked}
-use Rattle.vr_event.specs.Volume.{AreServedClusters, IsFileHeld, VolumeNow}
+use Rattle.vr_event.specs.Volume.{AreServed, IsFileHeld, VolumeNow}
 use Rattle.vr_event.proofs.Entries.{held-known}
 use Rattle.vr_event.proofs.Served.{served_same}
 use Rattle.vr_event.proofs.Wholes.{whole-stopped}
@@ -28,8 +28,8 @@ pub returns-clause-whole : goal.returns-clause-whole
 returns-clause-whole g c served =
     let old : FileNow = c.self.inside.file in
     let new : FileNow = c.fail_write.new.self in
-    let before : AreServedClusters old.geometry old.catalog =
-    subst (λ (v : VolumeNow g.row.B.Denot). AreServedClusters v.file.geometry v.file.catalog)
+    let before : AreServed old.geometry old.catalog =
+    subst (λ (v : VolumeNow g.row.B.Denot). AreServed v.file.geometry v.file.catalog)
     (sym c.self.view_is) served in
     whole-stopped g.B.Blocks.seen (record {
       blocks = c.self.inside.blocks;

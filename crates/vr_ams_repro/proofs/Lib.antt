@@ -1,0 +1,5 @@
+mod Chosen
+mod Filling
+mod Found
+mod Still
+mod Went

@@ -1,0 +1,4 @@
+pub mod CallerLemmas
+pub mod Parts
+pub mod Rules
+pub mod Shapes
