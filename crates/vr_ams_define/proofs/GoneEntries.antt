@@ -2,11 +2,12 @@
 use Rattle.std.proofs.Common.{◌≡◌, ◌≢◌, ◌∙◌, ◌≤◌, ◌∷◌, ℕ, Bool, true, false, List, [], Option, Some}
 use Rattle.std.proofs.Common.{None, All, ap, arith, inl, inr, length, map, not, refl, slice_get}
 use Rattle.std.proofs.Common.{subst, sym, Result, Ok, Err, IfOk, IfErr}
-use Rattle.std.specs.Prelude.{◌==◌, ◌||◌, ◌&&◌, nat_eq, nat_le}
-use Rattle.std.specs.List.{IsDistinct, cons_option, count_by, filter_map, list_all}
+use Rattle.std.specs.Prelude.{◌||◌, nat_eq, nat_le}
+use Rattle.std.specs.List.{AllByRecursion, IsDistinct, cons_option, count_by, filter_map, list_all}
 use Rattle.std.specs.Option.{option_map, option_map_or, option_or}
+use Rattle.std.proofs.lemmas.Bool.{cases_Bool}
 use Rattle.std.proofs.lemmas.Bool.Decides.{nat_tests}
-use Rattle.std.proofs.lemmas.List.Elements.{All-cons, All-nil, All-weaker}
+use Rattle.std.proofs.lemmas.List.Elements.{All-cons, All-head, All-nil, All-tail, All-weaker}
 use Rattle.std.proofs.lemmas.List.Sums.{AllPass-from_list_all}
 use Rattle.std.proofs.lemmas.Option.{same_Some}
 use Rattle.vr_types.specs.declared.geometry.Geometry.{Geometry}
@@ -30,7 +31,7 @@ use Rattle.vr_ams_define.specs.Answers.{Answering}
 use Rattle.vr_ams_define.specs.Asked.{IsEditedBy}
 use Rattle.vr_ams_define.specs.Deleted.{IsOneDeleted, edit_lines, lines_by}
 use Rattle.vr_ams_define.specs.Deleted.{allows, delete_edit, delete_failure, entry_gone, gone_failure}
-use Rattle.vr_ams_define.specs.Deleted.{gone_with, goes_too, kind_failure, may_go}
+use Rattle.vr_ams_define.specs.Deleted.{gone_with, goes_too, kind_failure, may_go, most_gone}
 use Rattle.vr_ams_define.specs.EditSteps.{IsCarried, IsNamed, IsPlan, IsPlanned, IsRefusedBy, planned_lines}
 use Rattle.vr_ams_define.specs.Failures.{catalog_failure}
 use Rattle.vr_ams_define.specs.Steps.{no_by}
@@ -38,7 +39,7 @@ use Rattle.vr_ams_define.specs.declared.carrying.Planned.{Planned}
 use Rattle.vr_ams_define.specs.declared.refusal.DefineNo.{DefineNo}
 use Rattle.vr_ams_define.specs.declared.refusal.DefineNo.TheVariants.{Refused, Ended}
 use Rattle.vr_ams_define.specs.declared.target.Target.{Target}
-use Rattle.vr_ams_define.proofs.Named.{both, count-first, one-is, same-number, sound-there}
+use Rattle.vr_ams_define.proofs.Named.{both, count-after, count-first, one-is, same-number, sound-there}
 use Rattle.vr_ams_define.proofs.Plans.{edited-by}
 use Rattle.vr_ams_define.proofs.Targets.{catalog-is, entry-is, going-on}
 
@@ -71,28 +72,47 @@ some-gone : (gone : List CatEntry) → nat_le 1 (length gone) ≡ true → gone 
 some-gone [] some none = absurd (cc)
 some-gone (entry ∷ gone) some none = cc
 
--- two that are alone are of two parts
-two-apart : (a b : CatEntry) → is_alone (a ∷ b ∷ []) a ≡ true → nat_eq a.part.0 b.part.0 ≡ false
-two-apart a b alone = by (nat_eq a.part.0 b.part.0) refl
-  where
-    by : (same : Bool) → nat_eq a.part.0 b.part.0 ≡ same → same ≡ false
-    by false is = refl
-    by true is =
-        let here = count-first (is_of_part a) a (b ∷ []) (same-number a.part.0) in
-        let there = count-first (is_of_part a) b [] (grind (arith, nat_tests, is)) in
-        let one = one-is (count_by (is_of_part a) (a ∷ b ∷ [])) alone in
-        absurd (omega (arith, here, there, one))
+-- no other entry has the part of one that is alone
+none-of : (a : CatEntry) (rest : List CatEntry) → count_by (is_of_part a) rest ≤ 0
+    → AllByRecursion (λ part. nat_eq a.part.0 part ≡ false) (parts_in rest)
+none-of a [] none = tt
+none-of a (b ∷ rest) none = elim (cases_Bool (is_of_part a b)) [
+  | inl of ↦ absurd (omega (arith, count-first (is_of_part a) b rest of, none))
+  | inr other ↦ (
+    grind (arith, nat_tests, other),
+    none-of a rest (omega (arith, count-after (is_of_part a) b rest other, none)),
+  )
+]
 
-parts-apart : (gone : List CatEntry) → length gone ≤ 2 → list_all (is_alone gone) gone ≡ true
-    → IsDistinct nat_eq (parts_in gone)
+-- an entry less counts no more
+count-less : {X : Type 0} (p : X → Bool) (x : X) (xs : List X) (n : ℕ) → count_by p (x ∷ xs) ≤ n
+    → count_by p xs ≤ n
+count-less p x xs n most = elim (cases_Bool (p x)) [
+  | inl passes ↦ omega (arith, count-first p x xs passes, most)
+  | inr fails ↦ omega (arith, count-after p x xs fails, most)
+]
+
+abbrev IsOnce : List CatEntry → CatEntry → Type 0
+IsOnce gone entry = count_by (is_of_part entry) gone ≤ 1
+
+once-apart : (gone : List CatEntry) → All (IsOnce gone) gone → IsDistinct nat_eq (parts_in gone)
 unfolding IsDistinct
-parts-apart [] few alone = tt
-parts-apart (a ∷ []) few alone = (tt, tt)
-parts-apart (a ∷ b ∷ []) few alone = (
-  (two-apart a b (both (is_alone (a ∷ b ∷ []) a) _ alone).0, tt),
-  (tt, tt),
-)
-parts-apart (a ∷ b ∷ c ∷ gone) few alone = absurd (omega (arith, few))
+once-apart [] once = tt
+once-apart (a ∷ rest) once =
+    let first = All-head (IsOnce (a ∷ rest)) a rest once in (
+      none-of a rest
+          (omega (arith, count-first (is_of_part a) a rest (same-number a.part.0), first)),
+      once-apart rest (All-weaker (IsOnce (a ∷ rest)) (IsOnce rest)
+          (λ entry most. count-less (is_of_part entry) a rest 1 most) rest
+          (All-tail (IsOnce (a ∷ rest)) a rest once)),
+    )
+
+parts-apart : (gone : List CatEntry) → list_all (is_alone gone) gone ≡ true
+    → IsDistinct nat_eq (parts_in gone)
+parts-apart gone alone = once-apart gone
+    (All-weaker (λ (entry : CatEntry). is_alone gone entry ≡ true) (IsOnce gone)
+    (λ entry is. let one = one-is (count_by (is_of_part entry) gone) is in omega (arith, one)) gone
+    (AllPass-from_list_all (is_alone gone) gone alone))
 
 or-else : (a b : Bool) → (not a || b) ≡ true → a ≡ true → b ≡ true
 or-else true b is holds = is
@@ -110,12 +130,13 @@ may-delete entries name is =
     let alone = both _ (list_all (is_alone gone) gone) closed.0 in
     let sound = both _ (list_all (is_sound entries) gone) alone.0 in
     let cluster = both _ (nat_le (count_by is_cluster_entry gone) 1) sound.0 in
-    let few = both (nat_le 1 (length gone)) (nat_le (length gone) 2) cluster.0 in
+    let few = both (nat_le 1 (length gone)) (nat_le (length gone) most_gone) cluster.0 in
+    let most = le-from (length gone) most_gone few.1 in
     record {
       some = some-gone gone few.0;
-      few = le-from (length gone) 2 few.1;
+      few = omega (arith, most);
       there = all-there entries (delete_changes entries (name ∷ [])) sound.1;
-      apart = parts-apart gone (le-from (length gone) 2 few.1) alone.1;
+      apart = parts-apart gone alone.1;
       cluster = le-from (count_by is_cluster_entry gone) 1 cluster.1;
       closed = All-weaker (λ (other : CatEntry). goes_too gone other ≡ true)
           (λ (other : CatEntry). is_over_some gone other ≡ true → is_of_some gone other ≡ true)

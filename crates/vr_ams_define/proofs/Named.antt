@@ -60,7 +60,7 @@ count-first p y xs passes =
 none-more : (n : ℕ) → 0 + n ≡ n
 none-more n = omega arith
 
-count-after : {X : Type 0} (p : X → Bool) (y : X) (xs : List X) → p y ≡ false
+pub count-after : {X : Type 0} (p : X → Bool) (y : X) (xs : List X) → p y ≡ false
     → count_by p (y ∷ xs) ≡ count_by p xs
 count-after p y xs fails =
     count-cons p y xs ∙ ap (λ (b : Bool). cond b 1 0 + count_by p xs) fails

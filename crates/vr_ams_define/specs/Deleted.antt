@@ -42,10 +42,14 @@ gone_with entries name = filter_map (entry_gone entries) (delete_changes entries
 abbrev pub goes_too : List CatEntry → CatEntry → Bool
 goes_too gone entry = not (is_over_some gone entry) || is_of_some gone entry
 
--- One edit takes an entry and at most one more, as a volume keeps no more places at hand. The others
--- are so of what goes with a name in each catalog that keeps the rules.
+-- how many entries one edit takes at most
+abbrev pub most_gone : ℕ
+most_gone = 65535
+
+-- One edit takes some entries, and at most that many. The others are so of what goes with a name in
+-- each catalog that keeps the rules.
 abbrev pub may_go : List CatEntry → List CatEntry → Bool
-may_go entries gone = nat_le 1 (length gone) && nat_le (length gone) 2
+may_go entries gone = nat_le 1 (length gone) && nat_le (length gone) most_gone
     && nat_le (count_by is_cluster_entry gone) 1
     && list_all (is_sound entries) gone
     && list_all (is_alone gone) gone
@@ -71,7 +75,7 @@ kind_failure kind None = None
 kind_failure kind (Some entry) =
     failure_if (not (allows kind entry.entry_kind)) (catalog_failure WrongKind)
 
--- 3: more than one entry stands over the entry
+-- 3: more entries go with the entry than one edit takes
 abbrev pub gone_failure : Option (List CatEntry) → List ℕ → Option Failure
 gone_failure None name = None
 gone_failure (Some entries) name =

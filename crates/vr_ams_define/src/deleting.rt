@@ -189,8 +189,8 @@ fn delete_each<V: OwnedVolume>(
 /// with its records. One is refused, and its entry stays, with the first of these: fault 2 where no
 /// volume has the name; 903 where the lowest that has it has stopped; 3 where no record spells its
 /// entry, or another entry has its part, where the command deletes entries of another kind (`kind`),
-/// or where more than one entry stands over it (these are deleted first). Else the volume is asked:
-/// fault 901 where a lock or a live unit of recovery is in the way, 902 where its log is full, 904
+/// or where more than 65,535 entries would go (some of those over it are deleted first). Else the
+/// volume is asked: fault 901 where a lock or a live unit of recovery is in the way, 902 where its log is full, 904
 /// and 905 where its device fails. Each entry that is deleted has a detail line, in the order of the
 /// catalog. The code of the command is the greatest, and its fault that of the first name that gave
 /// this code. What is entered comes after all that the volumes have. Where stamps or memory run out,

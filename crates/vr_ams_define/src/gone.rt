@@ -19,6 +19,11 @@ use vr_edits::CatalogEdit;
 use vr_trace::NEW_LINE;
 use vr_types::{Bytes, Items, Name, OutOfMemory, PartNo};
 
+/// How many entries one edit of a catalog takes out at most: as many changes as one event makes. The
+/// before-image of an entry is 268 bytes of the log, so a log of less than 17,563,657 bytes has no room
+/// for one more; a larger one may.
+const MOST_GONE: usize = 65_535;
+
 /// The entry that an erase is of.
 fn entry_gone<'a>(catalog: &'a Catalog, change: &Change) -> Option<&'a CatEntry>
     ensures { option_copied result ≡ stated.entry_gone catalog.now change.now }
@@ -161,7 +166,7 @@ pub(crate) fn may_go(
 {
     let entries = catalog.as_slice();
     let gone = gone.as_slice();
-    let few = 1 <= gone.len() && gone.len() <= 2 && cluster_count(gone) <= 1;
+    let few = 1 <= gone.len() && gone.len() <= MOST_GONE && cluster_count(gone) <= 1;
     Ok(few && are_sound(alloc, entries, gone)? && are_apart(gone) && all_go(entries, gone))
 }
 

@@ -92,6 +92,7 @@ chain-owns part Own Interval image chain area among =
       split = None;
       move = None;
       met = [];
+      most = 0;
       areas = chain_of part image;
       ends = [];
       used = used_of part image;

@@ -24,6 +24,7 @@ module _ (part : Numbered) (Own : ℕ → Type 0) (Interval : Block → Type 0) 
     split = None;
     move = None;
     met = [];
+    most = 0;
     areas = chain_of part image;
     ends = [];
     used = used_of part image;

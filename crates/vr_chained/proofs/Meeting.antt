@@ -1,128 +1,166 @@
 -- The places that were met, as another is.
-use Rattle.std.proofs.Common.{◌≡◌, ◌<◌, ◌≤◌, ◌+◌, ℕ, zero, suc, Bool, true, false, List, [], ◌∷◌}
-use Rattle.std.proofs.Common.{take, All, refl, sym, ap, ◌∙◌, arith, min, subst}
-use Rattle.std.proofs.lemmas.List.Elements.{All-cons, All-head, All-nil, All-tail}
-use Rattle.std.specs.Prelude.{IfOk, OnOk, bytes_eq, cond, filter, not}
+use Rattle.std.proofs.Common.{◌≡◌, ◌<◌, ◌≤◌, ◌+◌, ℕ, Bool, true, false, List, [], ◌∷◌, ◌++◌}
+use Rattle.std.proofs.Common.{Option, Some, None, Bor, IsTrue, length, take, All, map, refl, sym, ap}
+use Rattle.std.proofs.Common.{◌∙◌, arith, length-append, subst}
+use Rattle.std.proofs.lemmas.Bool.{true≢false}
+use Rattle.std.proofs.lemmas.List.{length-map, length-take-le, map-append, take-take, take_more_set}
+use Rattle.std.proofs.lemmas.List.Elements.{All-cons, All-contains, All-head, All-map, All-nil}
+use Rattle.std.proofs.lemmas.List.Elements.{All-push, All-tail, All-take}
+use Rattle.std.proofs.lemmas.List.Elements.{Contains-append_left, Contains-append_right}
+use Rattle.std.proofs.lemmas.Map.Made.{Contains-tail}
+use Rattle.std.proofs.lemmas.Slice.Eq.{bytes_eq-Decides}
+use Rattle.std.proofs.Math.ListN.{set}
+use Rattle.std.specs.Option.{option_copied}
+use Rattle.std.specs.Prelude.{Contains, IfOk, OnOk, cond, find, is_some}
 use Rattle.std.specs.declared.result.Result.{Result}
 use Rattle.std.specs.declared.result.Result.TheVariants.{Ok, Err}
-use Rattle.std.proofs.lemmas.Slice.Eq.{bytes_eq-Decides}
-use Rattle.vr_space.specs.Met.{Met, met_next}
-use Rattle.vr_chained.specs.Met.{HasMetPlace, met_places}
+use Rattle.vr_space.specs.Met.{Met}
+use Rattle.vr_chained.specs.declared.met.MetBlock.{MetBlock}
+use Rattle.vr_chained.specs.Met.{HasMetPlace, MeetsNext, is_at, met_in, met_places}
 
-same-bytes : (one other : List ℕ) → one ≡ other → bytes_eq one other ≡ true
-same-bytes one other same = (bytes_eq-Decides one other).1 same
+-- ---- what is found of a place
 
-other-bytes : (one other : List ℕ) → (one ≡ other → ⊥) → bytes_eq one other ≡ false
-other-bytes one other apart = by_test (bytes_eq one other) refl
-  where
-    by_test : (b : Bool) → bytes_eq one other ≡ b → b ≡ false
-    by_test true is = absurd (apart ((bytes_eq-Decides one other).0 is))
-    by_test false is = refl
+-- it is one of the slots, and was met at the place
+pub record IsFound (place : List ℕ) (slots : List MetBlock) (met : MetBlock) : Type 0 where
+  pub here : met.place.place ≡ place
+  pub among : Contains slots met
+  pub has : HasMetPlace (map met_in slots) place
 
--- the places without this one
-abbrev without : List ℕ → List (List ℕ) → List (List ℕ)
-without place places = filter (λ (other : List ℕ). not (bytes_eq other place)) places
+found-by : (place : List ℕ) (one met : MetBlock) (more : List MetBlock) (is : Bool)
+    → is_at place one ≡ is → (find (is_at place) more ≡ Some met → IsFound place more met)
+    → cond is (Some one) (find (is_at place) more) ≡ Some met → IsFound place (one ∷ more) met
+found-by place one met more true at later found =
+    let here : one.place.place ≡ place = (bytes_eq-Decides one.place.place place).0 at in
+    let same : one ≡ met = cc in
+    record {
+      here = ap (λ (m : MetBlock). m.place.place) (sym same) ∙ here;
+      among = (0, omega arith, same);
+      has = (0, omega arith, here);
+    }
+found-by place one met more false at later found =
+    let its = later found in
+    record {
+      here = its.here;
+      among = Contains-append_right (one ∷ []) more met its.among;
+      has = Contains-append_right (one.place.place ∷ []) (met_places (map met_in more)) place its.has;
+    }
 
-drops : (place other : List ℕ) (places : List (List ℕ)) → other ≡ place
-    → without place (other ∷ places) ≡ without place places
-drops place other places same =
-    ap (λ (b : Bool). cond (not b) (other ∷ without place places) (without place places))
-    (same-bytes other place same)
+pub found-met : (place : List ℕ) (slots : List MetBlock) (met : MetBlock)
+    → find (is_at place) slots ≡ Some met → IsFound place slots met
+found-met place [] met found = absurd cc
+found-met place (one ∷ more) met found =
+    found-by place one met more (is_at place one) refl (found-met place more met) found
 
-leaves : (place other : List ℕ) (places : List (List ℕ)) → (other ≡ place → ⊥)
-    → without place (other ∷ places) ≡ other ∷ without place places
-leaves place other places apart =
-    ap (λ (b : Bool). cond (not b) (other ∷ without place places) (without place places))
-    (other-bytes other place apart)
+none-by : (place : List ℕ) (one : MetBlock) (more : List MetBlock) (is : Bool)
+    → is_at place one ≡ is
+    → (find (is_at place) more ≡ None → HasMetPlace (map met_in more) place → ⊥)
+    → cond is (Some one) (find (is_at place) more) ≡ None
+    → HasMetPlace (map met_in (one ∷ more)) place → ⊥
+none-by place one more true at later none has = absurd cc
+none-by place one more false at later none has =
+    later none (Contains-tail one.place.place (met_places (map met_in more)) place
+    (λ same. true≢false (sym ((bytes_eq-Decides one.place.place place).1 same) ∙ at)) has)
 
-module _ (a b : Met) (place : List ℕ) where
-  abbrev first-of : ℕ → List Met
-  first-of n = take n (a ∷ b ∷ [])
+-- where none is found, the place was not met
+pub none-met : (place : List ℕ) (slots : List MetBlock)
+    → find (is_at place) slots ≡ None → HasMetPlace (map met_in slots) place → ⊥
+none-met place [] none has = omega (arith, has.1)
+none-met place (one ∷ more) none has =
+    none-by place one more (is_at place one) refl (none-met place more) none has
 
-  -- it is the last that was met
-  pub next-first : (n : ℕ) → 0 < n → n ≤ 2 → a.place ≡ place
-      → (n ≡ 2 → a.place ≡ b.place → ⊥)
-      → met_places (first-of n) ≡ met_next (met_places (first-of n)) place
-  next-first zero some few here apart = absurd (omega (arith, some))
-  next-first (suc zero) some few here apart =
-      ap (λ (p : List ℕ). p ∷ []) here
-      ∙ sym (ap (λ (ps : List (List ℕ)). place ∷ take 1 ps) (drops place a.place [] here))
-  next-first (suc (suc zero)) some few here apart =
-      ap (λ (p : List ℕ). p ∷ b.place ∷ []) here
-      ∙ sym (ap (λ (ps : List (List ℕ)). place ∷ take 1 ps)
-      (drops place a.place (b.place ∷ []) here
-      ∙ leaves place b.place [] (λ same. apart refl (here ∙ sym same))))
-  next-first (suc (suc (suc n))) some few here apart = absurd (omega (arith, few))
+-- whether one is found, as it is lent
+pub has-met : (place : List ℕ) (slots : List MetBlock) (found : Option (Bor MetBlock))
+    → option_copied found ≡ find (is_at place) slots → IsTrue (is_some found)
+    → HasMetPlace (map met_in slots) place
+has-met place slots None is some = absurd cc
+has-met place slots (Some met) is some = (found-met place slots met.now (sym is)).has
 
-  -- a new one comes before the last of the others
-  pub next-new : (n : ℕ) (new : Met) → n ≤ 2 → new.place ≡ place
-      → (HasMetPlace (first-of n) place → ⊥)
-      → met_places (take (min n 1 + 1) (new ∷ a ∷ []))
-      ≡ met_next (met_places (first-of n)) place
-  next-new zero new few here none = ap (λ (p : List ℕ). p ∷ []) here
-  next-new (suc zero) new few here none =
-      ap (λ (p : List ℕ). p ∷ a.place ∷ []) here
-      ∙ sym (ap (λ (ps : List (List ℕ)). place ∷ take 1 ps)
-      (leaves place a.place [] (λ same. none (0, omega arith, same))))
-  next-new (suc (suc zero)) new few here none =
-      ap (λ (p : List ℕ). p ∷ a.place ∷ []) here
-      ∙ sym (ap (λ (ps : List (List ℕ)). place ∷ take 1 ps)
-      (leaves place a.place (b.place ∷ []) (λ same. none (0, omega arith, same))))
-  next-new (suc (suc (suc n))) new few here none = absurd (omega (arith, few))
+pub hasnt-met : (place : List ℕ) (slots : List MetBlock) (found : Option (Bor MetBlock))
+    → option_copied found ≡ find (is_at place) slots → is_some found ≡ false
+    → HasMetPlace (map met_in slots) place → ⊥
+hasnt-met place slots None is none = none-met place slots (sym is)
+hasnt-met place slots (Some met) is none = absurd cc
 
-  -- the last of the others is at another place
-  pub met-apart : (n m : ℕ) → m ≡ min n 1 → m + 1 ≡ 2 → (HasMetPlace (first-of n) place → ⊥)
-      → a.place ≡ place → ⊥
-  met-apart zero m least two none here = omega (arith, least, two)
-  met-apart (suc zero) m least two none here = none (0, omega arith, here)
-  met-apart (suc (suc n)) m least two none here = none (0, omega arith, here)
+-- what is so of each slot is so of those that were met
+each-slot : (P : Met → Type 0) (slots : List MetBlock) → All P (map met_in slots)
+    → All (λ (one : MetBlock). P (met_in one)) slots
+each-slot P [] all = All-nil (λ (one : MetBlock). P (met_in one))
+each-slot P (one ∷ more) all =
+    All-cons (λ (one : MetBlock). P (met_in one)) one more
+    (All-head P (met_in one) (map met_in more) all)
+    (each-slot P more (All-tail P (met_in one) (map met_in more) all))
 
--- what is so of all that were met is so of the last alone
-pub met-kept : (P : Met → Type 0) (a b other : Met) (n m : ℕ) → m ≡ min n 1
-    → All P (take n (a ∷ b ∷ [])) → All P (take m (a ∷ other ∷ []))
-met-kept P a b other zero m least all =
-    subst (λ (k : ℕ). All P (take k (a ∷ other ∷ []))) (sym least) all
-met-kept P a b other (suc n) m least all =
-    let one : m ≡ 1 = omega (arith, least) in
-    subst (λ (k : ℕ). All P (take k (a ∷ other ∷ []))) (sym one)
-    (All-cons P a [] (All-head P a (take n (b ∷ [])) all) (All-nil P))
+-- what is so of all that were met is so of one of them
+pub met-of : (P : Met → Type 0) (slots : List MetBlock) (met : MetBlock)
+    → All P (map met_in slots) → Contains slots met → P (met_in met)
+met-of P slots met all is =
+    All-contains (λ (one : MetBlock). P (met_in one)) slots met (each-slot P slots all) is
 
--- and of it after a new one
-pub met-added : (P : Met → Type 0) (a b new : Met) (n m : ℕ) → m ≡ min n 1
-    → All P (take n (a ∷ b ∷ [])) → P new → All P (take (m + 1) (new ∷ a ∷ []))
-met-added P a b new zero m least all is =
-    let one : m + 1 ≡ 1 = omega (arith, least) in
-    subst (λ (k : ℕ). All P (take k (new ∷ a ∷ []))) (sym one)
-    (All-cons P new [] is (All-nil P))
-met-added P a b new (suc n) m least all is =
-    let two : m + 1 ≡ 2 = omega (arith, least) in
-    subst (λ (k : ℕ). All P (take k (new ∷ a ∷ []))) (sym two)
-    (All-cons P new (a ∷ []) is
-    (All-cons P a [] (All-head P a (take n (b ∷ [])) all) (All-nil P)))
+-- ---- one more
 
--- the first of those that were met
-pub first-met : (P : Met → Type 0) (n : ℕ) (a b : Met) → 0 < n → All P (take n (a ∷ b ∷ []))
-    → P a
-first-met P zero a b some all = absurd (omega (arith, some))
-first-met P (suc n) a b some all = All-head P a (take n (b ∷ [])) all
+-- where the place was met, all stays
+pub met-before : (place : List ℕ) (most : ℕ) (met : List Met) → HasMetPlace met place
+    → MeetsNext place most met met
+met-before place most met has = record {
+  here = has;
+  many = omega arith;
+  kept = λ few other is. is;
+}
 
--- and the second, where a place is one of them, and not that of the first
-pub second-met : (P : Met → Type 0) (n : ℕ) (a b : Met) (place : List ℕ) → n ≤ 2
-    → HasMetPlace (take n (a ∷ b ∷ [])) place → (0 < n → a.place ≡ place → ⊥)
-    → All P (take n (a ∷ b ∷ [])) → P b
-second-met P zero a b place few has none all = absurd (omega (arith, has.1))
-second-met P (suc zero) a b place few (zero, within, is) none all =
-    absurd (none (omega arith) is)
-second-met P (suc zero) a b place few (suc k, within, is) none all =
-    absurd (omega (arith, within))
-second-met P (suc (suc n)) a b place few has none all =
-    All-head P b (take n []) (All-tail P a (take (suc n) (b ∷ [])) all)
+-- what is so of all that were met is so of the first of them
+pub all-fewer : (P : Met → Type 0) (slots : List MetBlock) (filled n : ℕ) → n ≤ filled
+    → All P (map met_in (take filled slots)) → All P (map met_in (take n slots))
+all-fewer P slots filled n least all =
+    All-map P met_in (take n slots)
+    (subst (All (λ (one : MetBlock). P (met_in one))) (take-take n filled slots least)
+    (All-take (λ (one : MetBlock). P (met_in one)) n (take filled slots)
+    (each-slot P (take filled slots) all)))
 
--- what is met first is one of those that were met
-pub first-has : (n : ℕ) (a b : Met) (place : List ℕ) → 0 < n → a.place ≡ place
-    → HasMetPlace (take n (a ∷ b ∷ [])) place
-first-has zero a b place some here = absurd (omega (arith, some))
-first-has (suc n) a b place some here = (0, omega arith, here)
+module _ (slots : List MetBlock) (n : ℕ) (new : MetBlock) (below : n < length slots) where
+  -- those before it, and it
+  after-is : map met_in (take (n + 1) (set slots n new))
+      ≡ map met_in (take n slots) ++ met_in new ∷ []
+  after-is =
+      ap (map met_in) (take_more_set slots n new below)
+      ∙ map-append met_in (take n slots) (new ∷ [])
+
+  pub all-next : (P : Met → Type 0) → All P (map met_in (take n slots)) → P (met_in new)
+      → All P (map met_in (take (n + 1) (set slots n new)))
+  all-next P all is =
+      subst (All P) (sym after-is) (All-push P (map met_in (take n slots)) (met_in new) all is)
+
+  -- their places
+  placed : met_places (map met_in (take (n + 1) (set slots n new)))
+      ≡ met_places (map met_in (take n slots)) ++ new.place.place ∷ []
+  placed =
+      ap met_places after-is
+      ∙ map-append (λ (one : Met). one.place) (map met_in (take n slots)) (met_in new ∷ [])
+
+  counted : (k : ℕ) → k ≤ length slots → length (map met_in (take k slots)) ≡ k
+  counted k few = length-map (take k slots) met_in ∙ length-take-le k slots few
+
+  pub meets-next : (place : List ℕ) (filled : ℕ) → filled ≤ length slots → n ≤ filled
+      → new.place.place ≡ place → (filled < length slots → n ≡ filled)
+      → MeetsNext place (length slots) (map met_in (take filled slots))
+      (map met_in (take (n + 1) (set slots n new)))
+  meets-next place filled few least here kept = record {
+    here = subst (λ (places : List (List ℕ)). Contains places place) (sym placed)
+        (Contains-append_right (met_places (map met_in (take n slots))) (new.place.place ∷ [])
+        place (0, omega arith, here));
+    many = many;
+    kept = λ fewer other has.
+        let all : n ≡ filled = kept (omega (arith, counted filled few, fewer)) in
+        subst (λ (places : List (List ℕ)). Contains places other) (sym placed)
+        (Contains-append_left (met_places (map met_in (take n slots))) (new.place.place ∷ []) other
+        (subst (λ (k : ℕ). HasMetPlace (map met_in (take k slots)) other) (sym all) has));
+  }
+    where
+      many : length (map met_in (take (n + 1) (set slots n new)))
+          ≤ length (map met_in (take filled slots)) + 1
+      many =
+          let count = ap length after-is
+          ∙ length-append (map met_in (take n slots)) (met_in new ∷ []) in
+          omega (arith, count, counted n (omega arith), counted filled few)
 
 -- what follows where there is an answer
 pub on-ok-more : {X E : Type 0} (r : Result X E) (P Q : Type 0) → (P → Q) → OnOk r P → OnOk r Q

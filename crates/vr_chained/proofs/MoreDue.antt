@@ -132,6 +132,7 @@ due-taken chain areas a area left of due least = record {
       split = None;
       move = None;
       met = [];
+      most = 0;
       areas = chain.areas;
       ends = [];
       used = chain.used;

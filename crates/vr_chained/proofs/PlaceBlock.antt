@@ -28,6 +28,7 @@ known-chain chain = record {
   split = None;
   move = None;
   met = [];
+  most = 0;
   areas = chain.areas;
   ends = [];
   used = chain.used;

@@ -1,5 +1,6 @@
--- What is kept of the intervals of the places that were met last. The rules are this project's own.
-use Rattle.std.specs.Prelude.{◌≡◌, ◌<◌, ℕ, List, [], ◌∷◌, None, Contains, map, take, vec_len}
+-- What is kept of the intervals of the places that were met. The rules are this project's own.
+use Rattle.std.specs.Prelude.{◌≡◌, ◌<◌, ◌≤◌, ◌+◌, ℕ, List, [], None, All, Contains, length, map, take}
+use Rattle.std.specs.Prelude.{Bool, bytes_eq, vec_len}
 use Rattle.vr_space.specs.Met.{Met}
 use Rattle.vr_space.specs.Rosters.{Numbered}
 use Rattle.vr_chained.specs.declared.met.MetBlock.{MetBlock}
@@ -14,18 +15,18 @@ met_in met = record {
   block = met.bytes.items;
 }
 
--- it has room for a place and for a block of the part
-pub record IsMetOf (part : Numbered) (met : MetBlock) : Type 0 where
+-- it has room for a place, and for a block of this size
+pub record IsMetOf (size : ℕ) (met : MetBlock) : Type 0 where
   pub place : met.place.room ≡ 4
-  pub bytes : vec_len met.bytes ≡ part.geometry.size
+  pub bytes : vec_len met.bytes ≡ size
 
-pub record AreMetsOf (part : Numbered) (mets : Mets) : Type 0 where
-  pub first : IsMetOf part mets.first
-  pub second : IsMetOf part mets.second
+-- each slot has room for an interval of the part
+abbrev pub AreMetsOf : Numbered → Mets → Type 0
+AreMetsOf part mets = All (IsMetOf part.geometry.size) mets.slots.items
 
--- those that were met, the last one first
+-- those that were met
 abbrev pub mets_in : Mets → List Met
-mets_in mets = take mets.filled (met_in mets.first ∷ met_in mets.second ∷ [])
+mets_in mets = map met_in (take mets.filled mets.slots.items)
 
 -- their places
 abbrev pub met_places : List Met → List (List ℕ)
@@ -35,7 +36,13 @@ met_places met = map (λ (one : Met). one.place) met
 abbrev pub HasMetPlace : List Met → List ℕ → Type 0
 HasMetPlace met place = Contains (met_places met) place
 
--- the place is the one that was met last
-pub record IsFirst (place : List ℕ) (mets : Mets) : Type 0 where
-  pub some : 0 < mets.filled
-  pub here : mets.first.place.place ≡ place
+-- whether this was met at the place
+abbrev pub is_at : List ℕ → MetBlock → Bool
+is_at place met = bytes_eq met.place.place place
+
+-- What was met once the place was met too: one more at most, and as long as fewer than may be kept
+-- were met, all that was.
+pub record MeetsNext (place : List ℕ) (most : ℕ) (old new : List Met) : Type 0 where
+  pub here : HasMetPlace new place
+  pub many : length new ≤ length old + 1
+  pub kept : length old < most → (other : List ℕ) → HasMetPlace old other → HasMetPlace new other

@@ -5,12 +5,13 @@ use Rattle.vr_space.specs.Known.{Known}
 use Rattle.vr_space.specs.Met.{Met}
 use Rattle.vr_chained.specs.Chain.{ChainNow}
 
--- the chain of its areas, where its last item ends, what it met last, and which blocks its last
--- `set` put
+-- the chain of its areas, where its last item ends, what it met and of how many places it may keep
+-- that, and which blocks its last `set` put
 pub record OwnedChain : Type 0 where
   pub chain : ChainNow
   pub tail : Option TailOf
   pub met : List Met
+  pub most : ℕ
   pub put : List ℕ
 
 -- what it keeps in memory of its blocks: no split is ever under way
@@ -19,6 +20,7 @@ known_of owned = record {
   split = None;
   move = None;
   met = owned.met;
+  most = owned.most;
   areas = owned.chain.areas;
   ends = [];
   used = owned.chain.used;

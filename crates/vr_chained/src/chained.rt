@@ -22,7 +22,7 @@ ghost use Rattle.vr_chained.specs.Walked.{AreChainMarked, IsChainNo};
 use crate::chain::{Chain, first_chain};
 use crate::extend::extend;
 use crate::look::{at_of, look_in};
-use crate::meet::{forget, meet, no_mets};
+use crate::meet::{forget, keep, meet, no_mets};
 use crate::met::Mets;
 use crate::next::next_in;
 use crate::number::{number_at, number_in};
@@ -66,6 +66,7 @@ impl Model for Chained {
       chain = part.chain;
       tail = option_map tail_of part.tail;
       met = mets_in part.mets;
+      most = vec_len part.mets.slots;
       put = part.put.items;
     } };
 
@@ -126,7 +127,7 @@ fn fits(chain: &Chain, mets: &Mets, tail: Option<Tail>, place: &[u8], length: u3
 /// all that the part needs.
 pub fn chained_part(alloc: Global, chain: Chain) -> Result<Chained, OutOfMemory>
     ensures { IfOk result (λ part. part
-        ≡ record { chain = chain; tail = None; met = []; put = [] }) }
+        ≡ record { chain = chain; tail = None; met = []; most = 2; put = [] }) }
 {
     let mets = no_mets(alloc, &chain.layout)?;
     let out = vec![in alloc; 0; chain.layout.geometry.size as usize]?;
@@ -269,6 +270,10 @@ impl Part for Chained {
         next_in(&self.chain, blocks, from, into)
     }
 
+    fn keep_places(&mut self, alloc: Global, count: usize) -> Result<(), OutOfMemory> {
+        keep(&mut self.mets, alloc, &self.chain.layout, count)
+    }
+
     fn room<B: Blocks, K: Kept>(
         &mut self,
         blocks: &mut B,
@@ -292,8 +297,7 @@ impl Part for Chained {
         _place: &Place,
         _length: u32,
     ) -> Result<StageKind, DeviceFault> {
-        let mets = &self.mets;
-        let sample = mets.first.bytes.as_slice();
+        let sample = self.mets.sample();
         extend(
             &mut self.chain,
             blocks,

@@ -1,25 +1,19 @@
-//! The intervals of the places that were met last, so that `set` at one of them reads nothing.
-ghost use Rattle.std.specs.Prelude.{◌≡◌, ◌<◌, false, [], ℕ, IsTrue, IsOk, IfOk, OnOk, All, map};
-ghost use Rattle.std.specs.Prelude.{length, vec_len};
-ghost use Rattle.vr_types.specs.Image.{Image};
+//! The intervals of the places that were met, so that `set` at one of them reads nothing.
+ghost use Rattle.std.specs.Prelude.{◌≡◌, ◌<◌, ◌≤◌, [], IsTrue, IsOk, IfOk, OnOk, All, max, vec_len};
 ghost use Rattle.vr_types.specs.Blocks.{Keeps};
 ghost use Rattle.vr_types.specs.Faults.{HasCause};
-ghost use Rattle.vr_space.specs.Met.{met_next};
-ghost use Rattle.vr_space.specs.Rosters.{Numbered};
 ghost use Rattle.vr_space.specs.Numbered.{IsNumberedOn, IsIntervalMet, IsNumberPlace};
 ghost use Rattle.vr_chained.specs.Chain.{IsChainOf};
-ghost use Rattle.vr_chained.specs.Met.{AreMetsOf, HasMetPlace, IsFirst, IsMetOf, met_in};
-ghost use Rattle.vr_chained.specs.Met.{met_places, mets_in};
+ghost use Rattle.vr_chained.specs.Met.{AreMetsOf, HasMetPlace, IsMetOf, MeetsNext, met_in, mets_in};
 
 use crate::chain::Chain;
 use crate::met::{MetBlock, Mets};
 use std::alloc::Global;
-use std::mem::swap;
 use vr_space::ChainLayout;
-use vr_types::{Blocks, DeviceFault, OutOfMemory, PlaceBuffer, empty_place};
+use vr_types::{Blocks, DeviceFault, OutOfMemory, empty_place};
 
 fn empty_block(alloc: Global, layout: &ChainLayout) -> Result<MetBlock, OutOfMemory>
-    ensures { IfOk result (IsMetOf layout.now) }
+    ensures { IfOk result (IsMetOf layout.now.geometry.size) }
 {
     Ok(MetBlock {
         place: empty_place(alloc, 4)?,
@@ -28,47 +22,58 @@ fn empty_block(alloc: Global, layout: &ChainLayout) -> Result<MetBlock, OutOfMem
     })
 }
 
-/// Room for two intervals, none met. It fails only if memory runs out.
+/// Adds slots until there are this many. It fails only if memory runs out.
+fn add_slots(
+    slots: &mut Vec<MetBlock>,
+    alloc: Global,
+    layout: &ChainLayout,
+    count: usize,
+) -> Result<(), OutOfMemory>
+    requires { All (IsMetOf layout.now.geometry.size) slots.old.items }
+    ensures room { All (IsMetOf layout.now.geometry.size) slots.new.items }
+    ensures count { OnOk result (vec_len slots.new ≡ max (vec_len slots.old) count) }
+    ensures more { vec_len slots.old ≤ vec_len slots.new }
+{
+    for _ in slots.len()..count {
+        slots.push(empty_block(alloc, layout)?)?;
+    }
+    Ok(())
+}
+
+/// Room for the intervals of two places, none met. It fails only if memory runs out.
 pub(crate) fn no_mets(alloc: Global, layout: &ChainLayout) -> Result<Mets, OutOfMemory>
     ensures room { IfOk result (AreMetsOf layout.now) }
     ensures none { IfOk result (λ mets. mets_in mets ≡ []) }
+    ensures most { IfOk result (λ mets. vec_len mets.slots ≡ 2) }
 {
-    let first = empty_block(alloc, layout)?;
-    let second = empty_block(alloc, layout)?;
-    Ok(Mets {
-        first,
-        second,
-        filled: 0,
-    })
+    let mut slots = Vec::new(alloc);
+    add_slots(&mut slots, alloc, layout, 2)?;
+    Ok(Mets { slots, filled: 0 })
 }
 
 /// Forgets what was met.
 pub(crate) fn forget(mets: &mut Mets)
     ensures none { mets_in mets.new ≡ [] }
-    ensures room { (part : Numbered) → AreMetsOf part mets.old → AreMetsOf part mets.new }
+    ensures slots { mets.new.slots ≡ mets.old.slots }
 {
     mets.filled = 0;
 }
 
-/// Makes the interval of a place the one that was met last, if it is one of the two.
-fn recall(mets: &mut Mets, place: &[u8]) -> bool
-    ensures found { IsTrue result → IsFirst place.now mets.new
-        × (met_places (mets_in mets.new) ≡ met_next (met_places (mets_in mets.old)) place.now) }
-    ensures none { result ≡ false
-        → (mets.new ≡ mets.old) × (HasMetPlace (mets_in mets.old) place.now → ⊥) }
-    ensures met { (part : Numbered) (image : Image)
-        → All (IsIntervalMet part image) (mets_in mets.old)
-        → All (IsIntervalMet part image) (mets_in mets.new) }
-    ensures room { (part : Numbered) → AreMetsOf part mets.old → AreMetsOf part mets.new }
+/// Forgets what was met, and makes room for the intervals of this many places. It fails only if
+/// memory runs out.
+pub(crate) fn keep(
+    mets: &mut Mets,
+    alloc: Global,
+    layout: &ChainLayout,
+    count: usize,
+) -> Result<(), OutOfMemory>
+    requires room { AreMetsOf layout.now mets.old }
+    ensures room { AreMetsOf layout.now mets.new }
+    ensures none { mets_in mets.new ≡ [] }
+    ensures most { OnOk result (count ≤ vec_len mets.new.slots) }
 {
-    if mets.is_first(place) {
-        return true;
-    }
-    if !mets.is_second(place) {
-        return false;
-    }
-    swap(&mut mets.first, &mut mets.second);
-    true
+    forget(mets);
+    add_slots(&mut mets.slots, alloc, layout, count)
 }
 
 /// Reads the interval of a place, where it is in the chain.
@@ -80,9 +85,9 @@ fn fill<B: Blocks>(
 ) -> Result<(), DeviceFault>
     requires on { IsNumberedOn chain.now.part (B.seen blocks.old) }
     requires place { IsNumberPlace chain.now.part place.now }
-    requires room { IsMetOf chain.now.part met.old }
+    requires room { IsMetOf chain.now.part.geometry.size met.old }
     requires chain { IsTrue B.tells → IsChainOf chain.now (B.seen blocks.old).cur }
-    ensures room { IsMetOf chain.now.part met.new }
+    ensures room { IsMetOf chain.now.part.geometry.size met.new }
     ensures place { OnOk result (met.new.place.place ≡ place.now) }
     ensures met { IsTrue B.tells → OnOk result
         (IsIntervalMet chain.now.part (B.seen blocks.old).cur (met_in met.new)) }
@@ -98,7 +103,21 @@ fn fill<B: Blocks>(
     Ok(())
 }
 
-/// Fills the second of the two, and makes its interval the one that was met last.
+/// The slot that is filled next. Where each of them is, what was met is forgotten.
+fn next_slot(mets: &mut Mets) -> usize
+    ensures below { result < vec_len mets.new.slots }
+    ensures filled { mets.new.filled ≡ result }
+    ensures few { result ≤ mets.old.filled }
+    ensures kept { mets.old.filled < vec_len mets.old.slots → result ≡ mets.old.filled }
+    ensures slots { mets.new.slots ≡ mets.old.slots }
+{
+    if mets.filled == mets.slots.len() {
+        mets.filled = 0;
+    }
+    mets.filled
+}
+
+/// Reads the interval of a place into a slot.
 fn read_in<B: Blocks>(
     mets: &mut Mets,
     chain: &Chain,
@@ -111,25 +130,23 @@ fn read_in<B: Blocks>(
     requires chain { IsTrue B.tells → IsChainOf chain.now (B.seen blocks.old).cur }
     requires met { IsTrue B.tells
         → All (IsIntervalMet chain.now.part (B.seen blocks.old).cur) (mets_in mets.old) }
-    requires none { HasMetPlace (mets_in mets.old) place.now → ⊥ }
     ensures room { AreMetsOf chain.now.part mets.new }
-    ensures first { OnOk result (IsFirst place.now mets.new) }
+    ensures most { vec_len mets.new.slots ≡ vec_len mets.old.slots }
     ensures places { OnOk result
-        (met_places (mets_in mets.new) ≡ met_next (met_places (mets_in mets.old)) place.now) }
+        (MeetsNext place.now (vec_len mets.old.slots) (mets_in mets.old) (mets_in mets.new)) }
     ensures met { IsTrue B.tells
         → All (IsIntervalMet chain.now.part (B.seen blocks.old).cur) (mets_in mets.new) }
     ensures keeps { Keeps B.tells (B.seen blocks.old) (B.seen blocks.new) }
     ensures cause { HasCause (B.faults blocks.old) (B.faults blocks.new) result }
 {
-    mets.filled = mets.filled.min(1);
-    fill(&mut mets.second, chain, blocks, place)?;
-    swap(&mut mets.first, &mut mets.second);
+    let slot = next_slot(mets);
+    fill(&mut mets.slots[slot], chain, blocks, place)?;
     mets.filled += 1;
     Ok(())
 }
 
-/// Makes the interval of a place the one that was met last. Where it is one of the two that were
-/// met, nothing is read; else one block is, where the interval is in the chain.
+/// Keeps the interval of a place, too. Where the place was met, nothing is read; else one block is,
+/// where the interval is in the chain.
 pub(crate) fn meet<B: Blocks>(
     mets: &mut Mets,
     chain: &Chain,
@@ -143,16 +160,17 @@ pub(crate) fn meet<B: Blocks>(
     requires met { IsTrue B.tells
         → All (IsIntervalMet chain.now.part (B.seen blocks.old).cur) (mets_in mets.old) }
     ensures room { AreMetsOf chain.now.part mets.new }
-    ensures first { OnOk result (IsFirst place.now mets.new) }
+    ensures most { vec_len mets.new.slots ≡ vec_len mets.old.slots }
     ensures places { OnOk result
-        (met_places (mets_in mets.new) ≡ met_next (met_places (mets_in mets.old)) place.now) }
+        (MeetsNext place.now (vec_len mets.old.slots) (mets_in mets.old) (mets_in mets.new)) }
     ensures met { IsTrue B.tells
         → All (IsIntervalMet chain.now.part (B.seen blocks.old).cur) (mets_in mets.new) }
-    ensures known { HasMetPlace (mets_in mets.old) place.now → IsOk result }
+    ensures known { HasMetPlace (mets_in mets.old) place.now
+        → IsOk result × (mets.new ≡ mets.old) }
     ensures keeps { Keeps B.tells (B.seen blocks.old) (B.seen blocks.new) }
     ensures cause { HasCause (B.faults blocks.old) (B.faults blocks.new) result }
 {
-    if recall(mets, place) {
+    if mets.has(place) {
         return Ok(());
     }
     read_in(mets, chain, blocks, place)

@@ -1,6 +1,6 @@
-//! What is kept of the intervals of the places that were met last.
-ghost use Rattle.std.specs.Prelude.{◌≡◌, ◌≤◌, IsTrue, false};
-ghost use Rattle.std.proofs.Props.{props};
+//! What is kept of the intervals of the places that were met.
+ghost use Rattle.std.specs.Prelude.{◌≡◌, ◌<◌, ◌≤◌, IsTrue, All, false, find, length, take, vec_len};
+ghost use Rattle.std.specs.Option.{option_copied};
 
 use vr_types::PlaceBuffer;
 
@@ -13,48 +13,37 @@ pub(crate) struct MetBlock {
     pub(crate) bytes: Vec<u8>,
 }
 
-/// The intervals of the last two places that were met, the last one first.
+/// Slots for the intervals of places, and how many of them have one that was met.
 #[derive(Drop)]
 pub(crate) struct Mets {
-    pub(crate) first: MetBlock,
-    pub(crate) second: MetBlock,
-    pub(crate) filled: u8,
-    ghost few: { filled ≤ 2 },
-    ghost apart: { filled ≡ 2 → first.place.place ≡ second.place.place → ⊥ } by { Prim.hlevel props },
+    pub(crate) slots: Vec<MetBlock>,
+    pub(crate) filled: usize,
+    ghost some: { 0 < vec_len slots },
+    ghost few: { filled ≤ vec_len slots },
 }
 
 impl Mets {
-    ghost use Rattle.std.specs.Prelude.{All};
     ghost use Rattle.vr_types.specs.Image.{Image};
     ghost use Rattle.vr_space.specs.Rosters.{Numbered};
     ghost use Rattle.vr_space.specs.Numbered.{IsIntervalMet};
-    ghost use Rattle.vr_chained.specs.Met.{AreMetsOf, HasMetPlace, IsFirst, IsMetOf, met_in};
-    ghost use Rattle.vr_chained.specs.Met.{mets_in};
+    ghost use Rattle.vr_chained.specs.Met.{AreMetsOf, HasMetPlace, is_at, met_in, mets_in};
 
-    /// Whether the place was met last.
-    pub(crate) fn is_first(&self, place: &[u8]) -> bool
-        ensures some { IsTrue result → IsFirst place.now self.now }
-        ensures none { result ≡ false → IsFirst place.now self.now → ⊥ }
+    /// What is kept of the interval of a place, if it was met.
+    fn find(&self, place: &[u8]) -> Option<&MetBlock>
+        ensures { option_copied result
+            ≡ find (is_at place.now) (take self.now.filled self.now.slots.items) }
     {
-        self.filled > 0 && self.first.place.as_slice() == place
+        self.slots[..self.filled]
+            .iter()
+            .find(|met| met.place.as_slice() == place)
     }
 
-    /// Whether it was met before the last.
-    pub(crate) fn is_second(&self, place: &[u8]) -> bool
-        ensures some { IsTrue result
-            → (self.now.filled ≡ 2) × (self.now.second.place.place ≡ place.now) }
-        ensures none { result ≡ false
-            → self.now.filled ≡ 2 → self.now.second.place.place ≡ place.now → ⊥ }
-    {
-        self.filled > 1 && self.second.place.as_slice() == place
-    }
-
-    /// Whether it is one of the two.
+    /// Whether a place was met.
     pub(crate) fn has(&self, place: &[u8]) -> bool
         ensures some { IsTrue result → HasMetPlace (mets_in self.now) place.now }
         ensures none { result ≡ false → HasMetPlace (mets_in self.now) place.now → ⊥ }
     {
-        self.is_first(place) || self.is_second(place)
+        self.find(place).is_some()
     }
 
     /// What is kept of the interval of a place that was met.
@@ -64,12 +53,18 @@ impl Mets {
         ensures met { (part : Numbered) (image : Image)
             → All (IsIntervalMet part image) (mets_in self.now)
             → IsIntervalMet part image (met_in result.now) }
-        ensures room { (part : Numbered) → AreMetsOf part self.now → IsMetOf part result.now }
     {
-        if self.is_first(place) {
-            &self.first
-        } else {
-            &self.second
-        }
+        let Some(met) = self.find(place) else {
+            unreachable!("it was met")
+        };
+        met
+    }
+
+    /// The bytes of any slot.
+    pub(crate) fn sample(&self) -> &[u8]
+        ensures { (part : Numbered) → AreMetsOf part self.now
+            → length result.now ≡ part.geometry.size }
+    {
+        self.slots[0].bytes.as_slice()
     }
 }

@@ -1,6 +1,6 @@
 //! Setting a record at a place, or taking it away.
 ghost use Rattle.std.specs.Prelude.{◌≡◌, ◌≢◌, ◌<◌, None, IsTrue, All, length, map, vec_len, IfOk};
-ghost use Rattle.std.specs.Prelude.{OnOk, IfErr, IsOk};
+ghost use Rattle.std.specs.Prelude.{OnOk, IfErr};
 ghost use Rattle.vr_types.specs.Blocks.{Keeps};
 ghost use Rattle.vr_types.specs.Faults.{HasCause, HasWriteCause};
 ghost use Rattle.vr_types.specs.declared.fault.DeviceFault.TheVariants.{Read, Write};
@@ -23,25 +23,35 @@ use vr_types::{Blocks, DeviceFault};
 
 /// Makes what is kept of a block what the block has now.
 fn refresh_block(met: &mut MetBlock, number: u32, bytes: &[u8])
-    requires { length bytes.now ≡ vec_len met.old.bytes }
+    requires { IsMetOf (length bytes.now) met.old }
     ensures met { met_in met.new ≡ refreshed number bytes.now (met_in met.old) }
-    ensures place { met.new.place ≡ met.old.place }
-    ensures room { (part : Numbered) → IsMetOf part met.old → IsMetOf part met.new }
+    ensures room { IsMetOf (length bytes.now) met.new }
 {
     if met.number == number {
         met.bytes.copy_from_slice(bytes);
     }
 }
 
-/// The same of both.
-fn refresh(mets: &mut Mets, number: u32, bytes: &[u8])
-    requires first { length bytes.now ≡ vec_len mets.old.first.bytes }
-    requires second { length bytes.now ≡ vec_len mets.old.second.bytes }
-    ensures met { mets_in mets.new ≡ map (refreshed number bytes.now) (mets_in mets.old) }
-    ensures room { (part : Numbered) → AreMetsOf part mets.old → AreMetsOf part mets.new }
+/// The same of each slot.
+fn refresh_slots(slots: &mut [MetBlock], number: u32, bytes: &[u8])
+    requires { All (IsMetOf (length bytes.now)) slots.old }
+    ensures met { map met_in slots.new ≡ map (refreshed number bytes.now) (map met_in slots.old) }
+    ensures room { All (IsMetOf (length bytes.now)) slots.new }
+    ensures count { length slots.new ≡ length slots.old }
 {
-    refresh_block(&mut mets.first, number, bytes);
-    refresh_block(&mut mets.second, number, bytes);
+    for met in slots.iter_mut() {
+        refresh_block(met, number, bytes);
+    }
+}
+
+/// The same of all that was met.
+fn refresh(mets: &mut Mets, number: u32, bytes: &[u8])
+    requires { All (IsMetOf (length bytes.now)) mets.old.slots.items }
+    ensures met { mets_in mets.new ≡ map (refreshed number bytes.now) (mets_in mets.old) }
+    ensures room { All (IsMetOf (length bytes.now)) mets.new.slots.items }
+    ensures most { vec_len mets.new.slots ≡ vec_len mets.old.slots }
+{
+    refresh_slots(mets.slots.as_mut_slice(), number, bytes);
 }
 
 /// Sets what is given at a place that was met: by one put, and without a read. It answers the block
@@ -63,6 +73,7 @@ fn put_set<B: Blocks>(
     requires met { IsTrue B.tells
         → All (IsIntervalMet chain.now.part (B.seen blocks.old).cur) (mets_in mets.old) }
     ensures room { AreMetsOf chain.now.part mets.new }
+    ensures most { vec_len mets.new.slots ≡ vec_len mets.old.slots }
     ensures places { met_places (mets_in mets.new) ≡ met_places (mets_in mets.old) }
     ensures may { IsTrue B.tells → (kept : Lengths) (known : Known)
         → IsReady chain.now.part kept known place.now (given bytes.entry) (B.seen blocks.old)
@@ -99,34 +110,6 @@ fn put_set<B: Blocks>(
     Ok(Some(block))
 }
 
-/// Meets the interval of a place, unless it is one of the two that were met.
-fn reach<B: Blocks>(
-    mets: &mut Mets,
-    chain: &Chain,
-    blocks: &mut B,
-    place: &[u8],
-) -> Result<(), DeviceFault>
-    requires on { IsNumberedOn chain.now.part (B.seen blocks.old) }
-    requires place { IsNumberPlace chain.now.part place.now }
-    requires room { AreMetsOf chain.now.part mets.old }
-    requires chain { IsTrue B.tells → IsChainOf chain.now (B.seen blocks.old).cur }
-    requires met { IsTrue B.tells
-        → All (IsIntervalMet chain.now.part (B.seen blocks.old).cur) (mets_in mets.old) }
-    ensures room { AreMetsOf chain.now.part mets.new }
-    ensures has { OnOk result (HasMetPlace (mets_in mets.new) place.now) }
-    ensures met { IsTrue B.tells
-        → All (IsIntervalMet chain.now.part (B.seen blocks.old).cur) (mets_in mets.new) }
-    ensures known { HasMetPlace (mets_in mets.old) place.now
-        → IsOk result × (met_places (mets_in mets.new) ≡ met_places (mets_in mets.old)) }
-    ensures keeps { Keeps B.tells (B.seen blocks.old) (B.seen blocks.new) }
-    ensures cause { HasCause (B.faults blocks.old) (B.faults blocks.new) result }
-{
-    if mets.has(place) {
-        return Ok(());
-    }
-    meet(mets, chain, blocks, place)
-}
-
 /// Makes what is given the record at a place, or takes the record there away: by one put, after at
 /// most one read, and none where the place was met. It answers the block that it put.
 pub(crate) fn set_in<B: Blocks>(
@@ -145,6 +128,7 @@ pub(crate) fn set_in<B: Blocks>(
     requires met { IsTrue B.tells
         → All (IsIntervalMet chain.now.part (B.seen blocks.old).cur) (mets_in mets.old) }
     ensures room { AreMetsOf chain.now.part mets.new }
+    ensures most { vec_len mets.new.slots ≡ vec_len mets.old.slots }
     ensures may { IsTrue B.tells → (kept : Lengths) (known : Known)
         → IsReady chain.now.part kept known place.now (given bytes.entry) (B.seen blocks.old)
         → MaySet chain.now.part kept place.now (given bytes.entry)
@@ -176,6 +160,6 @@ pub(crate) fn set_in<B: Blocks>(
     ensures size { (B.seen blocks.new).size ≡ (B.seen blocks.old).size }
     ensures cause { HasCause (B.faults blocks.old) (B.faults blocks.new) result }
 {
-    reach(mets, chain, blocks, place)?;
+    meet(mets, chain, blocks, place)?;
     put_set(mets, chain, blocks, out, place, bytes)
 }

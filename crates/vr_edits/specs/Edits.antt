@@ -1,7 +1,7 @@
 -- What an edit makes of a catalog (Access Method Services Commands, ALTER, DELETE, DEFINE
 -- ALTERNATEINDEX and DEFINE PATH), and when it may be made. Entries of a catalog are told by their
 -- part numbers, of which none comes twice; their order is that of their names.
-use Rattle.std.specs.Prelude.{◌≡◌, ◌≢◌, ◌≤◌, ◌+◌, ◌==◌, ℕ, Bool, true, false, not, List, [], ◌∷◌}
+use Rattle.std.specs.Prelude.{◌≡◌, ◌≢◌, ◌<◌, ◌≤◌, ◌+◌, ◌==◌, ℕ, Bool, true, false, not, List, [], ◌∷◌}
 use Rattle.std.specs.Prelude.{All, IsTrue, Option, Some, None, filter, if◌then◌else◌, length, map}
 use Rattle.std.specs.Prelude.{nat_eq}
 use Rattle.std.specs.List.{IsDistinct, count_by, find, list_any}
@@ -126,11 +126,11 @@ is_over_some gone other = list_any (λ (entry : CatEntry). is_over other.related
 abbrev pub is_of_some : List CatEntry → CatEntry → Bool
 is_of_some gone other = list_any (λ (entry : CatEntry). is_of_part entry other) gone
 
--- An entry and what stands over it: what is left stands over nothing that goes. At most two, since a
--- part keeps what it met of two places.
+-- An entry and what stands over it: what is left stands over nothing that goes. At most 65,535, since
+-- one event makes no more changes of the catalog.
 pub record MayDelete (entries gone : List CatEntry) : Type 0 where
   pub some : gone ≢ []
-  pub few : length gone ≤ 2
+  pub few : length gone < 65536
   pub there : All (IsEntryThere entries) gone
   pub apart : IsDistinct nat_eq (parts_in gone)
   pub cluster : count_by is_cluster_entry gone ≤ 1

@@ -14,5 +14,7 @@ pub use Rattle.vr_event.proofs.OpenedAreas.{opened-owned}
 -- a cluster that is to be defined, with an area of the volume, is one that a catalog may have
 -- and of which a part may be written
 pub use Rattle.vr_event.proofs.NewClusters.{area-entry, area-small, area-startable}
+-- an edit changes at most 65,535 records
+pub use Rattle.vr_event.proofs.EditRecords.{few-changes}
 -- what reading a cluster through handed over is what it has, whichever the state it is held from
 pub use Rattle.vr_event.proofs.HandedOver.{has-read}

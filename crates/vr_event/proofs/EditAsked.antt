@@ -1,14 +1,12 @@
--- Places of an edit were met: what still holds of the volume, that both were, and that what was open
--- stays so.
-use Rattle.std.proofs.Common.{◌≡◌, ◌≢◌, ◌∙◌, ◌+◌, ◌-◌, ◌<◌, ◌≤◌, ◌^◌, ℕ, Bool, true, false, cond, not}
-use Rattle.std.proofs.Common.{List, [], ◌∷◌, Option, Some, None, refl, sym, ap, subst, All, filter, map}
-use Rattle.std.proofs.Common.{true≢false, ◌⊎◌, arith, length}
-use Rattle.std.specs.Prelude.{Contains, IfSome, bytes_eq, slice_get, take}
+-- Places of an edit were met: what still holds of the volume, that what was open stays so, and which
+-- change has no room.
+use Rattle.std.proofs.Common.{◌≡◌, ◌∙◌, ◌+◌, ◌-◌, ◌<◌, ◌≤◌, ◌^◌, ℕ}
+use Rattle.std.proofs.Common.{List, [], ◌∷◌, Option, Some, None, refl, sym, ap, subst, All, map}
+use Rattle.std.specs.Prelude.{Contains, IfSome}
 use Rattle.std.specs.Option.{option_map}
 use Rattle.std.specs.List.{AllByRecursion}
-use Rattle.std.proofs.lemmas.List.Elements.{All-contains_itself, All-head, All-tail}
+use Rattle.std.proofs.lemmas.List.Elements.{All-contains, All-from_recursion}
 use Rattle.std.proofs.lemmas.Option.{none-some, same_Some}
-use Rattle.std.proofs.lemmas.Slice.Eq.{bytes_eq-Decides}
 use Rattle.vr_types.specs.Image.{Image}
 use Rattle.vr_types.specs.LogSpace.{log_size}
 use Rattle.vr_types.specs.Seen.{Seen}
@@ -26,26 +24,23 @@ use Rattle.vr_log.specs.Live.{live_in, used_by}
 use Rattle.vr_log.specs.LogNow.{LogNow}
 use Rattle.vr_history.specs.Merged.{last_stamp}
 use Rattle.vr_record_file.specs.Now.{FileNow, has_deck, number_of}
-use Rattle.vr_space.specs.Known.{HasMet, Known, places_met}
-use Rattle.vr_space.specs.Met.{met_next}
+use Rattle.vr_space.specs.Known.{HasMet}
 use Rattle.vr_space.specs.Part.{IsStageDue, Shape, room_of}
 use Rattle.vr_space.specs.Room.{Lengths}
-use Rattle.vr_space.specs.Split.{AreaSplit, MoveNow}
 use Rattle.vr_space.specs.declared.room.Room.{Room}
 use Rattle.vr_space.specs.declared.room.Room.TheVariants.{Stage}
 use Rattle.vr_undo.specs.Records.{images_in}
 use Rattle.vr_volume.specs.PutBack.{lengths_kept}
 use Rattle.vr_volume.specs.declared.setting.EntryChange.{EntryChange}
-use Rattle.vr_store.specs.Parts.{MeetsNext, OnlyMet, but_met}
+use Rattle.vr_store.specs.Parts.{OnlyMet, but_met}
 use Rattle.vr_store.specs.Room.{IsDueAt, IsRoomAt}
 use Rattle.vr_store.specs.Store.{PartNow, StoreNow, part_among, shape_among}
 use Rattle.vr_store.proofs.PlacedParts.{among-same}
-use Rattle.vr_event.specs.CatalogEdit.{AreUnlocked, changes_of, entry_added, log_for_edit}
+use Rattle.vr_event.specs.CatalogEdit.{AreUnlocked, changes_of, entries_needed, entry_added}
+use Rattle.vr_event.specs.CatalogEdit.{log_for_edit, record_changed, record_gone}
 use Rattle.vr_event.specs.Defining.{record_length, utility_unit}
 use Rattle.vr_event.specs.EditSteps.{AreMetAt, IsEditReady, IsOpenAt, MayEditNow, MayOpen}
-use Rattle.vr_event.specs.EditSteps.{listed}
 use Rattle.vr_event.specs.PreparedEdit.{IsPreparedEdit, store_change, store_order}
-use Rattle.vr_event.specs.Putting.{HasMetAt}
 use Rattle.vr_event.specs.Volume.{IsWhole, VolumeNow}
 use Rattle.vr_event.specs.declared.prepared_edit.PreparedEdit.{PreparedEdit}
 
@@ -81,8 +76,8 @@ module _ {B : Type 0} (seen : B → Seen) (after : ℕ) (old mid : VolumeNow B)
   now-after edit log may = record {
     whole = whole;
     going = ap (λ (f : FileNow). f.stopped) file ∙ may.going;
-    room = subst (λ (f : FileNow). 6 ≤ f.room) (sym file) may.room;
-    last = subst (λ (f : FileNow). last_stamp 0 f.entries < 2 ^ 64 - 8) (sym file) may.last;
+    room = subst (λ (f : FileNow). entries_needed edit ≤ f.room) (sym file) may.room;
+    last = subst (λ (f : FileNow). last_stamp 0 f.entries < 2 ^ 63) (sym file) may.last;
     after_is = may.after_is;
     deck = ap (λ (f : FileNow). has_deck 0 f.numbers) file ∙ may.deck;
     number = subst (λ (f : FileNow). number_of f.numbers 0 < 2 ^ 32 - 1) (sym file) may.number;
@@ -107,51 +102,6 @@ module _ {B : Type 0} (seen : B → Seen) (after : ℕ) (old mid : VolumeNow B)
         (subst (λ (f : FileNow). used_by old.store.log.records + log_for_edit edit
         ≤ log_size f.geometry) (sym file) ready.log);
   }
-
--- ---- both were met
-
-module _ (old mid new : List PartNow) (first second : List ℕ) (apart : second ≢ first)
-    (one : MeetsNext 0 first old mid) (next : MeetsNext 0 second mid new)
-    (there : part_among old 0 ≢ None) (middle : part_among mid 0 ≢ None) where
-  both-known : (before now after : Known) → places_met now ≡ met_next (places_met before) first
-      → places_met after ≡ met_next (places_met now) second
-      → HasMet after first × HasMet after second
-  both-known before now after is then =
-      let found : places_met after ≡ second ∷ first ∷ [] = then
-      ∙ ap (λ (places : List (List ℕ)). met_next places second) is
-      ∙ ap (λ (b : Bool). second ∷ take 1 (cond (not b)
-      (first ∷ filter (λ (other : List ℕ). not (bytes_eq other second))
-      (take 1 (filter (λ (other : List ℕ). not (bytes_eq other first)) (places_met before))))
-      (filter (λ (other : List ℕ). not (bytes_eq other second))
-      (take 1 (filter (λ (other : List ℕ). not (bytes_eq other first)) (places_met before))))))
-      (differ (bytes_eq first second) refl) in
-      let all = All-contains_itself (second ∷ first ∷ []) in
-      let rest = All-tail (Contains (second ∷ first ∷ [])) second (first ∷ []) all in (
-        subst (λ (places : List (List ℕ)). Contains places first) (sym found)
-            (All-head (Contains (second ∷ first ∷ [])) first [] rest),
-        subst (λ (places : List (List ℕ)). Contains places second) (sym found)
-            (All-head (Contains (second ∷ first ∷ [])) second (first ∷ []) all),
-      )
-    where
-      differ : (b : Bool) → bytes_eq first second ≡ b → bytes_eq first second ≡ false
-      differ true is = absurd (apart (sym ((bytes_eq-Decides first second).0 is)))
-      differ false is = is
-
-  pub both-met : HasMetAt new 0 first × HasMetAt new 0 second
-  both-met = of (part_among old 0) (part_among mid 0) (part_among new 0) there middle one next
-    where
-      of : (a b c : Option PartNow) → a ≢ None → b ≢ None
-          → IfSome a (λ (before : PartNow). IfSome b (λ (after : PartNow).
-          places_met after.known ≡ met_next (places_met before.known) first))
-          → IfSome b (λ (before : PartNow). IfSome c (λ (after : PartNow).
-          places_met after.known ≡ met_next (places_met before.known) second))
-          → IfSome c (λ (part : PartNow). HasMet part.known first)
-          × IfSome c (λ (part : PartNow). HasMet part.known second)
-      of None b c some more one next = absurd (some refl)
-      of (Some before) None c some more one next = absurd (more refl)
-      of (Some before) (Some now) None some more one next = (tt, tt)
-      of (Some before) (Some now) (Some after) some more one next =
-          both-known before.known now.known after.known one next
 
 -- as the store asks for it
 pub met-all : (parts : List PartNow) (changes : List EntryChange) → AreMetAt parts changes
@@ -219,55 +169,32 @@ open-stays old new geometry only rest laid image after same change was = (
   was.2,
 )
 
--- ---- as they are asked for, one or two
+-- ---- the one that is added
 
--- the changes are the first, and the second where there is one
-pub as-listed : (changes : List EntryChange) → changes ≢ [] → length changes ≤ 2
-    → (first : EntryChange) → slice_get changes 0 ≡ Some first
-    → changes ≡ first ∷ listed (slice_get changes 1)
-as-listed [] some few first at = absurd (some refl)
-as-listed (one ∷ []) some few first at =
-    ap (λ (change : EntryChange). change ∷ []) (some-one at)
-as-listed (one ∷ two ∷ []) some few first at =
-    ap (λ (change : EntryChange). change ∷ two ∷ []) (some-one at)
-as-listed (one ∷ two ∷ three ∷ more) some few first at = absurd (omega (arith, few))
+-- what is known of a change where no record stands
+abbrev IsAdded : CatalogEdit → EntryChange → Type 0
+IsAdded edit change = change.before ≡ None
+    → (entry : CatEntry) × (entry_added edit ≡ Some entry) × (change.place ≡ entry_place entry)
 
--- a record that is changed second stood there
-pub second-stood : (edit : CatalogEdit)
-    → IfSome (slice_get (map store_change (store_order edit)) 1)
-    (λ (change : EntryChange). change.before ≢ None)
-second-stood (Alter entry new) = tt
-second-stood (Rename entry new) = λ none. none-some (spelling entry) (sym none)
-second-stood (Delete []) = tt
-second-stood (Delete (entry ∷ [])) = tt
-second-stood (Delete (entry ∷ other ∷ gone)) = λ none. none-some (spelling other) (sym none)
-second-stood (Add new) = tt
+stood : (edit : CatalogEdit) (entry : CatEntry) (to : Option CatEntry)
+    → IsAdded edit (store_change (record_changed entry to))
+stood edit entry to none = absurd (none-some (spelling entry) (sym none))
 
--- one that has no room is the entry that is added
-pub first-added : (edit : CatalogEdit) (first : EntryChange)
-    → slice_get (map store_change (store_order edit)) 0 ≡ Some first → first.before ≡ None
-    → (entry : CatEntry) × (entry_added edit ≡ Some entry) × (first.place ≡ entry_place entry)
-first-added (Alter entry new) first at none = absurd (none-some (spelling entry)
-    (sym none ∙ sym (ap (λ (change : EntryChange). change.before) (some-one at))))
-first-added (Rename entry new) first at none =
-    (new, refl, sym (ap (λ (change : EntryChange). change.place) (some-one at)))
-first-added (Delete []) first at none = absurd (none-some first at)
-first-added (Delete (entry ∷ gone)) first at none = absurd (none-some (spelling entry)
-    (sym none ∙ sym (ap (λ (change : EntryChange). change.before) (some-one at))))
-first-added (Add new) first at none =
-    (new, refl, sym (ap (λ (change : EntryChange). change.place) (some-one at)))
+all-stood : (edit : CatalogEdit) (gone : List CatEntry)
+    → AllByRecursion (IsAdded edit) (map store_change (map record_gone gone))
+all-stood edit [] = tt
+all-stood edit (entry ∷ gone) = (stood edit entry None, all-stood edit gone)
 
--- there is a first
-pub first-there : (geometry : Geometry) (entries : List CatEntry) (edit : CatalogEdit)
-    → MayEdit geometry entries edit
-    → slice_get (map store_change (store_order edit)) 0 ≡ None → ⊥
-first-there geometry entries (Alter entry new) may none = none-some _ (sym none)
-first-there geometry entries (Rename entry new) may none = none-some _ (sym none)
-first-there geometry entries (Delete []) may none = may.some refl
-first-there geometry entries (Delete (entry ∷ gone)) may none = none-some _ (sym none)
-first-there geometry entries (Add new) may none = none-some _ (sym none)
+added-in : (edit : CatalogEdit)
+    → AllByRecursion (IsAdded edit) (map store_change (store_order edit))
+added-in (Alter entry new) = (stood (Alter entry new) entry (Some new), tt)
+added-in (Rename entry new) = (λ none. (new, refl, refl), (stood (Rename entry new) entry None, tt))
+added-in (Delete gone) = all-stood (Delete gone) gone
+added-in (Add new) = (λ none. (new, refl, refl), tt)
 
--- some list has a first
-pub first-some : (changes : List EntryChange) → changes ≢ [] → None ≡ slice_get changes 0 → ⊥
-first-some [] some none = some refl
-first-some (one ∷ more) some none = none-some one none
+-- a change that has no room is that of the entry that is added
+pub one-added : (edit : CatalogEdit) (change : EntryChange)
+    → Contains (map store_change (store_order edit)) change → IsAdded edit change
+one-added edit change there = All-contains (IsAdded edit) (map store_change (store_order edit))
+    change (All-from_recursion (IsAdded edit) (map store_change (store_order edit)) (added-in edit))
+    there

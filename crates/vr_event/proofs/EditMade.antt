@@ -1,11 +1,11 @@
 -- An edit that is prepared is made on a volume: what the store asks for, and what the volume is once
 -- the store has answered and that is entered.
-use Rattle.std.proofs.Common.{◌≡◌, ◌≢◌, ◌∙◌, ◌+◌, ◌*◌, ◌-◌, ◌^◌, ◌<◌, ◌≤◌, ◌⊎◌, [], ◌∷◌, ℕ, List, Option, Some}
+use Rattle.std.proofs.Common.{◌≡◌, ◌≢◌, ◌∙◌, ◌+◌, ◌-◌, ◌^◌, ◌<◌, ◌≤◌, ◌⊎◌, [], ◌∷◌, ℕ, List, Option, Some}
 use Rattle.std.proofs.Common.{None, refl, sym, ap, subst, length, arith, cond, map, All, true, Bool, false, if◌then◌else◌, ◌||◌}
 use Rattle.std.proofs.lemmas.Option.{none-some, same_Some}
 use Rattle.std.proofs.lemmas.List.Elements.{All-from_recursion, recursion_from_All}
 use Rattle.std.specs.Prelude.{Err, IfSome, Ok, Result, option_map, sum}
-use Rattle.std.specs.List.{AllByRecursion, list_any}
+use Rattle.std.specs.List.{AllByRecursion}
 use Rattle.vr_types.specs.Content.{Standing, item_at}
 use Rattle.vr_types.specs.Faults.{Faults}
 use Rattle.vr_types.specs.Geometry.{area_count}
@@ -20,9 +20,7 @@ use Rattle.vr_types.specs.declared.geometry.Geometry.{Geometry}
 use Rattle.vr_types.specs.declared.unit.PartNo.{PartNo}
 use Rattle.vr_types.specs.declared.unit.Unit.{Unit as UnitOfRecovery}
 use Rattle.vr_attach.specs.Laid.{catalog_shape}
-use Rattle.vr_catalog.specs.Definition.{catalog_definition, key_of}
-use Rattle.vr_catalog.specs.declared.entry.CatEntry.{CatEntry}
-use Rattle.vr_edits.specs.Edits.{edited, part_gone}
+use Rattle.vr_edits.specs.Edits.{edited}
 use Rattle.vr_edits.specs.declared.edit.CatalogEdit.{CatalogEdit}
 use Rattle.vr_edits.specs.declared.edit.CatalogEdit.TheVariants.{Add, Alter, Delete, Rename}
 use Rattle.vr_edits.proofs.CallerLemmas.{served-kept}
@@ -36,8 +34,7 @@ use Rattle.vr_history.proofs.Same.{unit_self}
 use Rattle.vr_record_file.specs.CatalogEdit.{IsCatalogEdited, MayEditCatalog, RecordChange}
 use Rattle.vr_record_file.specs.CatalogEdit.{catalog_edited, entries_of, failed_to_edit, need_of}
 use Rattle.vr_record_file.specs.Now.{FileNow, IsStateOf, state_now}
-use Rattle.vr_record_file.specs.declared.entry_step.EntryStep.{EntryStep}
-use Rattle.vr_space.specs.Part.{IsPlaceOf, IsRecordOf, Shape}
+use Rattle.vr_space.specs.Part.{IsRecordOf, Shape}
 use Rattle.vr_volume.specs.Crashes.{RecoversTo}
 use Rattle.vr_volume.specs.Ended.{ended as ended-records}
 use Rattle.vr_volume.specs.EndedLog.{IsEndedLog}
@@ -51,16 +48,16 @@ use Rattle.vr_store.specs.EntryChanges.{entries_need}
 use Rattle.vr_store.specs.Store.{IsSet, IsStored, StoreNow, shape_among}
 use Rattle.vr_store.specs.declared.no.DefineNo.{DefineNo}
 use Rattle.vr_store.specs.declared.no.DefineNo.TheVariants as refusals
-use Rattle.vr_event.specs.CatalogEdit.{changes_of, file_edit_in_doubt, file_edited, log_for_edit}
-use Rattle.vr_event.specs.CatalogEdit.{EditFaultsBy, steps_of}
+use Rattle.vr_event.specs.CatalogEdit.{changes_of, entries_needed, file_edit_in_doubt, file_edited}
+use Rattle.vr_event.specs.CatalogEdit.{log_for_edit}
+use Rattle.vr_event.specs.CatalogEdit.{EditFaultsBy}
 use Rattle.vr_event.specs.EditSteps.{HasEditCome, HasEditComeHeld, IsEditReady, IsOpenAt, MayEditNow}
 use Rattle.vr_event.specs.PreparedEdit.{IsPreparedEdit, store_change, store_order}
-use Rattle.vr_event.specs.Volume.{AreServed, Holds, IsHeld, VolumeNow}
+use Rattle.vr_event.specs.Volume.{AreServed, IsHeld, VolumeNow}
 use Rattle.vr_event.specs.declared.edit.Edit.{Edit}
 use Rattle.vr_event.specs.declared.edit.Edit.TheVariants.{Done, Fault}
 use Rattle.vr_event.specs.declared.prepared_edit.PreparedEdit.{PreparedEdit}
 use Rattle.vr_event.proofs.Areas.{owned-same}
-use Rattle.vr_event.proofs.CatalogPart.{catalog-place, catalog-record}
 use Rattle.vr_event.proofs.EditCome.{come-done, come-held, come-in-doubt, left-before}
 use Rattle.vr_event.proofs.EditFiles.{doubt-geometry, edited-kept}
 use Rattle.vr_event.proofs.EditPrepared.{few-entries, prepared-doubt, prepared-edited, prepared-may}
@@ -201,7 +198,7 @@ module _ {B : Type 0} (seen : B → Seen) (after line : ℕ) (edit : CatalogEdit
   some : changes_of edit ≢ []
   some = some-changes old.file.geometry old.file.catalog edit may.edit_is
 
-  few : length (changes_of edit) ≤ 2
+  few : length (changes_of edit) < 65536
   few = few-changes old.file.geometry old.file.catalog edit may.edit_is
 
   -- ---- what the store asks for
@@ -213,7 +210,7 @@ module _ {B : Type 0} (seen : B → Seen) (after line : ℕ) (edit : CatalogEdit
   pub made-some : prepared.changes.items ≢ []
   made-some none = map-some (store_order edit) (order-some edit some) (sym is.changes ∙ none)
 
-  pub made-few : length prepared.changes.items ≤ 2
+  pub made-few : length prepared.changes.items < 65536
   made-few = omega (arith, ap length is.changes, as-long (store_order edit), order-few edit, few)
 
   -- what holds of the changes holds of those that are prepared
@@ -298,8 +295,12 @@ module _ {B : Type 0} (seen : B → Seen) (after line : ℕ) (edit : CatalogEdit
       omega (arith, lacks, need, ready.log, ap log_size (may.whole.geometry may.going))
 
   -- its entries have room in the record file
-  pub made-entries : entries_of prepared.steps.items ≤ 4
-  made-entries = omega (arith, ap entries_of is.steps, few-entries old.number (changes_of edit), few)
+  pub made-entries : entries_of prepared.steps.items + 2 ≤ entries_needed edit
+  made-entries = omega (arith, ap entries_of is.steps, few-entries old.number (changes_of edit))
+
+  pub made-stamps : entries_of prepared.steps.items < 131072
+  made-stamps =
+      omega (arith, ap entries_of is.steps, few-entries old.number (changes_of edit), few)
 
   -- ---- where the device reports its contents
 

@@ -1,9 +1,8 @@
 -- What was met, or answered, at the places of an edit, one after another.
-use Rattle.std.proofs.Common.{◌≡◌, ◌≢◌, ◌∙◌, ◌⊎◌, ◌+◌, ◌≤◌, ◌<◌, ℕ, List, [], ◌∷◌, Option, Some, None}
-use Rattle.std.proofs.Common.{refl, sym, ap, subst, arith, inl, inr, ⊎_elim, All}
+use Rattle.std.proofs.Common.{◌≡◌, ◌∙◌, ◌⊎◌, ℕ, List, [], Option, Some, None}
+use Rattle.std.proofs.Common.{refl, sym, ap, subst, arith, inl, inr, ⊎_elim}
 use Rattle.std.proofs.Common.{map}
-use Rattle.std.specs.Prelude.{Err, IfSome, Ok, Result, slice_get}
-use Rattle.std.proofs.lemmas.List.Elements.{All-from_recursion, All-head, All-tail}
+use Rattle.std.specs.Prelude.{Err, Ok, Result}
 use Rattle.std.proofs.lemmas.Option.{none-some}
 use Rattle.vr_types.specs.Faults.{Faults, HasCause}
 use Rattle.vr_types.specs.Image.{Image}
@@ -11,42 +10,34 @@ use Rattle.vr_types.specs.Moments.{Guards}
 use Rattle.vr_types.specs.Seen.{Seen}
 use Rattle.vr_types.specs.declared.fault.DeviceFault.{DeviceFault}
 use Rattle.vr_types.specs.declared.fault.DeviceFault.TheVariants.{Read, Write}
-use Rattle.vr_types.specs.declared.memory.OutOfMemory.{OutOfMemory}
 use Rattle.vr_types.specs.declared.unit.Unit.{Unit as UnitOfRecovery}
 use Rattle.vr_types.proofs.CallerLemmas.{guards-then}
-use Rattle.vr_attach.specs.Laid.{catalog_shape}
 use Rattle.vr_catalog.specs.declared.entry.CatEntry.{CatEntry}
 use Rattle.vr_edits.specs.declared.edit.CatalogEdit.{CatalogEdit}
-use Rattle.vr_edits.specs.declared.edit.CatalogEdit.TheVariants.{Add, Alter, Delete, Rename}
-use Rattle.vr_edits.specs.Edits.{entry_place}
 use Rattle.vr_log.specs.LogNow.{LogNow}
 use Rattle.vr_history.specs.State.{State}
 use Rattle.vr_record_file.specs.Now.{FileNow, state_now}
 use Rattle.vr_space.specs.declared.room.Room.{Room}
 use Rattle.vr_space.specs.declared.room.Room.TheVariants.{NoSpace, Ready}
 use Rattle.vr_volume.specs.Crashes.{RecoversTo}
-use Rattle.vr_volume.specs.EntryChanges.{AreApart}
 use Rattle.vr_volume.specs.declared.setting.EntryChange.{EntryChange}
 use Rattle.vr_store.specs.Room.{IsRoomAt}
-use Rattle.vr_store.specs.Store.{StoreNow, part_among, shape_among}
+use Rattle.vr_store.specs.Store.{StoreNow}
 use Rattle.vr_event.specs.CatalogEdit.{AreUnlocked, EditFaultsBy, EnteredEdit, LacksRoomForEdit}
 use Rattle.vr_event.specs.CatalogEdit.{changes_of}
-use Rattle.vr_event.specs.EditSteps.{AreMetAt, HasEditCome, HasEditComeHeld, HasMetOrAnswered}
+use Rattle.vr_event.specs.EditSteps.{HasEditCome, HasMetOrAnswered}
 use Rattle.vr_event.specs.EditSteps.{HasMetOnly, HasMetPlace, HasOpened, HasOpenedHeld, IsEditReady, IsLaterEdit}
 use Rattle.vr_event.specs.EditSteps.{IsOpenAt}
 use Rattle.vr_event.specs.Defining.{HasNoRoomAt, record_length}
 use Rattle.vr_event.specs.EditSteps.{HasOpeningFaults, IsEditStage, IsOpenBy, IsWithoutSpace}
-use Rattle.vr_event.specs.EditSteps.{listed}
+use Rattle.vr_event.specs.EditSteps.{LacksRoomForOne}
 use Rattle.vr_event.specs.PreparedEdit.{store_change, store_order}
-use Rattle.vr_event.specs.Putting.{HasMetAt}
-use Rattle.vr_event.specs.Volume.{IsHeld, IsWhole, VolumeNow}
+use Rattle.vr_event.specs.Volume.{IsWhole, VolumeNow}
 use Rattle.vr_event.specs.declared.prepared_edit.PreparedEdit.{PreparedEdit}
 use Rattle.vr_event.specs.declared.edit.Edit.{Edit}
 use Rattle.vr_event.specs.declared.edit.Edit.TheVariants.{Again, Fault, NoRoom}
-use Rattle.vr_event.proofs.CatalogPart.{catalog-there}
-use Rattle.vr_event.proofs.EditAsked.{both-met, first-added, first-there, open-stays}
+use Rattle.vr_event.proofs.EditAsked.{one-added}
 use Rattle.vr_event.proofs.EditCome.{come-later}
-use Rattle.vr_event.proofs.MetParts.{none-shape}
 
 pub later-full : IsLaterEdit NoRoom
 later-full = record { not_live = λ is. cc; not_held = λ is. cc; not_full = λ is. cc }
@@ -213,31 +204,18 @@ module _ {B : Type 0} (seen : B → Seen) (after : ℕ) (unit : UnitOfRecovery) 
   -- and where the record that is added has no room
   pub lacks-room : (edit : CatalogEdit) (prepared : PreparedEdit) (old : VolumeNow B)
       → IsEditReady seen after unit edit prepared old
-      → IfSome (slice_get (map store_change (store_order edit)) 0) (λ (change : EntryChange).
-      (change.before ≡ None) × HasNoRoomAt old.store (seen old.blocks).cur change.place)
+      → LacksRoomForOne (map store_change (store_order edit)) old.store (seen old.blocks).cur
       → LacksRoomForEdit seen edit old
   lacks-room edit prepared old ready lacks =
-      of (slice_get (map store_change (store_order edit)) 0) refl lacks
-    where
-      none-first : slice_get (map store_change (store_order edit)) 0 ≡ None → ⊥
-      none-first none = first-there old.file.geometry old.file.catalog edit ready.may.edit_is none
-
-      of : (first : Option EntryChange)
-          → slice_get (map store_change (store_order edit)) 0 ≡ first
-          → IfSome first (λ (change : EntryChange). (change.before ≡ None)
-          × HasNoRoomAt old.store (seen old.blocks).cur change.place)
-          → LacksRoomForEdit seen edit old
-      of None at lacks = absurd (none-first at)
-      of (Some first) at lacks =
-          let added = first-added edit first at lacks.0 in
-          record {
-            entry = added.0;
-            is = added.1;
-            no_room = subst (HasNoRoomAt old.store (seen old.blocks).cur) added.2 lacks.1;
-            unlocked = subst (λ (u : UnitOfRecovery). AreUnlocked old.file u (changes_of edit))
-                ready.unit_is ready.unlocked;
-            log = ready.log;
-          }
+      let added = one-added edit lacks.0 lacks.1 lacks.2 in
+      record {
+        entry = added.0;
+        is = added.1;
+        no_room = subst (HasNoRoomAt old.store (seen old.blocks).cur) added.2 lacks.3;
+        unlocked = subst (λ (u : UnitOfRecovery). AreUnlocked old.file u (changes_of edit))
+            ready.unit_is ready.unlocked;
+        log = ready.log;
+      }
 
 -- ---- what is held
 
@@ -257,57 +235,6 @@ module _ {B : Type 0} (seen : B → Seen) (opening : State) where
         (RecoversTo old.store.log.geometry n (state_now opening mid.file) [])) number
         (subst (λ (l : LogNow). Guards (seen mid.blocks) (seen new.blocks)
         (RecoversTo l.geometry mid.number (state_now opening mid.file) [])) log next.moments)));
-  }
-
--- ---- both places
-
--- the catalog is there
-there : {B : Type 0} (seen : B → Seen) (volume : VolumeNow B) → IsWhole seen volume
-    → volume.file.stopped ≡ None → part_among volume.store.parts 0 ≢ None
-there seen volume whole going =
-    catalog-there volume.store.parts volume.file.geometry (whole.laid going 0)
-
-pub met-one : (parts : StoreNow) (place : EntryChange)
-    → HasMetAt parts.parts 0 place.place → AreMetAt parts.parts (place ∷ listed None)
-met-one parts place met = All-from_recursion (λ (change : EntryChange).
-    HasMetAt parts.parts 0 change.place) (place ∷ []) (met, tt)
-
-module _ {B : Type 0} (seen : B → Seen) (old mid new : VolumeNow B) (first second : EntryChange)
-    (apart : AreApart (first ∷ second ∷ [])) (whole : IsWhole seen old) (wholes : IsWhole seen mid)
-    (going : old.file.stopped ≡ None) (one : HasMetPlace seen first.place old mid)
-    (next : HasMetPlace seen second.place mid new) where
-  still : mid.file.stopped ≡ None
-  still = ap (λ (f : FileNow). f.stopped) one.file ∙ going
-
-  differ : second.place ≢ first.place
-  differ = All-head (λ (other : EntryChange). other.place ≢ first.place) second [] apart.0
-
-  pub met-both : AreMetAt new.store.parts (first ∷ second ∷ [])
-  met-both =
-      let both = both-met old.store.parts mid.store.parts new.store.parts first.place second.place
-      differ one.next next.next (there seen old whole going) (there seen mid wholes still) in
-      All-from_recursion (λ (change : EntryChange). HasMetAt new.store.parts 0 change.place)
-      (first ∷ second ∷ []) (both.0, (both.1, tt))
-
-  pub open-both : (image after : Image) → after ≡ image → IsOpenAt mid.store image first
-      → IsOpenAt new.store after second
-      → All (IsOpenAt new.store after) (first ∷ second ∷ [])
-  open-both image after same before now =
-      All-from_recursion (IsOpenAt new.store after) (first ∷ second ∷ []) (
-        open-stays mid.store new.store mid.file.geometry next.only next.rest (wholes.laid still 0)
-            image after same first before,
-        (now, tt),
-      )
-
-  -- both met only places of the catalog
-  pub only-both : HasMetOnly seen old new
-  only-both = record {
-    file = next.file ∙ one.file;
-    only = record {
-      parts = next.only.parts ∙ one.only.parts;
-      others = λ other apart. next.only.others other apart ∙ one.only.others other apart;
-    };
-    rest = next.rest ∙ ap (λ (s : StoreNow). record s { parts = new.store.parts }) one.rest;
   }
 
 pub only-one : {B : Type 0} (seen : B → Seen) (place : List ℕ) (old new : VolumeNow B)

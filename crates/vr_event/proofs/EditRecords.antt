@@ -1,6 +1,6 @@
 -- The records that an edit changes: their places and lengths, what the log takes of them, what stands
 -- there before, and that no two are of one place.
-use Rattle.std.proofs.Common.{◌≡◌, ◌≢◌, ◌∙◌, ◌+◌, ◌*◌, ◌≤◌, ◌==◌, ◌||◌, ℕ, Bool, true, false, cond, IsTrue}
+use Rattle.std.proofs.Common.{◌≡◌, ◌≢◌, ◌∙◌, ◌+◌, ◌*◌, ◌<◌, ◌≤◌, ◌==◌, ◌||◌, ℕ, Bool, true, false, cond, IsTrue}
 use Rattle.std.proofs.Common.{List, [], ◌∷◌, Option, Some, None, refl, sym, ap, subst, arith, length}
 use Rattle.std.proofs.Common.{All, map, nat_eq, true≢false}
 use Rattle.std.specs.Prelude.{IfSome, option_and_then, option_map, sum}
@@ -49,9 +49,9 @@ some-entry geometry entries (Delete []) may = absurd (may.some refl)
 some-entry geometry entries (Delete (entry ∷ gone)) may = entry
 some-entry geometry entries (Add new) may = new
 
--- at most two records are changed
+-- at most 65,535 records are changed
 pub few-changes : (geometry : Geometry) (entries : List CatEntry) (edit : CatalogEdit)
-    → MayEdit geometry entries edit → length (changes_of edit) ≤ 2
+    → MayEdit geometry entries edit → length (changes_of edit) < 65536
 few-changes geometry entries (Alter entry new) may = omega arith
 few-changes geometry entries (Rename entry new) may = omega arith
 few-changes geometry entries (Delete gone) may = omega (arith, may.few, as-many gone)

@@ -86,5 +86,6 @@ pub mod EditMade
 pub mod EditStage
 pub mod EditAsked
 pub mod EditOpened
+pub mod EditPlaces
 pub mod EditHindered
 pub mod EditFiles

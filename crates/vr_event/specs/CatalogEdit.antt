@@ -2,8 +2,8 @@
 -- DEFINE ALTERNATEINDEX and DEFINE PATH): the records that it changes, what it enters in the record
 -- file, by what it comes to, and what an image of a moment of it recovers to. That it is one event,
 -- of a unit of recovery of its own, while no other is live, is this project's own rule.
-use Rattle.std.specs.Prelude.{◌≡◌, ◌≢◌, ◌⊎◌, ◌+◌, ◌<◌, ◌≤◌, ℕ, Contains, List, [], ◌∷◌}
-use Rattle.std.specs.Prelude.{IfOk, Option, Some, None, Result, Ok, Err, map, true}
+use Rattle.std.specs.Prelude.{◌≡◌, ◌≢◌, ◌⊎◌, ◌+◌, ◌*◌, ◌<◌, ◌≤◌, ℕ, Contains, List, [], ◌∷◌}
+use Rattle.std.specs.Prelude.{IfOk, Option, Some, None, Result, Ok, Err, length, map, true}
 use Rattle.std.specs.List.{AllByRecursion}
 use Rattle.std.specs.Option.{option_map}
 use Rattle.vr_types.specs.Faults.{Faults}
@@ -68,6 +68,11 @@ entry_added (Alter entry new) = None
 entry_added (Rename entry new) = Some new
 entry_added (Delete gone) = None
 entry_added (Add new) = Some new
+
+-- The most entries that one event of it adds: a GET and what changes it for each record, the COMMIT,
+-- and the fault of a write.
+abbrev pub entries_needed : CatalogEdit → ℕ
+entries_needed edit = 2 * length (changes_of edit) + 2
 
 -- the bytes of the log that it takes: the before-image of each record, and the end of its unit
 abbrev pub log_for_edit : CatalogEdit → ℕ

@@ -1,13 +1,18 @@
 -- What is counted of a cluster, for LISTCAT ALL of Access Method Services Commands: its records,
 -- its areas, and its splits in this run. What counts as a split is this project's own.
-use Rattle.std.specs.Prelude.{◌≡◌, ◌⊎◌, ◌+◌, ◌-◌, ◌^◌, ◌<◌, ◌≤◌, ◌==◌, ℕ, Bool, false, cond}
+use Rattle.std.specs.Prelude.{◌≡◌, ◌⊎◌, ◌+◌, ◌-◌, ◌^◌, ◌<◌, ◌≤◌, ◌==◌, ◌&&◌, ℕ, Bool, false, cond}
 use Rattle.std.specs.Prelude.{List, [], ◌∷◌, Option, Some, None, Result, Ok, Err, filter, length, min}
-use Rattle.std.specs.Option.{option_map_or}
+use Rattle.std.specs.Prelude.{nat_le}
 use Rattle.vr_types.specs.Content.{Content, Placed}
 use Rattle.vr_types.specs.Faults.{Faults}
+use Rattle.vr_types.specs.Fields.{four_at}
 use Rattle.vr_types.specs.declared.fault.DeviceFault.TheVariants.{Read, Write}
 use Rattle.vr_types.specs.declared.memory.OutOfMemory.{OutOfMemory}
-use Rattle.vr_types.specs.declared.unit.AreaNo.{AreaNo}
+use Rattle.vr_types.specs.declared.reply.Reply.{Reply}
+use Rattle.vr_types.specs.declared.reply.Reply.TheVariants.{Done, Refused}
+use Rattle.vr_types.specs.declared.request.Request.{Request}
+use Rattle.vr_types.specs.declared.request.Request.TheVariants.{Add, Backout, Commit, EndReq, Erase}
+use Rattle.vr_types.specs.declared.request.Request.TheVariants.{Get, Point, Update}
 use Rattle.vr_types.specs.declared.unit.Kind.{Kind}
 use Rattle.vr_types.specs.declared.unit.Kind.TheVariants.{Keyed, Entry as EntrySequenced, Relative}
 use Rattle.vr_types.specs.declared.unit.Unit.{Unit as UnitOfRecovery}
@@ -51,31 +56,43 @@ IsWalked count last content = count + records_after last content ≡ records_in 
 abbrev pub no_splits : Splits
 no_splits = record { intervals = 0; areas = 0 }
 
--- the area is the first of the part
-abbrev pub is_first : Option AreaNo → AreaNo → Bool
-is_first first area = option_map_or (λ (one : AreaNo). one.0 == area.0) first false
+-- The record of an entry of the catalog, which has its part in the four bytes at 48, is of this part.
+abbrev pub has_part : ℕ → List ℕ → Bool
+has_part part bytes = nat_le 52 (length bytes) && four_at 48 bytes == part
 
--- The part took an area: as it was defined its first one, from where on its splits are counted, and
--- later one for each split of an area.
-abbrev pub taking : Option AreaNo → AreaNo → Splits → Splits
-taking first area splits =
-    cond (is_first first area) no_splits (record splits { areas = splits.areas + 1 })
+-- a request that adds such a record to the catalog, which is part 0
+abbrev pub adds_part : ℕ → Request → Bool
+adds_part part (Get file find update integrity) = false
+adds_part part (Point file find) = false
+adds_part part (Add file place bytes) = file.base.0 == 0 && has_part part bytes
+adds_part part (Update file bytes) = false
+adds_part part (Erase file) = false
+adds_part part (EndReq file) = false
+adds_part part Commit = false
+adds_part part Backout = false
+
+-- Splits are counted from the definition that stands: from where the record of the entry was added
+-- to the catalog, as it is by DEFINE and under another name by ALTER.
+abbrev pub answered : ℕ → Request → Reply → Splits → Splits
+answered part request (Done feedback place bytes) splits =
+    cond (adds_part part request) no_splits splits
+answered part request (Refused refusal) splits = splits
 
 -- after an entry
-abbrev pub splits_after : ℕ → Option AreaNo → What → Splits → Splits
-splits_after part first (Asked request reply) splits = splits
-splits_after part first (Undone of place) splits = splits
-splits_after part first (Claimed of area) splits =
-    cond (of.0 == part) (taking first area splits) splits
-splits_after part first (Split of) splits =
+abbrev pub splits_after : ℕ → What → Splits → Splits
+splits_after part (Asked request reply) splits = answered part request reply splits
+splits_after part (Undone of place) splits = splits
+splits_after part (Claimed of area) splits =
+    cond (of.0 == part) (record splits { areas = splits.areas + 1 }) splits
+splits_after part (Split of) splits =
     cond (of.0 == part) (record splits { intervals = splits.intervals + 1 }) splits
-splits_after part first (Faulted fault) splits = splits
+splits_after part (Faulted fault) splits = splits
 
 -- and after entries, first to last
-abbrev pub splits_by : ℕ → Option AreaNo → Splits → List Entry → Splits
-splits_by part first splits [] = splits
-splits_by part first splits (entry ∷ entries) =
-    splits_by part first (splits_after part first entry.what splits) entries
+abbrev pub splits_by : ℕ → Splits → List Entry → Splits
+splits_by part splits [] = splits
+splits_by part splits (entry ∷ entries) =
+    splits_by part (splits_after part entry.what splits) entries
 
 -- Of a keyed cluster each area that it takes is a split; an entry-sequenced or relative one goes on
 -- at its end.
@@ -90,7 +107,7 @@ area_splits None taken = 0
 -- what is counted of a cluster with this many records and areas, by this history
 abbrev pub counts_with : ℕ → ℕ → List Entry → CatEntry → Counts
 counts_with records areas entries entry =
-    let splits = splits_by entry.part.0 entry.first_area no_splits entries in
+    let splits = splits_by entry.part.0 no_splits entries in
     record {
       records = records;
       areas = areas;

@@ -1,7 +1,7 @@
 -- What holds of a volume before a step of an edit of the catalog, and what the step leaves of it: the
 -- words that its steps share. The rules are this project's own.
 use Rattle.std.specs.Prelude.{◌≡◌, ◌≢◌, ◌⊎◌, ◌+◌, ◌-◌, ◌^◌, ◌<◌, ◌≤◌, ℕ, true, IfOk, IfSome, [], None}
-use Rattle.std.specs.Prelude.{◌∷◌, All, List, Option, Result, Some}
+use Rattle.std.specs.Prelude.{All, Contains, List, Option, Result, Some, length}
 use Rattle.vr_types.specs.Faults.{Faults}
 use Rattle.vr_types.specs.Image.{Image}
 use Rattle.vr_types.specs.LogSpace.{IsLogFull, log_size}
@@ -23,10 +23,11 @@ use Rattle.vr_volume.specs.Crashes.{RecoversTo}
 use Rattle.vr_volume.specs.declared.setting.EntryChange.{EntryChange}
 use Rattle.vr_store.specs.Parts.{MeetsNext, OnlyMet}
 use Rattle.vr_store.specs.Room.{IsRoomAt}
-use Rattle.vr_store.specs.Store.{PartNow, StoreNow}
+use Rattle.vr_store.specs.Store.{PartNow, StoreNow, part_among}
 use Rattle.vr_event.specs.CatalogEdit.{AreUnlocked, EditFaultsBy, EnteredEdit, IsEditEntered}
-use Rattle.vr_event.specs.CatalogEdit.{IsKeptOut, IsLeftEditing, changes_of, log_for_edit}
-use Rattle.vr_event.specs.Defining.{record_length, utility_unit}
+use Rattle.vr_event.specs.CatalogEdit.{IsKeptOut, IsLeftEditing, changes_of, entries_needed}
+use Rattle.vr_event.specs.CatalogEdit.{log_for_edit}
+use Rattle.vr_event.specs.Defining.{HasNoRoomAt, record_length, utility_unit}
 use Rattle.vr_event.specs.PreparedEdit.{IsPreparedEdit}
 use Rattle.vr_event.specs.Putting.{HasMetAt}
 use Rattle.vr_event.specs.Volume.{IsHeld, IsWhole, VolumeNow}
@@ -43,9 +44,9 @@ pub record MayEditNow {B : Type 0} (seen : B → Seen) (after : ℕ) (edit : Cat
     (volume : VolumeNow B) : Type 0 where
   pub whole : IsWhole seen volume
   pub going : volume.file.stopped ≡ None
-  pub room : 6 ≤ volume.file.room
-  pub last : last_stamp 0 volume.file.entries < 2 ^ 64 - 8
-  pub after_is : after < 2 ^ 64 - 8
+  pub room : entries_needed edit ≤ volume.file.room
+  pub last : last_stamp 0 volume.file.entries < 2 ^ 63
+  pub after_is : after < 2 ^ 63
   pub deck : has_deck 0 volume.file.numbers ≡ true
   pub number : number_of volume.file.numbers 0 < 2 ^ 32 - 1
   pub generation : volume.store.log.generation + 1 < 2 ^ 63
@@ -115,11 +116,6 @@ pub record MayOpen {B : Type 0} (seen : B → Seen) (after : ℕ) (volume : Volu
   pub last : last_stamp 0 volume.file.entries < 2 ^ 64 - 2
   pub after_is : after < 2 ^ 64 - 2
 
--- a change, or none, as a list
-abbrev pub listed : Option EntryChange → List EntryChange
-listed None = []
-listed (Some change) = change ∷ []
-
 -- what an edit comes to where the catalog has no space beside what stands at a place
 abbrev pub IsWithoutSpace : Option (List ℕ) → Option Edit → Type 0
 IsWithoutSpace None answer = answer ≡ Some NoRoom
@@ -139,6 +135,16 @@ IsOpenAt store image change = (room : Room)
 -- the places were met
 abbrev pub AreMetAt : List PartNow → List EntryChange → Type 0
 AreMetAt parts changes = All (λ (change : EntryChange). HasMetAt parts 0 change.place) changes
+
+-- The catalog met at most this many places, and keeps what it meets of this many at least.
+abbrev pub HasRoomAfter : ℕ → ℕ → List PartNow → Type 0
+HasRoomAfter met count parts = IfSome (part_among parts 0) (λ (part : PartNow).
+    (length part.known.met ≤ met) × (count ≤ part.known.most))
+
+-- one of these changes adds a record for which the catalog has no room
+abbrev pub LacksRoomForOne : List EntryChange → StoreNow → Image → Type 0
+LacksRoomForOne changes store image = (change : EntryChange) × Contains changes change
+    × (change.before ≡ None) × HasNoRoomAt store image change.place
 
 -- Nothing is new but what the catalog met.
 pub record HasMetOnly {B : Type 0} (seen : B → Seen) (old new : VolumeNow B) : Type 0 where

@@ -82,7 +82,7 @@ impl<B: Blocks, P: Part> Volume<B, P> {
             (option_map_or (λ (part : PartNow). length part.known.areas)
             (part_among self.now.store.parts entry.now.part.0) 0) self.now.file.entries entry.now }
     {
-        let splits = splits_of(entry.part, entry.first_area, self.file.entries());
+        let splits = splits_of(entry.part, self.file.entries());
         Counts {
             records,
             areas: self.store.areas_of(entry.part) as u64,

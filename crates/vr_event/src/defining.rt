@@ -50,7 +50,7 @@ use vr_store::DefineNo;
 use vr_types::{AreaNo, Blocks, DeviceFault, Mode, OutOfMemory, PartNo, Place, Unit};
 
 /// The catalog.
-const CATALOG: PartNo = PartNo(0);
+pub(crate) const CATALOG: PartNo = PartNo(0);
 
 impl<B: Blocks, P: Part> Volume<B, P> {
     /// What in memory is in the way of a definition: a lock of a unit of a deck on the place of its

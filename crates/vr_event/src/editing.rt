@@ -1,9 +1,8 @@
 //! An edit of the catalog, by ALTER, DELETE or a DEFINE of what has no area, as one event of a volume.
-ghost use Rattle.std.specs.Prelude.{◌≡◌, ◌≢◌, ◌⊎◌, ◌<◌, ◌≤◌, ◌+◌, ◌-◌, ◌^◌, ℕ, IfOk, IfSome};
-ghost use Rattle.std.specs.Prelude.{All, IsTrue, List, None, Ok, Option, Some, [], false, length, map};
-ghost use Rattle.std.specs.Prelude.{◌∷◌, is_some, slice_get, true};
+ghost use Rattle.std.specs.Prelude.{◌≡◌, ◌≢◌, ◌⊎◌, ◌<◌, ◌≤◌, ◌+◌, ◌-◌, ◌^◌, ℕ, All, IfOk, IfSome};
+ghost use Rattle.std.specs.Prelude.{IsTrue, List, None, Ok, Option, Some, [], false, is_some, length};
+ghost use Rattle.std.specs.Prelude.{map, true};
 ghost use Rattle.std.specs.List.{list_any};
-ghost use Rattle.std.specs.Option.{option_copied};
 ghost use Rattle.vr_types.specs.LogSpace.{IsLogFull, log_size};
 ghost use Rattle.vr_types.specs.Locks.{first_conflict};
 ghost use Rattle.vr_types.specs.Moments.{Guards};
@@ -16,59 +15,56 @@ ghost use Rattle.vr_history.specs.Merged.{last_stamp};
 ghost use Rattle.vr_history.specs.State.{State};
 ghost use Rattle.vr_record_file.specs.CatalogEdit.{MayEditCatalog, RecordChange, catalog_edited, name_of};
 ghost use Rattle.vr_record_file.specs.CatalogEdit.{entries_of, failed_to_edit};
-ghost use Rattle.vr_record_file.specs.Now.{IsStateOf, has_deck, number_of, state_now};
-ghost use Rattle.vr_volume.specs.Crashes.{RecoversTo};
-ghost use Rattle.vr_volume.specs.EntryChanges.{AreApart};
+ghost use Rattle.vr_record_file.specs.Now.{IsStateOf, has_deck, number_of};
 ghost use Rattle.vr_store.specs.Left.{left_for};
-ghost use Rattle.vr_store.specs.Room.{IsDueAt};
+ghost use Rattle.vr_store.specs.Parts.{HasRoomToMeet};
 ghost use Rattle.vr_store.specs.Store.{shape_among};
-ghost use Rattle.vr_event.specs.CatalogEdit.{AreUnlocked, changes_of};
-ghost use Rattle.vr_event.specs.CatalogEdit.{EditFaultsBy, EnteredEdit, HasEditFaults};
-ghost use Rattle.vr_event.specs.CatalogEdit.{IsEditEntered, IsKeptOut, IsLeftEditing};
+ghost use Rattle.vr_event.specs.CatalogEdit.{AreUnlocked, HasEditFaults, changes_of};
+ghost use Rattle.vr_event.specs.CatalogEdit.{IsEditEntered, IsKeptOut, IsLeftEditing, entries_needed};
 ghost use Rattle.vr_event.specs.CatalogEdit.{LacksRoomWhereEdited, log_for_edit};
-ghost use Rattle.vr_event.specs.DefineSteps.{IsStageOrFault};
-ghost use Rattle.vr_event.specs.Defining.{HasNoRoomAt, record_length, utility_unit};
-ghost use Rattle.vr_event.specs.EditSteps.{HasEditCome, HasEditComeHeld, HasOpened};
-ghost use Rattle.vr_event.specs.EditSteps.{HasOpenedHeld, IsEditReady, IsEditStage, IsOpenAt};
-ghost use Rattle.vr_event.specs.EditSteps.{AreMetAt, HasMetOnly, HasMetPlace, HasOpeningFaults, IsWithoutSpace};
-ghost use Rattle.vr_event.specs.EditSteps.{MayEditNow, MayOpen, edit_of, listed};
-ghost use Rattle.vr_catalog.specs.declared.entry.CatEntry as entries;
-ghost use Rattle.vr_edits.specs.declared.edit.CatalogEdit as edits;
+ghost use Rattle.vr_event.specs.Defining.{utility_unit};
+ghost use Rattle.vr_event.specs.EditSteps.{AreMetAt, HasEditCome, HasEditComeHeld, IsEditReady};
+ghost use Rattle.vr_event.specs.EditSteps.{IsOpenAt, MayEditNow};
 ghost use Rattle.vr_event.specs.Nearer.{EntersSplits, LeavesLess};
 ghost use Rattle.vr_event.specs.PreparedEdit.{IsPreparedEdit};
 ghost use Rattle.vr_event.specs.Volume.{Holds, IsHeld, IsWhole};
 ghost use Rattle.vr_event.specs.declared.edit.Edit.TheVariants as answers;
 
-use crate::define::Define;
 use crate::edit::Edit;
 use crate::prepared_edit::{PreparedEdit, prepare_edit};
 use crate::volume::Volume;
 use std::alloc::Global;
 use vr_edits::CatalogEdit;
 use vr_record_file::RecordFile;
-use vr_space::{Part, Room};
+use vr_space::Part;
 use vr_start::Start;
 use vr_store::DefineNo;
-use vr_types::{Blocks, DeviceFault, Geometry, LockName, Mode, OutOfMemory, Place, Unit};
-use vr_volume::EntryChange;
+use vr_types::{Blocks, DeviceFault, Geometry, LockName, Mode, OutOfMemory, Unit};
 
-/// What a stage of the catalog comes to for an edit.
-fn as_edit(staged: Define) -> Edit
-    requires { IsStageOrFault staged }
-    ensures value { result ≡ edit_of staged }
-    ensures is { IsEditStage result }
+/// How many records of the catalog an edit changes.
+fn change_count(edit: &CatalogEdit) -> usize
+    ensures { result ≡ length (changes_of edit.now) }
 {
-    match staged {
-        Define::Again => Edit::Again,
-        Define::Fault(fault) => Edit::Fault(fault),
-        _ => unreachable!("it is a stage or a fault"),
+    match edit {
+        CatalogEdit::Alter { .. } | CatalogEdit::Add(_) => 1,
+        CatalogEdit::Rename { .. } => 2,
+        CatalogEdit::Delete(gone) => gone.len(),
     }
+}
+
+/// The most entries that one event of an edit adds to the history: two for each record that it
+/// changes, one for the end of its unit, and one for the fault of a write.
+pub fn entries_to_edit(edit: &CatalogEdit) -> usize
+    requires few { length (changes_of edit.now) < 65536 }
+    ensures { result ≡ entries_needed edit.now }
+{
+    2 * change_count(edit) + 2
 }
 
 /// The bytes of the log that an edit takes: the before-image of each record, which are 204 bytes at a
 /// place of 44, and the end of its unit.
 fn log_need(edit: &CatalogEdit) -> u64
-    requires few { length (changes_of edit.now) ≤ 2 }
+    requires few { length (changes_of edit.now) < 65536 }
     ensures { result ≡ log_for_edit edit.now }
 {
     match edit {
@@ -98,31 +94,13 @@ fn is_one_locked(file: &RecordFile, unit: Unit, names: &[LockName]) -> bool
         .any(|name| file.is_in_the_way(unit, name, Mode::Exclusive))
 }
 
-/// What an edit comes to where the catalog has no space for a record that is as long as all are: one
-/// that stands at the place has room there, and one that is added has none.
-fn without_space(change: &EntryChange) -> Option<Edit>
-    ensures { IsWithoutSpace change.now.before result }
-{
-    match change.before {
-        Some(_) => None,
-        None => Some(Edit::NoRoom),
-    }
-}
-
-/// The change that is here in a list, where there is one.
-fn change_at(changes: &[EntryChange], at: usize) -> Option<&EntryChange>
-    ensures { option_copied result ≡ slice_get changes.now at }
-{
-    changes.get(at)
-}
-
 impl<B: Blocks, P: Part> Volume<B, P> {
     /// What in memory is in the way of an edit: a lock of a unit of a deck on the place of one of its
     /// records, or the log.
     fn edit_hindrance(&self, unit: Unit, edit: &CatalogEdit, names: &[LockName]) -> Option<Edit>
         requires whole { IsWhole B.seen self.now }
         requires going { self.now.file.stopped ≡ None }
-        requires few { length (changes_of edit.now) ≤ 2 }
+        requires few { length (changes_of edit.now) < 65536 }
         requires names { names.now ≡ map name_of (changes_of edit.now) }
         ensures is { IfSome result (λ answer. (answer ≡ answers.Held) ⊎ (answer ≡ answers.Full)) }
         ensures kept_out { IfSome result (λ answer. answer ≡ answers.Held
@@ -142,178 +120,6 @@ impl<B: Blocks, P: Part> Volume<B, P> {
             None
         } else {
             Some(Edit::Full)
-        }
-    }
-
-    /// Does the stage of the catalog that comes before an edit, and enters it. A fault of a write
-    /// stops the volume.
-    fn stage_edit(&mut self, unit: Unit, line: u32, place: &Place, after: u64) -> Edit
-        requires whole { IsWhole B.seen self.old }
-        requires going { self.old.file.stopped ≡ None }
-        requires room { 0 < self.old.file.room }
-        requires last { last_stamp 0 self.old.file.entries < 2 ^ 64 - 2 }
-        requires after { after < 2 ^ 64 - 2 }
-        requires place { length place.now ≡ 44 }
-        requires due { IsTrue B.tells → IsDueAt self.old.store (B.seen self.old.blocks).cur 0
-            place.now record_length }
-        requires holds { IsTrue B.tells → Holds B.seen self.old }
-        ensures held { IsTrue B.tells → (opening : State) → IsHeld B.seen opening self.old
-            → IsHeld B.seen opening self.new }
-        ensures whole { IsWhole B.seen self.new }
-        ensures entered { (entry : entries.CatEntry) (edit : edits.CatalogEdit)
-            → EnteredEdit result self.old.number after unit line edit self.old.file self.new.file }
-        ensures moments { IsTrue B.tells → (opening : State) → IsHeld B.seen opening self.old
-            → Guards (B.seen self.old.blocks) (B.seen self.new.blocks)
-            (RecoversTo self.old.store.log.geometry self.old.number
-            (state_now opening self.old.file) []) }
-        ensures is { IsEditStage result }
-        ensures less { IsTrue B.tells → LeavesLess (result ≡ answers.Again) self.old self.new }
-        ensures cause { EditFaultsBy result (B.faults self.old.blocks)
-            (B.faults self.new.blocks) }
-        ensures number { self.new.number ≡ self.old.number }
-        ensures generation { self.new.store.log.generation ≡ self.old.store.log.generation }
-    {
-        let staged = self.stage_entry(unit, line, place, after);
-        as_edit(staged)
-    }
-
-    /// Enters that the device failed as the catalog was asked for room. A fault of a write stops the
-    /// volume.
-    fn enter_unasked(&mut self, unit: Unit, line: u32, fault: DeviceFault, after: u64) -> Edit
-        requires room { 0 < self.old.file.room }
-        requires last { last_stamp 0 self.old.file.entries < 2 ^ 64 - 2 }
-        requires after { after < 2 ^ 64 - 2 }
-        requires going { self.old.file.stopped ≡ None }
-        requires whole { IsWhole B.seen self.old }
-        ensures is { result ≡ answers.Fault fault }
-        ensures whole { IsWhole B.seen self.new }
-        ensures entered { (entry : entries.CatEntry) (edit : edits.CatalogEdit)
-            → EnteredEdit result self.old.number after unit line edit self.old.file self.new.file }
-        ensures held { IsTrue B.tells → (opening : State) → IsHeld B.seen opening self.old
-            → IsHeld B.seen opening self.new }
-        ensures blocks { self.new.blocks ≡ self.old.blocks }
-        ensures store { self.new.store ≡ self.old.store }
-        ensures number { self.new.number ≡ self.old.number }
-        ensures stopped { (self.new.file ≡ self.old.file) ⊎ (self.new.file.stopped ≢ None) }
-    {
-        match fault {
-            DeviceFault::Read => Edit::Fault(DeviceFault::Read),
-            DeviceFault::Write => {
-                self.enter_fault(unit, line, after);
-                Edit::Fault(DeviceFault::Write)
-            }
-        }
-    }
-
-    /// Asks for room at the place of a change, and answers the edit where something is in the way: a
-    /// stage of a split comes first, and is done, or a record that is added has no room, or the
-    /// device fails. A record that stands has room for one of its length.
-    fn open_place(
-        &mut self,
-        unit: Unit,
-        line: u32,
-        change: &EntryChange,
-        after: u64,
-    ) -> Option<Edit>
-        requires may { MayOpen B.seen after self.old }
-        requires place { length change.now.place ≡ 44 }
-        requires holds { IsTrue B.tells → Holds B.seen self.old }
-        ensures opened { HasOpened B.seen after unit line result self.old self.new }
-        ensures met { result ≡ None → HasMetPlace B.seen change.now.place self.old self.new }
-        ensures still { IsTrue B.tells → result ≡ None
-            → (B.seen self.new.blocks).cur ≡ (B.seen self.old.blocks).cur }
-        ensures open { IsTrue B.tells → result ≡ None
-            → IsOpenAt self.new.store (B.seen self.new.blocks).cur change.now }
-        ensures no_room { IsTrue B.tells → result ≡ Some answers.NoRoom
-            → (change.now.before ≡ None) × HasNoRoomAt self.old.store
-            (B.seen self.old.blocks).cur change.now.place }
-        ensures cause { HasOpeningFaults result (B.faults self.old.blocks)
-            (B.faults self.new.blocks) }
-        ensures less { IsTrue B.tells → LeavesLess (result ≡ Some answers.Again) self.old self.new }
-        ensures held { IsTrue B.tells → (opening : State) → IsHeld B.seen opening self.old
-            → HasOpenedHeld B.seen opening self.old self.new }
-    {
-        match self.ask_entry(&change.place) {
-            Ok(room) => match room {
-                Room::Ready => None,
-                Room::Stage(_) => Some(self.stage_edit(unit, line, &change.place, after)),
-                Room::NoSpace { .. } => without_space(change),
-            },
-            Err(fault) => Some(self.enter_unasked(unit, line, fault, after)),
-        }
-    }
-
-    /// Asks for room at the place of a change, and then at that of a second, where there is one.
-    fn open_places(
-        &mut self,
-        unit: Unit,
-        line: u32,
-        first: &EntryChange,
-        second: Option<&EntryChange>,
-        after: u64,
-    ) -> Option<Edit>
-        requires may { MayOpen B.seen after self.old }
-        requires places { All (λ change. length change.place ≡ 44)
-            (first.now ∷ listed (option_copied second)) }
-        requires apart { AreApart (first.now ∷ listed (option_copied second)) }
-        requires stands { IfSome (option_copied second) (λ change. change.before ≢ None) }
-        requires holds { IsTrue B.tells → Holds B.seen self.old }
-        ensures opened { HasOpened B.seen after unit line result self.old self.new }
-        ensures met { result ≡ None → HasMetOnly B.seen self.old self.new
-            × AreMetAt self.new.store.parts (first.now ∷ listed (option_copied second.entry)) }
-        ensures open { IsTrue B.tells → result ≡ None
-            → All (IsOpenAt self.new.store (B.seen self.new.blocks).cur)
-            (first.now ∷ listed (option_copied second.entry)) }
-        ensures no_room { IsTrue B.tells → result ≡ Some answers.NoRoom
-            → (first.now.before ≡ None) × HasNoRoomAt self.old.store
-            (B.seen self.old.blocks).cur first.now.place }
-        ensures cause { HasOpeningFaults result (B.faults self.old.blocks)
-            (B.faults self.new.blocks) }
-        ensures less { IsTrue B.tells → LeavesLess (result ≡ Some answers.Again) self.old self.new }
-        ensures held { IsTrue B.tells → (opening : State) → IsHeld B.seen opening self.old
-            → HasOpenedHeld B.seen opening self.old self.new }
-    {
-        match self.open_place(unit, line, first, after) {
-            Some(answer) => Some(answer),
-            None => match second {
-                Some(second) => self.open_place(unit, line, second, after),
-                None => None,
-            },
-        }
-    }
-
-    /// Asks for room at the places of the changes of an edit, of which there are one or two.
-    fn open_changes(
-        &mut self,
-        unit: Unit,
-        line: u32,
-        changes: &[EntryChange],
-        after: u64,
-    ) -> Option<Edit>
-        requires may { MayOpen B.seen after self.old }
-        requires places { All (λ change. length change.place ≡ 44) changes.now }
-        requires apart { AreApart changes.now }
-        requires some { changes.now ≢ [] }
-        requires few { length changes.now ≤ 2 }
-        requires stands { IfSome (slice_get changes.now 1) (λ change. change.before ≢ None) }
-        requires holds { IsTrue B.tells → Holds B.seen self.old }
-        ensures opened { HasOpened B.seen after unit line result self.old self.new }
-        ensures met { result ≡ None → HasMetOnly B.seen self.old self.new
-            × AreMetAt self.new.store.parts changes.now }
-        ensures open { IsTrue B.tells → result ≡ None
-            → All (IsOpenAt self.new.store (B.seen self.new.blocks).cur) changes.now }
-        ensures no_room { IsTrue B.tells → result ≡ Some answers.NoRoom
-            → IfSome (slice_get changes.now 0) (λ change. (change.before ≡ None)
-            × HasNoRoomAt self.old.store (B.seen self.old.blocks).cur change.place) }
-        ensures cause { HasOpeningFaults result (B.faults self.old.blocks)
-            (B.faults self.new.blocks) }
-        ensures less { IsTrue B.tells → LeavesLess (result ≡ Some answers.Again) self.old self.new }
-        ensures held { IsTrue B.tells → (opening : State) → IsHeld B.seen opening self.old
-            → HasOpenedHeld B.seen opening self.old self.new }
-    {
-        match change_at(changes, 0) {
-            Some(first) => self.open_places(unit, line, first, change_at(changes, 1), after),
-            None => unreachable!("an edit changes a record"),
         }
     }
 
@@ -430,7 +236,39 @@ impl<B: Blocks, P: Start + Drop> Volume<B, P> {
         }
     }
 
-    /// Meets the places of an edit that nothing in memory hinders, and goes on by what is there.
+    /// Meets the places of an edit, of which the catalog keeps what it meets, and goes on by what is
+    /// there.
+    fn edit_met(
+        &mut self,
+        alloc: Global,
+        unit: Unit,
+        line: u32,
+        edit: &CatalogEdit,
+        prepared: PreparedEdit,
+        after: u64,
+    ) -> Result<Edit, OutOfMemory>
+        requires ready { IsEditReady B.seen after unit edit.now prepared self.old }
+        requires room { HasRoomToMeet 0 (length prepared.changes.items) self.old.store.parts }
+        requires holds { IsTrue B.tells → Holds B.seen self.old }
+        ensures come { HasEditCome B.seen after unit line edit.now result self.old self.new }
+        ensures no_room { IsTrue B.tells → LacksRoomWhereEdited B.seen edit.now result self.old }
+        ensures cause { HasEditFaults (B.faults self.old.blocks) (B.faults self.new.blocks)
+            result }
+        ensures less { IsTrue B.tells → LeavesLess (result ≡ Ok answers.Again) self.old self.new }
+        ensures held { IsTrue B.tells → (opening : State) → IsHeld B.seen opening self.old
+            → HasEditComeHeld B.seen opening after unit line edit.now self.old self.new }
+    {
+        match self.open_changes(unit, line, prepared.changes.as_slice(), after) {
+            Some(answer) => {
+                drop(prepared);
+                Ok(answer)
+            }
+            None => self.make_edit(alloc, unit, line, edit, prepared, after),
+        }
+    }
+
+    /// Goes on with an edit that nothing in memory hinders, once the catalog has room for what it
+    /// meets.
     fn edit_asked(
         &mut self,
         alloc: Global,
@@ -450,12 +288,12 @@ impl<B: Blocks, P: Start + Drop> Volume<B, P> {
         ensures held { IsTrue B.tells → (opening : State) → IsHeld B.seen opening self.old
             → HasEditComeHeld B.seen opening after unit line edit.now self.old self.new }
     {
-        match self.open_changes(unit, line, prepared.changes.as_slice(), after) {
-            Some(answer) => {
+        match self.keep_places(alloc, prepared.changes.len()) {
+            Ok(()) => self.edit_met(alloc, unit, line, edit, prepared, after),
+            Err(no) => {
                 drop(prepared);
-                Ok(answer)
+                Err(no)
             }
-            None => self.make_edit(alloc, unit, line, edit, prepared, after),
         }
     }
 
@@ -534,7 +372,8 @@ impl<B: Blocks, P: Start + Drop> Volume<B, P> {
     /// small. Where a stage of a split of the catalog comes first, that is done (`Again`).
     /// `NoRoom`: the catalog has no room for the record that is added. A fault of a read, and all of
     /// these and `OutOfMemory`, leave the volume as it was; a fault of a write stops it. All memory
-    /// is taken before anything is logged. There is room for six entries, and deck 0 was entered.
+    /// is taken before anything is logged. There is room for the entries that it may
+    /// add, and deck 0 was entered.
     pub fn edit_catalog(
         &mut self,
         alloc: Global,
@@ -544,9 +383,9 @@ impl<B: Blocks, P: Start + Drop> Volume<B, P> {
     ) -> Result<Edit, OutOfMemory>
         requires whole { IsWhole B.seen self.old }
         requires going { self.old.file.stopped ≡ None }
-        requires room { 6 ≤ self.old.file.room }
-        requires last { last_stamp 0 self.old.file.entries < 2 ^ 64 - 8 }
-        requires after { after < 2 ^ 64 - 8 }
+        requires room { entries_needed edit.now ≤ self.old.file.room }
+        requires last { last_stamp 0 self.old.file.entries < 2 ^ 63 }
+        requires after { after < 2 ^ 63 }
         requires deck { has_deck 0 self.old.file.numbers ≡ true }
         requires number { number_of self.old.file.numbers 0 < 2 ^ 32 - 1 }
         requires generation { self.old.store.log.generation + 1 < 2 ^ 63 }

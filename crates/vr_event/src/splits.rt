@@ -4,7 +4,7 @@ ghost use Rattle.vr_event.specs.Counts as counting;
 ghost use Rattle.vr_event.specs.declared.splits.Splits as splitting;
 
 use vr_history::{Entry, What};
-use vr_types::{AreaNo, Kind, PartNo};
+use vr_types::{Kind, PartNo, Reply, Request, four_at};
 
 /// How often a control interval and a control area of a part were split.
 #[derive(Clone, Copy)]
@@ -13,43 +13,56 @@ pub struct Splits {
     pub areas: u64,
 }
 
-/// Whether an area is the first of its part.
-fn is_first(first: Option<AreaNo>, area: AreaNo) -> bool
-    ensures { result ≡ counting.is_first first area }
+/// Where the record of an entry has the number of its part, and where that ends.
+const PART_AT: usize = 48;
+
+const PART_END: usize = 52;
+
+const NO_SPLITS: Splits = Splits {
+    intervals: 0,
+    areas: 0,
+};
+
+/// Whether the record of an entry of the catalog is of this part.
+fn has_part(part: PartNo, bytes: &[u8]) -> bool
+    ensures { result ≡ counting.has_part part.0 bytes.now }
 {
-    match first {
-        Some(one) => one.0 == area.0,
-        None => false,
+    PART_END <= bytes.len() && four_at(bytes, PART_AT) == part.0
+}
+
+/// Whether a request adds the record of an entry of this part to the catalog.
+fn adds_part(part: PartNo, request: &Request) -> bool
+    ensures { result ≡ counting.adds_part part.0 request.now }
+{
+    match request {
+        Request::Add { file, bytes, .. } => file.base.0 == 0 && has_part(part, bytes.as_slice()),
+        _ => false,
     }
 }
 
-/// The splits of a part once it took an area: as it was defined its first one, from where on its
-/// splits are counted.
-fn taking(first: Option<AreaNo>, area: AreaNo, splits: Splits) -> Splits
-    requires { splits.areas < 2 ^ 64 - 1 }
-    ensures { result ≡ counting.taking first area splits }
+/// The splits of a part after a request that was answered. They are counted from the definition
+/// that stands.
+fn answered(part: PartNo, request: &Request, reply: &Reply, splits: Splits) -> Splits
+    ensures { result ≡ counting.answered part.0 request.now reply.now splits }
 {
-    if is_first(first, area) {
-        Splits {
-            intervals: 0,
-            areas: 0,
-        }
-    } else {
-        Splits {
-            intervals: splits.intervals,
-            areas: splits.areas + 1,
-        }
+    match reply {
+        Reply::Done { .. } if adds_part(part, request) => NO_SPLITS,
+        _ => splits,
     }
 }
 
 /// The splits of a part after an entry.
-fn splits_after(part: PartNo, first: Option<AreaNo>, what: &What, splits: Splits) -> Splits
+fn splits_after(part: PartNo, what: &What, splits: Splits) -> Splits
     requires intervals { splits.intervals < 2 ^ 64 - 1 }
     requires areas { splits.areas < 2 ^ 64 - 1 }
-    ensures { result ≡ counting.splits_after part.0 first what.now splits }
+    ensures { result ≡ counting.splits_after part.0 what.now splits }
 {
     match what {
-        What::Claimed { part: of, area } if of.0 == part.0 => taking(first, *area, splits),
+        What::Asked { request, reply } => answered(part, request.get(), reply, splits),
+        What::Claimed { part: of, .. } if of.0 == part.0 => Splits {
+            intervals: splits.intervals,
+            areas: splits.areas + 1,
+        },
         What::Split { part: of } if of.0 == part.0 => Splits {
             intervals: splits.intervals + 1,
             areas: splits.areas,
@@ -58,16 +71,13 @@ fn splits_after(part: PartNo, first: Option<AreaNo>, what: &What, splits: Splits
     }
 }
 
-/// The splits of a part that a history has, from where it was defined with its first area on.
-pub(crate) fn splits_of(part: PartNo, first: Option<AreaNo>, entries: &[Entry]) -> Splits
-    ensures { result ≡ counting.splits_by part.0 first counting.no_splits entries.now }
+/// The splits of a part that a history has, from where the definition that stands was entered on.
+pub(crate) fn splits_of(part: PartNo, entries: &[Entry]) -> Splits
+    ensures { result ≡ counting.splits_by part.0 counting.no_splits entries.now }
 {
-    let mut splits = Splits {
-        intervals: 0,
-        areas: 0,
-    };
+    let mut splits = NO_SPLITS;
     for entry in entries {
-        splits = splits_after(part, first, &entry.what, splits);
+        splits = splits_after(part, &entry.what, splits);
     }
     splits
 }

@@ -80,10 +80,10 @@ impl<B: Blocks, P: Part> Volume<B, P> {
         self.store.generation() < (1 << 63) - 1 && self.unit_number(deck) < u32::MAX
     }
 
-    /// Makes room for six entries and one more file. It fails only if memory runs out. All else
-    /// stays, whatever the answer.
-    pub fn reserve(&mut self) -> Result<(), OutOfMemory>
-        ensures room { OnOk result (6 ≤ self.new.file.room) }
+    /// Makes room for this many entries and one more file. It fails only if memory runs out. All
+    /// else stays, whatever the answer.
+    pub fn reserve(&mut self, entries: usize) -> Result<(), OutOfMemory>
+        ensures room { OnOk result (entries ≤ self.new.file.room) }
         ensures files_room { OnOk result (0 < self.new.file.files_room) }
         ensures same { self.new ≡ record self.old {
           file = record self.old.file {
@@ -95,7 +95,7 @@ impl<B: Blocks, P: Part> Volume<B, P> {
             → IsHeld B.seen opening self.new }
         ensures whole { IsWhole B.seen self.old → IsWhole B.seen self.new }
     {
-        self.file.reserve()
+        self.file.reserve(entries)
     }
 
     /// Enters a deck, whose first unit of recovery has the number 1; one that was entered stays as

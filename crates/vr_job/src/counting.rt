@@ -15,7 +15,7 @@ ghost use Rattle.vr_job.specs.Going.{Follows, WentOn};
 ghost use Rattle.vr_job.specs.Reported.{numbers_of};
 ghost use Rattle.vr_job.specs.Serving.{IsServing, shown_of};
 
-use crate::serving::make_ready;
+use crate::serving::{EVENT_ENTRIES, make_ready};
 use std::alloc::Global;
 use vr_ams_define::Counted;
 use vr_catalog::CatEntry;
@@ -97,7 +97,7 @@ pub(crate) fn count<B: Blocks, P: Part>(
     ensures number { volume.new.number ≡ volume.old.number }
     ensures geometry { volume.new.file.geometry ≡ volume.old.file.geometry }
 {
-    make_ready(volume, 0, after)?;
+    make_ready(volume, 0, after, EVENT_ENTRIES)?;
     let event = count_event(alloc, volume, line, entry, after)?;
     Ok(counted_of(event))
 }

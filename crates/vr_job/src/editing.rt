@@ -18,7 +18,7 @@ use crate::serving::make_ready;
 use std::alloc::Global;
 use vr_ams_define::Changed;
 use vr_edits::CatalogEdit;
-use vr_event::{Edit, Volume};
+use vr_event::{Edit, Volume, entries_to_edit};
 use vr_start::Start;
 use vr_trace::RunNo;
 use vr_types::{Blocks, OutOfMemory};
@@ -84,7 +84,7 @@ pub(crate) fn edit_catalog<B: Blocks, P: Start + Drop>(
     ensures number { volume.new.number ≡ volume.old.number }
     ensures geometry { volume.new.file.geometry ≡ volume.old.file.geometry }
 {
-    make_ready(volume, 0, after)?;
+    make_ready(volume, 0, after, entries_to_edit(edit))?;
     let event = edit_event(alloc, volume, line, edit, after)?;
     Ok(changed_of(event))
 }

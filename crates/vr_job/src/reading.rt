@@ -12,7 +12,7 @@ ghost use Rattle.vr_job.specs.Answering.{IsAnswered};
 ghost use Rattle.vr_job.specs.Going.{Follows, WentOn};
 ghost use Rattle.vr_job.specs.Serving.{IsServing, shown_of};
 
-use crate::serving::make_ready;
+use crate::serving::{EVENT_ENTRIES, make_ready};
 use std::alloc::Global;
 use vr_ams_define::ReadBack;
 use vr_catalog::CatEntry;
@@ -88,7 +88,7 @@ pub(crate) fn read<B: Blocks, P: Part, R: RecordVisitor>(
     ensures number { volume.new.number ≡ volume.old.number }
     ensures geometry { volume.new.file.geometry ≡ volume.old.file.geometry }
 {
-    make_ready(volume, 0, after)?;
+    make_ready(volume, 0, after, EVENT_ENTRIES)?;
     let event = read_event(alloc, volume, line, entry, from, after, visitor)?;
     Ok(read_back_of(event))
 }

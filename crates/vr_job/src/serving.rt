@@ -47,6 +47,9 @@ use vr_worker::{Cataloged, Served};
 /// The least stamp with which no event begins.
 const STAMP_LIMIT: u64 = 1 << 62;
 
+/// No event but an edit of the catalog adds more entries.
+pub(crate) const EVENT_ENTRIES: usize = 6;
+
 /// Enters a deck, where it wasn't. It fails only if memory runs out. Nothing is entered in the
 /// history, whatever the answer.
 fn enter<B: Blocks, P: Part>(volume: &mut Volume<B, P>, deck: u32) -> Result<(), OutOfMemory>
@@ -58,30 +61,36 @@ fn enter<B: Blocks, P: Part>(volume: &mut Volume<B, P>, deck: u32) -> Result<(),
     volume.enter_deck(deck)
 }
 
-/// Enters a deck and makes room for one event. It fails only if memory runs out. Nothing is entered
-/// in the history, whatever the answer.
-fn make_room<B: Blocks, P: Part>(volume: &mut Volume<B, P>, deck: u32) -> Result<(), OutOfMemory>
+/// Enters a deck and makes room for one event, which adds at most this many entries. It fails only
+/// if memory runs out. Nothing is entered in the history, whatever the answer.
+fn make_room<B: Blocks, P: Part>(
+    volume: &mut Volume<B, P>,
+    deck: u32,
+    entries: usize,
+) -> Result<(), OutOfMemory>
     requires { IsServing B.tells B.seen volume.old }
     ensures deck { OnOk result (has_deck deck volume.new.file.numbers ≡ true) }
-    ensures room { OnOk result (6 ≤ volume.new.file.room) }
+    ensures room { OnOk result (entries ≤ volume.new.file.room) }
     ensures files_room { OnOk result (0 < volume.new.file.files_room) }
     ensures stopped { volume.new.file.stopped ≡ volume.old.file.stopped }
     ensures stays { StaysServing B.tells B.seen B.faults volume.old volume.new }
 {
     enter(volume, deck)?;
-    volume.reserve()
+    volume.reserve(entries)
 }
 
-/// Makes room for one event of a deck whose last stamp is `after`, and sees that there are stamps
-/// and numbers for it. Nothing is entered in the history, whatever the answer.
+/// Makes room for one event of a deck whose last stamp is `after`, which adds at most this many
+/// entries, and sees that there are stamps and numbers for it. Nothing is entered in the history,
+/// whatever the answer.
 pub(crate) fn make_ready<B: Blocks, P: Part>(
     volume: &mut Volume<B, P>,
     deck: u32,
     after: u64,
+    entries: usize,
 ) -> Result<(), RunNo>
     requires { IsServing B.tells B.seen volume.old }
     ensures deck { OnOk result (has_deck deck volume.new.file.numbers ≡ true) }
-    ensures room { OnOk result (6 ≤ volume.new.file.room) }
+    ensures room { OnOk result (entries ≤ volume.new.file.room) }
     ensures files_room { OnOk result (0 < volume.new.file.files_room) }
     ensures last { OnOk result (last_stamp 0 volume.new.file.entries < 2 ^ 62) }
     ensures after { OnOk result (after < 2 ^ 62) }
@@ -90,7 +99,7 @@ pub(crate) fn make_ready<B: Blocks, P: Part>(
     ensures stopped { volume.new.file.stopped ≡ volume.old.file.stopped }
     ensures stays { StaysServing B.tells B.seen B.faults volume.old volume.new }
 {
-    make_room(volume, deck)?;
+    make_room(volume, deck, entries)?;
     if volume.last() >= STAMP_LIMIT || after >= STAMP_LIMIT || !volume.has_numbers(deck) {
         return Err(RunNo::Stamps);
     }
@@ -156,7 +165,7 @@ fn serve<B: Blocks, P: Part>(
         → IsNearerFor B.tells volume.old volume.new deck) }
     ensures number { volume.new.number ≡ volume.old.number }
 {
-    make_ready(volume, deck, after)?;
+    make_ready(volume, deck, after, EVENT_ENTRIES)?;
     let shared = request.share()?;
     let number = volume.unit_number(deck);
     let done = event(alloc, volume, Unit { deck, number }, line, shared, after);
@@ -226,7 +235,7 @@ fn define<B: Blocks, P: Start + Drop>(
     ensures number { volume.new.number ≡ volume.old.number }
     ensures geometry { volume.new.file.geometry ≡ volume.old.file.geometry }
 {
-    make_ready(volume, 0, after)?;
+    make_ready(volume, 0, after, EVENT_ENTRIES)?;
     let event = define_event(alloc, volume, line, entry, after)?;
     Ok(answer_of(event))
 }

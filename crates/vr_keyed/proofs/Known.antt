@@ -1,10 +1,10 @@
 -- What a keyed part keeps in memory of its blocks: which area a place comes to, the split that is
 -- under way and what the part answers by it, and what was met.
 use Rattle.std.proofs.Common.{◌≡◌, ◌<◌, ℕ, zero, suc, Bool, true, false, IsTrue, List, [], ◌∷◌, Option}
-use Rattle.std.proofs.Common.{Some, None, All, refl, sym, ap, subst, ◌∙◌, arith, take, ⊎_elim}
-use Rattle.std.specs.Prelude.{◌⊎◌, Contains, IfSome, IsSome, bytes_eq, cond, filter, not}
+use Rattle.std.proofs.Common.{Some, None, All, length, refl, sym, ap, subst, ◌∙◌, arith, ⊎_elim}
+use Rattle.std.specs.Prelude.{◌⊎◌, Contains, IfSome, IsSome, cond}
 use Rattle.std.specs.Ordering.{is_le}
-use Rattle.std.proofs.lemmas.List.Elements.{All-cons, All-filter, All-nil, All-take, All-weaker}
+use Rattle.std.proofs.lemmas.List.Elements.{All-nil, All-weaker}
 use Rattle.std.proofs.lemmas.List.Elements.{Contains-append_left, Contains-append_right}
 use Rattle.vr_types.specs.Blocks.{Keeps}
 use Rattle.vr_types.specs.Content.{place_cmp}
@@ -20,7 +20,8 @@ use Rattle.vr_space.specs.Areas.{end_of, head_in, head_of, intervals_in}
 use Rattle.vr_space.specs.Rosters.{IsOf}
 use Rattle.vr_seqset.specs.Reading.{record_in}
 use Rattle.vr_space.specs.Keyed.{InArea, KeepsRoom, Keyed}
-use Rattle.vr_space.specs.Met.{IsChainMet, IsMet, Met, met_next}
+use Rattle.vr_space.specs.Known.{HasMet, Known, MeetsPlace}
+use Rattle.vr_space.specs.Met.{IsChainMet, IsMet, Met}
 use Rattle.vr_space.specs.Part.{InHeld, KeyedShape, Knows, Stands}
 use Rattle.vr_space.specs.Room.{Lengths}
 use Rattle.vr_space.specs.Moves.{IsPastClaim, MoveUnderWay}
@@ -32,10 +33,11 @@ use Rattle.vr_space.proofs.CallerLemmas.{area-each, knows-area, links-in-area, m
 use Rattle.vr_attach.specs.Areas.{AreasNow}
 use Rattle.vr_keyed.specs.Lent.{ArePlaces}
 use Rattle.vr_keyed.specs.Owned.{InAreas, IsMine, known_by, split_at}
-use Rattle.vr_keyed.specs.Slots.{IsMetAt, IsNewlyMet, LeavesAll, LeavesLast, LeavesMet, LeavesNew}
-use Rattle.vr_keyed.specs.Slots.{MeetsAt, met_places, mets, others_met}
+use Rattle.vr_keyed.specs.Slots.{HasMetPlace, IsMetAt, KeepsAll, LeavesMet, MeetsOne, mets}
+use Rattle.vr_keyed.specs.Slots.{most_kept}
 use Rattle.vr_keyed.specs.declared.slots.Slots.{Slots}
 use Rattle.vr_keyed.proofs.Keeping.{way-still}
+use Rattle.vr_keyed.proofs.Meeting.{leaves-all, places-kept}
 
 -- ---- the area of a place
 
@@ -278,27 +280,13 @@ met-at part image place area found met all =
     subst (λ (at : ℕ). IsMet (area_of part at) image one) it is.is_met)
     met all
 
--- What is true of what is met now, and was of all that was met, is true of what is left of it.
-pub leaves-each : (part : Keyed) (tells : Bool) (image : Image) (place : List ℕ)
-    (P : Met → Type 0) → ((one : Met) → IsNewlyMet part tells image place one → P one)
-    → (old new : List Met) → LeavesMet part tells image place old new → All P old → All P new
-leaves-each part tells image place P newly old new (LeavesAll same) all =
-    subst (All P) (sym same) all
-leaves-each part tells image place P newly old new (LeavesLast same) all =
-    subst (All P) (sym same) (All-take P 1 old all)
-leaves-each part tells image place P newly old new (LeavesNew met is same) all =
-    let test = λ (one : Met). not (bytes_eq one.place place) in
-    subst (All P) (sym same)
-    (All-cons P met (others_met place old) (newly met is)
-    (All-take P 1 (filter test old) (All-filter test P old all)))
-
--- So each is a block of the area of its place,
+-- Each that a call leaves is a block of the area of its place,
 pub leaves-mine : (chain : AreasNow) (tells : Bool) (image : Image) (place : List ℕ) (area : ℕ)
     → area_by chain.areas chain.ends place ≡ Some area → (old new : List Met)
     → LeavesMet (area_of chain.part area) tells image place old new → All (IsMine chain) old
     → All (IsMine chain) new
-leaves-mine chain tells image place area is =
-    leaves-each (area_of chain.part area) tells image place (IsMine chain)
+leaves-mine chain tells image place area is old new leaves =
+    leaves-all (IsMine chain) (area_of chain.part area) tells image place old new leaves
     (λ one newly. record {
       area = area;
       is = ap (area_by chain.areas chain.ends) newly.place_is ∙ is;
@@ -310,8 +298,8 @@ pub leaves-met : (part : KeyedChain) (tells : Bool) (image : Image) (place : Lis
     → IsTrue tells → area_for part image place ≡ Some area → (old new : List Met)
     → LeavesMet (area_of part area) tells image place old new → All (IsChainMet part image) old
     → All (IsChainMet part image) new
-leaves-met part tells image place area told found =
-    leaves-each (area_of part area) tells image place (IsChainMet part image)
+leaves-met part tells image place area told found old new leaves =
+    leaves-all (IsChainMet part image) (area_of part area) tells image place old new leaves
     (λ one newly. record {
       area = area;
       there = ap (area_for part image) newly.place_is ∙ found;
@@ -327,31 +315,25 @@ none-or-left layout here is tells image place P old new left = ⊎_elim
     (λ none. subst (All P) (sym none) (All-nil P))
     (λ leaves. left (subst (λ (one : Keyed). LeavesMet one tells image place old new) is leaves))
 
--- the places of the others
-others-places : (place : List ℕ) (met : List Met)
-    → met_places (others_met place met)
-    ≡ take 1 (filter (λ (other : List ℕ). not (bytes_eq other place)) (met_places met))
-others-places place [] = refl
-others-places place (one ∷ met) =
-    by_test (bytes_eq one.place place) (others-places place met)
-  where
-    rest : List Met
-    rest = filter (λ (other : Met). not (bytes_eq other.place place)) met
-
-    places : List (List ℕ)
-    places = filter (λ (other : List ℕ). not (bytes_eq other place)) (met_places met)
-
-    by_test : (test : Bool) → met_places (take 1 rest) ≡ take 1 places
-        → met_places (take 1 (cond (not test) (one ∷ rest) rest))
-        ≡ take 1 (cond (not test) (one.place ∷ places) places)
-    by_test true more = more
-    by_test false more = refl
-
--- What was met before comes after the place that is met now.
-pub meets-places : (part : Keyed) (tells : Bool) (image : Image) (place : List ℕ)
-    (old : List Met) (slots : Slots) → MeetsAt part tells image place old slots
-    → met_places (mets slots) ≡ met_next (met_places old) place
-meets-places part tells image place old slots meets =
-    ap met_places meets.rest
-    ∙ ap (λ (at : List ℕ). at ∷ met_places (others_met place old)) meets.newly.place_is
-    ∙ ap (λ (places : List (List ℕ)). place ∷ places) (others-places place old)
+-- What is met of the slots of a part is met of the part.
+pub meets-place : (place : List ℕ) (old new : Slots) → MeetsOne place old new
+    → (before after : Known) → before.met ≡ mets old → before.most ≡ most_kept old
+    → after.met ≡ mets new → after.most ≡ most_kept new → MeetsPlace place before after
+meets-place place old new meets before after was most is still =
+    let has : (met : List Met) → met ≡ mets new → KeepsAll (mets old) (mets new)
+    → (at : List ℕ) → HasMet before at → HasMetPlace met at =
+    λ met same kept at has. subst (λ (one : List Met). HasMetPlace one at) (sym same)
+    (places-kept (mets old) (mets new) kept at
+    (subst (λ (one : List Met). HasMetPlace one at) was has)) in
+    record {
+      here = subst (λ (met : List Met). HasMetPlace met place) (sym is) meets.here;
+      many = omega (
+        arith,
+        meets.many,
+        ap (λ (met : List Met). length met) was,
+        ap (λ (met : List Met). length met) is,
+      );
+      kept = λ fewer. has after.met is
+          (meets.kept (omega (arith, fewer, most, ap (λ (met : List Met). length met) was)));
+      most = still ∙ meets.most ∙ sym most;
+    }

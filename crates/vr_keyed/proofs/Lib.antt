@@ -20,6 +20,7 @@ pub mod NoGrowth
 pub mod Advancing
 pub mod Keeping
 pub mod Known
+pub mod Most
 pub mod Lifted
 pub mod Changing
 pub mod Walking

@@ -1,29 +1,44 @@
 -- What was met, once a block has other bytes.
-use Rattle.std.proofs.Common.{◌≡◌, ◌<◌, ℕ, zero, suc, Bool, true, false, List, [], ◌∷◌, Option}
-use Rattle.std.proofs.Common.{Some, None, take, All, refl, ap, ◌∙◌, arith, length, map}
-use Rattle.std.specs.Prelude.{IfSome, cond, nat_eq}
-use Rattle.std.proofs.Common.{eqb-true}
+use Rattle.std.proofs.Common.{◌≡◌, ◌<◌, ◌+◌, ℕ, Bool, true, false, List, [], ◌∷◌, ◌++◌, Option}
+use Rattle.std.proofs.Common.{Some, None, take, All, refl, ap, ◌∙◌, arith, length, map, drop}
+use Rattle.std.proofs.Common.{eqb-true, get_or, set, subst, sym}
+use Rattle.std.specs.Prelude.{Contains, IfSome, cond, nat_eq}
+use Rattle.std.proofs.lemmas.List.{get_or-map, length-map, map-set, take-map}
+use Rattle.std.proofs.lemmas.List.Edits.{map_over_more}
 use Rattle.std.proofs.lemmas.List.Elements.{All-head}
 use Rattle.vr_types.specs.Image.{Block}
 use Rattle.vr_space.specs.Keyed.{Keyed, IsHead}
 use Rattle.vr_space.specs.Met.{Met}
 use Rattle.vr_keyed.specs.Setting.{IsRecordHere}
-use Rattle.vr_keyed.specs.Slots.{met_places}
+use Rattle.vr_keyed.specs.declared.slot.Slot.{Slot}
+use Rattle.vr_keyed.specs.Slots.{KeepsAll, KeepsPlaces, met_in, met_places}
 use Rattle.vr_keyed.specs.Ready.{again, put_of, refreshed}
+use Rattle.vr_keyed.proofs.Meeting.{places-kept}
 
-pub take-refreshed : (k n : ℕ) (bytes : Block) (a b one other : Met)
-    → one ≡ refreshed n bytes a → other ≡ refreshed n bytes b
-    → take k (one ∷ other ∷ []) ≡ map (refreshed n bytes) (take k (a ∷ b ∷ []))
-take-refreshed k n bytes a b one other first second =
-    ap (λ (m : Met). take k (m ∷ other ∷ [])) first
-    ∙ ap (λ (m : Met). take k (refreshed n bytes a ∷ m ∷ [])) second ∙ by k
-  where
-    by : (k : ℕ) → take k (refreshed n bytes a ∷ refreshed n bytes b ∷ [])
-        ≡ map (refreshed n bytes) (take k (a ∷ b ∷ []))
-    by zero = refl
-    by (suc zero) = refl
-    by (suc (suc zero)) = refl
-    by (suc (suc (suc k))) = refl
+-- What is kept of the first slots is refreshed, where each of all of them is.
+pub take-refreshed : (k n : ℕ) (bytes : Block) (a one : Met) (xs ys : List Met)
+    → one ≡ refreshed n bytes a → ys ≡ map (refreshed n bytes) xs
+    → take k (one ∷ ys) ≡ map (refreshed n bytes) (take k (a ∷ xs))
+take-refreshed k n bytes a one xs ys first rest =
+    ap (λ (m : Met). take k (m ∷ ys)) first
+    ∙ ap (λ (ms : List Met). take k (refreshed n bytes a ∷ ms)) rest
+    ∙ take-map (refreshed n bytes) k (a ∷ xs)
+
+-- one more of the slots is refreshed
+pub refreshed-more : (n : ℕ) (bytes : Block) (slots now : List Slot) (i : ℕ) (any slot : Slot)
+    → i < length now → length slots ≡ length now
+    → met_in slot ≡ refreshed n bytes (met_in (get_or now i any))
+    → map met_in now ≡ map (refreshed n bytes) (take i (map met_in slots))
+    ++ drop i (map met_in slots)
+    → map met_in (set now i slot)
+    ≡ map (refreshed n bytes) (take (i + 1) (map met_in slots)) ++ drop (i + 1) (map met_in slots)
+refreshed-more n bytes slots now i any slot there long is so_far =
+    let one : Met = met_in (get_or now i any) in
+    map-set met_in now i slot
+    ∙ ap (λ (met : Met). set (map met_in now) i met) is
+    ∙ map_over_more (refreshed n bytes) (map met_in slots) (map met_in now) i one
+    (omega (arith, there, long, length-map slots met_in)) so_far
+    (sym (get_or-map met_in now i any one there))
 
 -- where nothing was put, nothing is another
 pub again-none : (bytes : Block) (met : List Met) → map (again None bytes) met ≡ met
@@ -47,14 +62,19 @@ pub again-number : (put : Option ℕ) (bytes : Block) (one : Met)
 again-number None bytes one = refl
 again-number (Some n) bytes one = refl
 
--- so do the places
-pub places-again : (put : Option ℕ) (bytes : Block) (met : List Met)
-    → met_places (map (again put bytes) met) ≡ met_places met
-places-again put bytes [] = refl
-places-again put bytes (one ∷ met) =
-    ap (λ (place : List ℕ). place ∷ met_places (map (again put bytes) met))
-    (again-place put bytes one)
-    ∙ ap (λ (places : List (List ℕ)). one.place ∷ places) (places-again put bytes met)
+-- so each place that is met stays met
+pub places-again : (put : Option ℕ) (bytes : Block) (old mid : List Met) → KeepsAll old mid
+    → KeepsPlaces old (map (again put bytes) mid)
+places-again put bytes old mid kept place has =
+    subst (λ (places : List (List ℕ)). Contains places place) (sym (same mid))
+    (places-kept old mid kept place has)
+  where
+    same : (met : List Met) → met_places (map (again put bytes) met) ≡ met_places met
+    same [] = refl
+    same (one ∷ met) =
+        ap (λ (place : List ℕ). place ∷ met_places (map (again put bytes) met))
+        (again-place put bytes one)
+        ∙ ap (λ (places : List (List ℕ)). one.place ∷ places) (same met)
 
 -- what was met of a block that wasn't put is as it was
 pub again-elsewhere : (put : Option ℕ) (bytes : Block) (met : Met)

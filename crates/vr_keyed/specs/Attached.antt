@@ -7,12 +7,14 @@ use Rattle.vr_attach.specs.declared.part_no.PartNo2.{PartNo2}
 use Rattle.vr_attach.specs.declared.part_no.PartNo2.TheVariants.{Damaged, Fault, Memory}
 use Rattle.vr_keyed.specs.Owned.{Owned}
 
--- It is the part of this layout, no split is under way, and nothing was met.
+-- It is the part of this layout, no split is under way, nothing was met, and it keeps what it meets
+-- of two places.
 pub record IsAttachedTo (part : KeyedChain) (keyed : Owned) : Type 0 where
   pub part_is : keyed.part ≡ part
   pub split : keyed.split ≡ None
   pub move : keyed.move ≡ None
   pub met : keyed.met ≡ []
+  pub most : keyed.most ≡ 2
   pub put : keyed.put ≡ []
 
 -- A part that is shown as damaged is: this block is the first that breaks a rule, and this is the

@@ -19,7 +19,7 @@ pub record Splitting : Type 0 where
 
 -- Where it is, its areas in the order of their chain, where the ranges of each end, and how many
 -- intervals their heads lead to; the split of an interval or of an area that is under way, what it
--- met last, and which blocks its last `set` put.
+-- met last and how many intervals it may keep, and which blocks its last `set` put.
 pub record Owned : Type 0 where
   pub part : KeyedChain
   pub areas : List ℕ
@@ -28,18 +28,20 @@ pub record Owned : Type 0 where
   pub split : Option AreaSplit
   pub move : Option MoveNow
   pub met : List Met
+  pub most : ℕ
   pub put : List ℕ
 
 -- a split of one of its areas
 abbrev pub split_at : ℕ → Option SplitNow → Option AreaSplit
 split_at area split = option_map (λ (now : SplitNow). record { area = area; split = now }) split
 
--- what it keeps in memory of its blocks
+-- What it keeps in memory of its blocks. How many intervals it may keep is of no account there.
 abbrev pub known_by : AreasNow → Option AreaSplit → Option MoveNow → List Met → Known
 known_by chain split move met = record {
   split = split;
   move = move;
   met = met;
+  most = 0;
   areas = chain.areas;
   ends = chain.ends;
   used = chain.intervals;
@@ -55,8 +57,11 @@ chain_of keyed = record {
   intervals = keyed.intervals;
 }
 
+-- with how many intervals it may keep
 abbrev pub known_of : Owned → Known
-known_of keyed = known_by (chain_of keyed) keyed.split keyed.move keyed.met
+known_of keyed = record (known_by (chain_of keyed) keyed.split keyed.move keyed.met) {
+  most = keyed.most;
+}
 
 -- how many intervals are counted once a stage is done: a switch adds one, up to the end of the
 -- counter's type

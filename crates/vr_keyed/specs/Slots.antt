@@ -1,6 +1,6 @@
 -- What is kept of the intervals that were met last. The rules are this project's own.
-use Rattle.std.specs.Prelude.{◌≡◌, ◌<◌, ℕ, Bool, true, false, List, [], ◌∷◌, Option, Some}
-use Rattle.std.specs.Prelude.{None, Contains, IsTrue, bytes_eq, filter, map, not, take, vec_len}
+use Rattle.std.specs.Prelude.{◌≡◌, ◌⊎◌, ◌+◌, ◌<◌, ◌≤◌, ℕ, Bool, true, false, List, ◌∷◌, Option}
+use Rattle.std.specs.Prelude.{Some, None, All, Contains, IsTrue, length, map, take, vec_len}
 use Rattle.vr_types.specs.Image.{Block, Image}
 use Rattle.vr_seqset.specs.Entry.{Entry}
 use Rattle.vr_space.specs.Keyed.{InArea, Keyed, entry_block, entry_in}
@@ -29,15 +29,23 @@ pub record IsSlotOf (part : Keyed) (slot : Slot) : Type 0 where
   pub high : slot.high.room ≡ part.key
   pub bytes : vec_len slot.bytes ≡ part.size
 
+-- it has a block of this size
+abbrev pub HasBytes : ℕ → Slot → Type 0
+HasBytes n slot = vec_len slot.bytes ≡ n
+
 -- The head leads from the place to the block, by an entry of the range.
 pub record IsLed (part : Keyed) (top : Block) (slot : Slot) : Type 0 where
   pub entry : Entry
   pub leads : entry_in top slot.place.place ≡ Some ((met_in slot).range, entry)
   pub number : entry_block part entry ≡ slot.number
 
--- the intervals that were met, the last one first
+-- the intervals that were met and are kept, the last one first
 abbrev pub mets : Slots → List Met
-mets slots = take slots.filled (met_in slots.first ∷ met_in slots.second ∷ [])
+mets slots = take slots.filled (met_in slots.first ∷ map met_in slots.more.items)
+
+-- how many of them may be kept
+abbrev pub most_kept : Slots → ℕ
+most_kept slots = length slots.more.items + 1
 
 -- the places of intervals that were met
 abbrev pub met_places : List Met → List (List ℕ)
@@ -49,7 +57,7 @@ HasMetPlace met place = Contains (met_places met) place
 
 pub record AreSlotsOf (part : Keyed) (slots : Slots) : Type 0 where
   pub first : IsSlotOf part slots.first
-  pub second : IsSlotOf part slots.second
+  pub more : All (IsSlotOf part) slots.more.items
 
 -- the place is the one that was met last
 pub record IsFirst (place : List ℕ) (slots : Slots) : Type 0 where
@@ -66,10 +74,6 @@ IsInside part place met = met.place ≡ place → InArea part met.number
 abbrev pub IsMetAt : Keyed → Image → List ℕ → Met → Type 0
 IsMetAt part image place met = met.place ≡ place → IsMet part image met
 
--- the last one that was met at another place
-abbrev pub others_met : List ℕ → List Met → List Met
-others_met place met = take 1 (filter (λ (one : Met). not (bytes_eq one.place place)) met)
-
 -- The interval of the place, as it is met now.
 pub record IsNewlyMet (part : Keyed) (tells : Bool) (image : Image) (place : List ℕ) (met : Met)
     : Type 0 where
@@ -77,19 +81,32 @@ pub record IsNewlyMet (part : Keyed) (tells : Bool) (image : Image) (place : Lis
   pub inside : InArea part met.number
   pub is_met : IsTrue tells → IsMet part image met
 
--- What is left of what was met by a call that meets the interval of the place: all of it, where it
--- didn't come so far; the last one, where it failed; or that interval and the last one of another
--- place.
-pub data LeavesMet (part : Keyed) (tells : Bool) (image : Image) (place : List ℕ)
-    (old new : List Met) : Type 0 where
-  LeavesAll : new ≡ old → LeavesMet part tells image place old new
-  LeavesLast : new ≡ take 1 old → LeavesMet part tells image place old new
-  LeavesNew : (met : Met) → IsNewlyMet part tells image place met
-      → new ≡ met ∷ others_met place old → LeavesMet part tells image place old new
+-- What is left of what was met by a call that meets the interval of the place: each was met before,
+-- or is that interval.
+abbrev pub LeavesMet : Keyed → Bool → Image → List ℕ → List Met → List Met → Type 0
+LeavesMet part tells image place old new =
+    All (λ (one : Met). Contains old one ⊎ IsNewlyMet part tells image place one) new
+
+-- each interval that was met still is, with what it had
+abbrev pub KeepsAll : List Met → List Met → Type 0
+KeepsAll old new = (one : Met) → Contains old one → Contains new one
+
+-- each place that was met still is
+abbrev pub KeepsPlaces : List Met → List Met → Type 0
+KeepsPlaces old new = (place : List ℕ) → HasMetPlace old place → HasMetPlace new place
+
+-- The place is met, with one interval more at most. Each that was met still is, where the place was
+-- among them, or fewer were met than may be kept.
+pub record MeetsOne (place : List ℕ) (old new : Slots) : Type 0 where
+  pub here : HasMetPlace (mets new) place
+  pub many : length (mets new) ≤ length (mets old) + 1
+  pub known : HasMetPlace (mets old) place → KeepsAll (mets old) (mets new)
+  pub kept : length (mets old) < most_kept old → KeepsAll (mets old) (mets new)
+  pub most : most_kept new ≡ most_kept old
 
 -- The interval of the place is the one that was met last.
-pub record MeetsAt (part : Keyed) (tells : Bool) (image : Image) (place : List ℕ)
-    (old : List Met) (slots : Slots) : Type 0 where
-  pub first : IsFirst place slots
-  pub newly : IsNewlyMet part tells image place (met_in slots.first)
-  pub rest : mets slots ≡ met_in slots.first ∷ others_met place old
+pub record MeetsAt (part : Keyed) (tells : Bool) (image : Image) (place : List ℕ) (old new : Slots)
+    : Type 0 where
+  pub first : IsFirst place new
+  pub newly : IsNewlyMet part tells image place (met_in new.first)
+  pub meets : MeetsOne place old new

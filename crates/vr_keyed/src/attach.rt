@@ -16,12 +16,13 @@ use vr_space::KeyedLayout;
 use vr_types::{Blocks, Space};
 
 impl Keyed {
-    /// The part of a layout, as its blocks stand: with no split under way, and nothing met. It
-    /// reads the head and each interval of an entry of each area of its chain once. `taken` has who
-    /// owns each area of the volume: the first area is the part's, which owns no other yet; then
-    /// each area of its chain is its. `Damaged`: the blocks stand for no content, or lead to an
-    /// area that another part has; which block and which rule are shown `vr_attach` says. `Fault`
-    /// is the device's; `Memory`: there is none for the part's buffers.
+    /// The part of a layout, as its blocks stand: with no split under way, nothing met, and room to
+    /// keep what it meets of two places. It reads the head and each interval of an entry of each
+    /// area of its chain once. `taken` has who owns each area of the volume: the first area is the
+    /// part's, which owns no other yet; then each area of its chain is its. `Damaged`: the blocks
+    /// stand for no content, or lead to an area that another part has; which block and which rule
+    /// are shown `vr_attach` says. `Fault` is the device's; `Memory`: there is none for the part's
+    /// buffers.
     pub fn attach<B: Blocks>(
         alloc: Global,
         blocks: &mut B,

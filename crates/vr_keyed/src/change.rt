@@ -15,7 +15,6 @@ ghost use Rattle.vr_space.specs.Areas.{ChainKeepsRoom, IsChainOn, KnowsAreas, ar
 ghost use Rattle.vr_space.specs.Areas.{intervals_in};
 ghost use Rattle.vr_space.specs.Keyed.{IsKeyedAtRest, KeepsRoom};
 ghost use Rattle.vr_space.specs.Known.{held_with};
-ghost use Rattle.vr_space.specs.Met.{met_next};
 ghost use Rattle.vr_space.specs.Moves.{IsAreaStage, IsPastClaim, MoveUnderWay};
 ghost use Rattle.vr_space.specs.Part.{AreMet, HasMore, IsClaimed, IsQuiet, IsStageDue, KeepsChain};
 ghost use Rattle.vr_space.specs.Part.{KeyedShape, Knows, OwnersAfter, Stands};
@@ -33,7 +32,7 @@ ghost use Rattle.vr_keyed.specs.Lent.{ArePlaces, HasRoomFor};
 ghost use Rattle.vr_keyed.specs.Owned.{InAreas, IsMine, Splitting, counted_by, held_now, known_by};
 ghost use Rattle.vr_keyed.specs.Owned.{known_in, stage_of_move};
 ghost use Rattle.vr_keyed.specs.Ready.{put_of};
-ghost use Rattle.vr_keyed.specs.Slots.{AreSlotsOf, HasMetPlace, met_places, mets};
+ghost use Rattle.vr_keyed.specs.Slots.{AreSlotsOf, HasMetPlace, KeepsPlaces, MeetsOne, mets};
 
 use crate::advance::{begin_at, go_on};
 use crate::begin::{Beginning, find_beginning};
@@ -83,8 +82,7 @@ pub(crate) fn room_over<B: Blocks, K: Kept>(
     ensures mine { All (IsMine areas.now) (mets slots.new) }
     ensures knows { IsTrue B.tells → Knows (KeyedShape areas.now.part)
         (known_in areas.now splits.now (mets slots.new)) (B.seen blocks.new) }
-    ensures places { OnOk result
-        (met_places (mets slots.new) ≡ met_next (met_places (mets slots.old)) place.now) }
+    ensures meets { OnOk result (MeetsOne place.now slots.old slots.new) }
     ensures weights { HasRoomFor (area_of areas.now.part areas.now.part.first) weights.new }
     ensures keeps { Keeps B.tells (B.seen blocks.old) (B.seen blocks.new) }
     ensures cause { HasCause (B.faults blocks.old) (B.faults blocks.new) result }
@@ -143,8 +141,8 @@ pub(crate) fn set_over<B: Blocks>(
     ensures put { IfOk result (λ put. All (InAreas areas.now) (put_of put)) }
     ensures below { IfOk result (λ put. All (λ n. n < (B.seen blocks.new).count) (put_of put)) }
     // Where the place was met it reads nothing, and what was met elsewhere stays.
-    ensures places { HasMetPlace (mets slots.old) place.now → OnOk result
-        (met_places (mets slots.new) ≡ met_places (mets slots.old)) }
+    ensures places { HasMetPlace (mets slots.old) place.now
+        → OnOk result (KeepsPlaces (mets slots.old) (mets slots.new)) }
     ensures reads { HasMetPlace (mets slots.old) place.now → IfErr result (λ fault. fault ≡ Write) }
     // It reads before it puts.
     ensures unread { IfErr result (λ fault. fault ≡ Read

@@ -24,7 +24,7 @@ use vr_types::{Blocks, DeviceFault, OutOfMemory, PartNo, Place, PlaceBuffer, Spa
 
 /// A key-sequenced part on blocks (DFSMS Using Data Sets, key-sequenced data sets): a chain of
 /// areas, each with a sequence-set record as its head and records in control intervals. It has the
-/// buffers that its calls need, so that none of them takes memory.
+/// buffers that its calls need, so that `keep_places` alone takes memory.
 #[derive(Drop)]
 pub struct Keyed {
     areas: Areas,
@@ -41,7 +41,7 @@ impl Model for Keyed {
     ghost use Rattle.vr_space.specs.Areas.{area_of};
     ghost use Rattle.vr_attach.specs.Areas.{AreWhole};
     ghost use Rattle.vr_keyed.specs.Owned.{IsMine, Owned};
-    ghost use Rattle.vr_keyed.specs.Slots.{AreSlotsOf, IsSlotOf, mets};
+    ghost use Rattle.vr_keyed.specs.Slots.{AreSlotsOf, IsSlotOf, mets, most_kept};
     ghost use Rattle.vr_keyed.specs.Lent.{HasRoomFor};
 
     ghost Value = { Owned };
@@ -54,6 +54,7 @@ impl Model for Keyed {
       split = keyed.splits.split;
       move = keyed.splits.move;
       met = mets keyed.slots;
+      most = most_kept keyed.slots;
       put = keyed.put.items;
     } };
 
@@ -89,8 +90,9 @@ pub(crate) fn empty_block(alloc: Global, size: u32) -> Result<Vec<u8>, OutOfMemo
     Ok(block)
 }
 
-/// A part with these areas, with no split under way and nothing met. `out` is a block of it. It
-/// fails only if memory runs out, and takes all that the part needs.
+/// A part with these areas, with no split under way, nothing met, and room to keep what it meets of
+/// two places. `out` is a block of it. It fails only if memory runs out, and takes all that the part
+/// needs.
 pub(crate) fn keyed_part(alloc: Global, areas: Areas, out: Vec<u8>) -> Result<Keyed, OutOfMemory>
     requires whole { AreWhole areas }
     requires out { length out.items ≡ areas.part.geometry.size }
@@ -102,6 +104,7 @@ pub(crate) fn keyed_part(alloc: Global, areas: Areas, out: Vec<u8>) -> Result<Ke
       split = None;
       move = None;
       met = [];
+      most = 2;
       put = [];
     }) }
 {
@@ -123,8 +126,8 @@ pub(crate) fn keyed_part(alloc: Global, areas: Areas, out: Vec<u8>) -> Result<Ke
 }
 
 /// A part that is new, of one area, whose head leads to one interval, and whose ranges go up to the
-/// greatest key: with no split under way, and nothing met. It reads nothing, and fails only if
-/// memory runs out.
+/// greatest key: with no split under way, nothing met, and room to keep what it meets of two places.
+/// It reads nothing, and fails only if memory runs out.
 pub fn new_part(alloc: Global, layout: KeyedLayout) -> Result<Keyed, OutOfMemory>
     ensures { IfOk result (λ keyed. keyed ≡ record {
       part = layout;
@@ -134,6 +137,7 @@ pub fn new_part(alloc: Global, layout: KeyedLayout) -> Result<Keyed, OutOfMemory
       split = None;
       move = None;
       met = [];
+      most = 2;
       put = [];
     }) }
 {
@@ -228,6 +232,12 @@ impl Part for Keyed {
         into: &mut PlaceBuffer,
     ) -> Result<bool, DeviceFault> {
         next_over(&mut self.spare, &self.areas, blocks, from, into)
+    }
+
+    fn keep_places(&mut self, alloc: Global, count: usize) -> Result<(), OutOfMemory> {
+        let layout = self.areas.layout();
+        let area = layout.area(layout.first);
+        self.slots.make_room(alloc, &area, count)
     }
 
     fn room<B: Blocks, K: Kept>(

@@ -1,19 +1,17 @@
 //! Meeting the interval of a place of an area: its range and what its block has.
-ghost use Rattle.std.specs.Prelude.{◌≡◌, ◌∷◌, IsTrue, false, All, length, take, IsOk, OnErr, OnOk};
+ghost use Rattle.std.specs.Prelude.{◌≡◌, IsTrue, false, All, length, IsOk, OnOk};
 ghost use Rattle.vr_types.specs.Image.{Image, block_at};
 ghost use Rattle.vr_types.specs.Blocks.{Keeps};
 ghost use Rattle.vr_types.specs.Faults.{HasCause};
 ghost use Rattle.vr_space.specs.AreaCalls.{IsAreaOn};
 ghost use Rattle.vr_space.specs.Keyed.{InArea, IsHead, Keyed};
-ghost use Rattle.vr_space.specs.Met.{IsMet};
 ghost use Rattle.vr_keyed.specs.Look.{HasEntry};
 ghost use Rattle.vr_keyed.specs.Slots.{AreSlotsOf, HasMetPlace, IsFirst, IsInside, IsLed, IsMetAt};
-ghost use Rattle.vr_keyed.specs.Slots.{IsNewlyMet, IsSlotOf, LeavesMet, MeetsAt, met_in, mets};
-ghost use Rattle.vr_keyed.specs.Slots.{others_met};
+ghost use Rattle.vr_keyed.specs.Slots.{IsNewlyMet, IsSlotOf, KeepsAll, LeavesMet, MeetsAt, met_in};
+ghost use Rattle.vr_keyed.specs.Slots.{mets, most_kept};
 
 use crate::slot::Slot;
 use crate::slots::Slots;
-use std::mem::swap;
 use vr_space::{Layout, entry_for};
 use vr_types::{Blocks, DeviceFault};
 
@@ -71,16 +69,13 @@ fn fill<B: Blocks>(
     Ok(())
 }
 
-/// Makes the interval of a place the one that was met last, if it is one of the two.
+/// Makes the interval of a place the one that was met last, if it is one of those that are kept.
 fn recall(slots: &mut Slots, place: &[u8]) -> bool
     ensures found { IsTrue result → IsFirst place.now slots.new }
-    ensures rest { IsTrue result
-        → mets slots.new ≡ met_in slots.new.first ∷ others_met place.now (mets slots.old) }
-    ensures inside { (part : Keyed) → All (IsInside part place.now) (mets slots.old)
-        → IsTrue result → InArea part slots.new.first.number }
-    ensures met { (part : Keyed) (image : Image)
-        → All (IsMetAt part image place.now) (mets slots.old)
-        → IsTrue result → IsMet part image (met_in slots.new.first) }
+    ensures kept { KeepsAll (mets slots.old) (mets slots.new) }
+    ensures among { KeepsAll (mets slots.new) (mets slots.old) }
+    ensures filled { slots.new.filled ≡ slots.old.filled }
+    ensures most { most_kept slots.new ≡ most_kept slots.old }
     ensures none { result ≡ false
         → (slots.new ≡ slots.old) × (HasMetPlace (mets slots.old) place.now → ⊥) }
     ensures room { (part : Keyed) → AreSlotsOf part slots.old → AreSlotsOf part slots.new }
@@ -88,14 +83,15 @@ fn recall(slots: &mut Slots, place: &[u8]) -> bool
     if slots.is_first(place) {
         return true;
     }
-    if !slots.is_second(place) {
+    let Some(i) = slots.find(place) else {
         return false;
-    }
-    swap(&mut slots.first, &mut slots.second);
+    };
+    slots.bring(i);
     true
 }
 
-/// Fills the second slot, and makes its interval the one that was met last.
+/// Fills a slot that has nothing yet, or else the last one, and makes its interval the one that was
+/// met last.
 fn read_in<B: Blocks>(
     slots: &mut Slots,
     layout: &Layout,
@@ -111,20 +107,22 @@ fn read_in<B: Blocks>(
     requires none { HasMetPlace (mets slots.old) place.now → ⊥ }
     ensures room { AreSlotsOf layout.now slots.new }
     ensures meets { OnOk result (MeetsAt layout.now B.tells (B.seen blocks.old).cur place.now
-        (mets slots.old) slots.new) }
-    ensures failed { OnErr result (mets slots.new ≡ take 1 (mets slots.old)) }
+        slots.old slots.new) }
+    ensures leaves { LeavesMet layout.now B.tells (B.seen blocks.old).cur place.now
+        (mets slots.old) (mets slots.new) }
     ensures keeps { Keeps B.tells (B.seen blocks.old) (B.seen blocks.new) }
     ensures cause { HasCause (B.faults blocks.old) (B.faults blocks.new) result }
 {
-    slots.filled = slots.filled.min(1);
-    fill(&mut slots.second, layout, blocks, place)?;
-    swap(&mut slots.first, &mut slots.second);
+    slots.filled = slots.filled.min(slots.more.len());
+    let i = slots.filled.max(1) - 1;
+    fill(&mut slots.more[i], layout, blocks, place)?;
+    slots.bring(i);
     slots.filled += 1;
     Ok(())
 }
 
-/// Makes the interval of a place the one that was met last. Where it is one of the two that were
-/// met, nothing is read; else the head and the interval are.
+/// Makes the interval of a place the one that was met last. Where it is one of those that are kept,
+/// nothing is read; else the head and the interval are.
 pub(crate) fn meet<B: Blocks>(
     slots: &mut Slots,
     layout: &Layout,
@@ -142,7 +140,7 @@ pub(crate) fn meet<B: Blocks>(
         → All (IsMetAt layout.now (B.seen blocks.old).cur place.now) (mets slots.old) }
     ensures room { AreSlotsOf layout.now slots.new }
     ensures meets { OnOk result (MeetsAt layout.now B.tells (B.seen blocks.old).cur place.now
-        (mets slots.old) slots.new) }
+        slots.old slots.new) }
     ensures leaves { LeavesMet layout.now B.tells (B.seen blocks.old).cur place.now
         (mets slots.old) (mets slots.new) }
     ensures known { HasMetPlace (mets slots.old) place.now → IsOk result }

@@ -248,7 +248,7 @@ pub(crate) fn room_at<B: Blocks, K: Kept>(
         (K.kept kept.now (area_part layout.now)) place.now longest) }
     ensures slots { AreSlotsOf layout.now slots.new }
     ensures meets { OnOk result (MeetsAt layout.now B.tells (B.seen blocks.old).cur place.now
-        (mets slots.old) slots.new) }
+        slots.old slots.new) }
     ensures leaves { LeavesMet layout.now B.tells (B.seen blocks.old).cur place.now
         (mets slots.old) (mets slots.new) }
     ensures room { HasRoomFor layout.now weights.new }

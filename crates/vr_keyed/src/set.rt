@@ -12,8 +12,8 @@ ghost use Rattle.vr_space.specs.Met.{IsMet, Met};
 ghost use Rattle.vr_space.specs.Split.{SplitNow};
 ghost use Rattle.vr_space.specs.Part.{given};
 ghost use Rattle.vr_keyed.specs.Look.{HasEntry};
-ghost use Rattle.vr_keyed.specs.Slots.{AreSlotsOf, HasMetPlace, IsFirst, IsInside, IsMetAt};
-ghost use Rattle.vr_keyed.specs.Slots.{IsSlotOf, LeavesMet, met_in, met_places, mets};
+ghost use Rattle.vr_keyed.specs.Slots.{AreSlotsOf, HasBytes, HasMetPlace, IsFirst, IsInside};
+ghost use Rattle.vr_keyed.specs.Slots.{IsMetAt, IsSlotOf, KeepsPlaces, LeavesMet, met_in, mets};
 ghost use Rattle.vr_keyed.specs.Ready.{IsReady, IsSetNow, MaySet, again, put_of, refreshed};
 
 use crate::meet::meet;
@@ -28,6 +28,7 @@ fn refresh_slot(slot: &mut Slot, number: u32, bytes: &[u8])
     requires { length bytes.now ≡ vec_len slot.old.bytes }
     ensures met { met_in slot.new ≡ refreshed number bytes.now (met_in slot.old) }
     ensures place { slot.new.place ≡ slot.old.place }
+    ensures size { vec_len slot.new.bytes ≡ vec_len slot.old.bytes }
     ensures slot { (part : Keyed) → IsSlotOf part slot.old → IsSlotOf part slot.new }
 {
     if slot.number == number {
@@ -35,16 +36,26 @@ fn refresh_slot(slot: &mut Slot, number: u32, bytes: &[u8])
     }
 }
 
-/// The same of both slots.
+/// The same of each of these slots.
+fn refresh_each(slots: &mut [Slot], number: u32, bytes: &[u8])
+    requires { All (HasBytes (length bytes.now)) slots.old }
+    ensures met { map met_in slots.new ≡ map (refreshed number bytes.now) (map met_in slots.old) }
+    ensures slots { (part : Keyed) → All (IsSlotOf part) slots.old → All (IsSlotOf part) slots.new }
+{
+    for slot in slots.iter_mut() {
+        refresh_slot(slot, number, bytes);
+    }
+}
+
+/// The same of all slots.
 fn refresh(slots: &mut Slots, number: u32, bytes: &[u8])
     requires first { length bytes.now ≡ vec_len slots.old.first.bytes }
-    requires second { length bytes.now ≡ vec_len slots.old.second.bytes }
+    requires more { All (HasBytes (length bytes.now)) slots.old.more.items }
     ensures met { mets slots.new ≡ map (refreshed number bytes.now) (mets slots.old) }
-    ensures filled { slots.new.filled ≡ slots.old.filled }
     ensures room { (part : Keyed) → AreSlotsOf part slots.old → AreSlotsOf part slots.new }
 {
     refresh_slot(&mut slots.first, number, bytes);
-    refresh_slot(&mut slots.second, number, bytes);
+    refresh_each(slots.more.as_mut_slice(), number, bytes);
 }
 
 /// Sets what is given at the place that was met last: by one put, and without a read. It answers
@@ -65,7 +76,6 @@ fn put_set<B: Blocks>(
     requires met { IsTrue B.tells
         → IsMet layout.now (B.seen blocks.old).cur (met_in slots.old.first) }
     ensures room { AreSlotsOf layout.now slots.new }
-    ensures filled { slots.new.filled ≡ slots.old.filled }
     ensures refreshed { IfOk result (λ put.
         mets slots.new ≡ map (again put out.new) (mets slots.old)) }
     ensures failed { OnErr result (mets slots.new ≡ mets slots.old) }
@@ -94,50 +104,6 @@ fn put_set<B: Blocks>(
     blocks.put(number, out)?;
     refresh(slots, number, out);
     Ok(Some(number))
-}
-
-/// The same where the place was met before the last: the slots change places for it.
-fn set_second<B: Blocks>(
-    slots: &mut Slots,
-    layout: &Layout,
-    blocks: &mut B,
-    out: &mut [u8],
-    place: &[u8],
-    bytes: Option<&[u8]>,
-) -> Result<Option<u32>, DeviceFault>
-    requires on { IsAreaOn layout.now (B.seen blocks.old) }
-    requires room { AreSlotsOf layout.now slots.old }
-    requires out { length out.old ≡ layout.now.size }
-    requires second { (slots.old.filled ≡ 2) × (slots.old.second.place.place ≡ place.now) }
-    requires inside { InArea layout.now slots.old.second.number }
-    requires met { IsTrue B.tells
-        → IsMet layout.now (B.seen blocks.old).cur (met_in slots.old.second) }
-    ensures room { AreSlotsOf layout.now slots.new }
-    ensures refreshed { IfOk result (λ put.
-        mets slots.new ≡ map (again put out.new) (mets slots.old)) }
-    ensures failed { OnErr result (mets slots.new ≡ mets slots.old) }
-    ensures may { IsTrue B.tells → (kept : Lengths) (split : Option SplitNow)
-        → IsReady layout.now kept split place.now (given bytes.entry) (B.seen blocks.old)
-        → MaySet layout.now kept place.now (given bytes.entry)
-        (B.seen blocks.old) (B.seen blocks.new) }
-    ensures done { IsTrue B.tells → IfOk result (λ put.
-        (kept : Lengths) (split : Option SplitNow)
-        → IsReady layout.now kept split place.now (given bytes.entry) (B.seen blocks.old)
-        → IsSetNow layout.now split (put_of put) place.now (given bytes.entry)
-        (B.seen blocks.old) (B.seen blocks.new)) }
-    ensures met { IsTrue B.tells → IfOk result (λ put. (kept : Lengths) (split : Option SplitNow)
-        → IsReady layout.now kept split place.now (given bytes.entry) (B.seen blocks.old)
-        → (met : Met) → IsMet layout.now (B.seen blocks.old).cur met
-        → IsMet layout.now (B.seen blocks.new).cur (again put out.new met)) }
-    ensures put { IfOk result (λ put. All (InArea layout.now) (put_of put)) }
-    ensures count { (B.seen blocks.new).count ≡ (B.seen blocks.old).count }
-    ensures size { (B.seen blocks.new).size ≡ (B.seen blocks.old).size }
-    ensures cause { HasWriteCause (B.faults blocks.old) (B.faults blocks.new) result }
-{
-    slots.turn();
-    let put = put_set(slots, layout, blocks, out, place, bytes);
-    slots.turn();
-    put
 }
 
 /// Makes what is given the record at the place, or takes the record there away: by one put, after
@@ -174,8 +140,8 @@ pub(crate) fn set<B: Blocks>(
         → IsReady layout.now kept split place.now (given bytes.entry) (B.seen blocks.old)
         → (met : Met) → IsMet layout.now (B.seen blocks.old).cur met
         → IsMet layout.now (B.seen blocks.new).cur (again put out.new met)) }
-    ensures places { HasMetPlace (mets slots.old) place.now → OnOk result
-        (met_places (mets slots.new) ≡ met_places (mets slots.old)) }
+    ensures places { HasMetPlace (mets slots.old) place.now
+        → OnOk result (KeepsPlaces (mets slots.old) (mets slots.new)) }
     ensures reads { HasMetPlace (mets slots.old) place.now → IfErr result (λ fault. fault ≡ Write) }
     ensures unread { IfErr result (λ fault. fault ≡ Read
         → Keeps B.tells (B.seen blocks.old) (B.seen blocks.new)) }
@@ -189,9 +155,6 @@ pub(crate) fn set<B: Blocks>(
     ensures size { (B.seen blocks.new).size ≡ (B.seen blocks.old).size }
     ensures cause { HasCause (B.faults blocks.old) (B.faults blocks.new) result }
 {
-    if slots.is_second(place) {
-        return set_second(slots, layout, blocks, out, place, bytes);
-    }
     meet(slots, layout, blocks, place)?;
     put_set(slots, layout, blocks, out, place, bytes)
 }

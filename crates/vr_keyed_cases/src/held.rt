@@ -91,6 +91,12 @@ impl Held {
         self.space.claim(PartNo(2))
     }
 
+    /// Makes room to keep what is met of this many places.
+    pub fn keep_places(&mut self, alloc: Global, count: usize) -> Answer {
+        self.part.keep_places(alloc, count)?;
+        Ok(())
+    }
+
     /// Whether a record of this length has room.
     pub fn room(&mut self, place: &Place, size: u32) -> Result<Room, DeviceFault>
         requires place { length place.now ≡ 8 }

@@ -57,6 +57,7 @@ fn ask(alloc: Global, held: &mut Held, verb: &str, rest: &str, out: &mut String)
         "areas" => areas(held, out),
         "claim" => claim(held, out),
         "keep" => keep(alloc, held, rest, out),
+        "places" => places(alloc, held, rest, out),
         _ => look(alloc, held, verb, rest, out),
     }
 }
@@ -89,6 +90,12 @@ fn device_call(held: &mut Held, verb: &str, rest: &str, out: &mut String) -> Ans
         }
         _ => Err(Stop::Line),
     }
+}
+
+/// Makes room to keep what is met of so many places: `places COUNT`.
+fn places(alloc: Global, held: &mut Held, rest: &str, out: &mut String) -> Answer {
+    held.keep_places(alloc, number(rest)? as usize)?;
+    say(out, "ok")
 }
 
 /// Keeps a record's length at a place: `keep KEY LENGTH`; or nothing: `keep`.

@@ -11,7 +11,8 @@ use Rattle.vr_history.specs.Change.{Change}
 use Rattle.vr_history.specs.Effects.{has_part, moves_file, changes, placed_in}
 use Rattle.vr_history.specs.State.{State}
 use Rattle.vr_model.specs.Endings.{kept_in, unheld_in, unheld_of, with_next}
-use Rattle.vr_model_state.specs.Seen.{content_in, position_in}
+use Rattle.vr_model_state.specs.Contents.{content_in}
+use Rattle.vr_model_state.specs.Seen.{position_in}
 use Rattle.vr_model.specs.Writes.{with_content, with_number, with_position}
 use Rattle.vr_model_state.specs.declared.state.FilePosition.{FilePosition}
 

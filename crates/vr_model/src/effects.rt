@@ -8,14 +8,15 @@ ghost use Rattle.vr_types.specs.Content.{item_at};
 ghost use Rattle.vr_types.specs.Locks.{same_unit};
 ghost use Rattle.vr_types.specs.Position.{unheld};
 ghost use Rattle.vr_model_state.specs.Items.{item_of};
-ghost use Rattle.vr_model_state.specs.Seen.{content_in, seen};
+ghost use Rattle.vr_model_state.specs.Seen.{seen};
 ghost use Rattle.vr_model.specs.Writes.{with_content, with_position};
 
 use std::alloc::Global;
+use std::mem::replace;
 use vr_model_change::{LogImage, PlaceChange, plus};
 use vr_model_state::{
-    FilePosition, FileState, HeldLock, KeptImage, LoggedPlace, OwnedArea, PartContent, PlacedItem,
-    Stored, content_of_part, copy_of_befores, copy_of_stored, is_kept, is_unit, item_in_slice,
+    Contents, FilePosition, FileState, HeldLock, KeptImage, LoggedPlace, OwnedArea, PartContent,
+    PlacedItem, Stored, copy_of_befores, copy_of_stored, is_kept, is_unit, item_in_slice,
     keeps_any, position_of_file, prepended, with_item_in_slice, without_item_in_slice,
 };
 use vr_types::{FileRef, LockName, Mode, OutOfMemory, Place, Position, Stand, Unit};
@@ -227,7 +228,7 @@ pub(crate) fn takes_locks(
     ensures { IfOk result (λ new. seen new ≡ effects.locks unit mode asked.now (seen state)) }
 {
     let mut state = state;
-    let held = std::mem::replace(&mut state.locks, Vec::new(alloc));
+    let held = replace(&mut state.locks, Vec::new(alloc));
     state.locks = with_locks(alloc, held, unit, mode, asked)?;
     Ok(state)
 }
@@ -252,11 +253,17 @@ fn placed_in(
 }
 
 /// The state with a content of one part.
-fn with_part(state: FileState, part: u32, content: PartContent) -> Result<FileState, OutOfMemory>
+fn with_part(
+    alloc: Global,
+    state: FileState,
+    part: u32,
+    content: PartContent,
+) -> Result<FileState, OutOfMemory>
     ensures { IfOk result (λ new. seen new ≡ with_content part content (seen state)) }
 {
     let mut state = state;
-    state.contents.insert(0, (part, content))?;
+    let contents = replace(&mut state.contents, Contents::empty(alloc));
+    state.contents = contents.with_part(alloc, part, content)?;
     Ok(state)
 }
 
@@ -269,8 +276,8 @@ pub(crate) fn changes(
 ) -> Result<FileState, OutOfMemory>
     ensures { IfOk result (λ new. seen new ≡ effects.changes change.now (seen state)) }
 {
-    let content = placed_in(alloc, change, content_of_part(&state.contents, change.part))?;
-    Ok(with_part(state, change.part, content)?)
+    let content = placed_in(alloc, change, state.content(change.part))?;
+    Ok(with_part(alloc, state, change.part, content)?)
 }
 
 /// What the unit keeps of a place that it changes.
@@ -282,7 +289,7 @@ fn image_kept(
 ) -> Result<KeptImage, OutOfMemory>
     ensures { IfOk result (λ kept. kept ≡ effects.image_kept (seen state.now) unit change.now) }
 {
-    let placed = content_of_part(&state.contents, change.part);
+    let placed = state.content(change.part);
     Ok(KeptImage {
         unit,
         part: change.part,

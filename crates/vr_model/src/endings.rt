@@ -5,15 +5,15 @@ ghost use Rattle.vr_catalog.specs.Catalog as catalogs;
 ghost use Rattle.vr_history.specs.Effects as effects;
 ghost use Rattle.vr_history.specs.Opened as files;
 ghost use Rattle.vr_model.specs.Endings as endings;
-ghost use Rattle.vr_model_state.specs.Seen.{content_in, number_in, seen};
+ghost use Rattle.vr_model_state.specs.Seen.{number_in, seen};
 ghost use Rattle.vr_model.specs.Writes.{with_number};
 
 use std::alloc::Global;
 use vr_catalog::{CatEntry, EntryKind};
 use vr_model_change::plus;
 use vr_model_state::{
-    FilePosition, FileState, HeldLock, KeptImage, LoggedPlace, OwnedArea, PartContent, catalog_of,
-    is_unit, number_of_deck, prepended,
+    Contents, FilePosition, FileState, HeldLock, KeptImage, LoggedPlace, OwnedArea, PartContent,
+    catalog_of, is_unit, number_of_deck, prepended,
 };
 use vr_types::{OutOfMemory, Position, Unit};
 
@@ -265,8 +265,8 @@ fn with_parts(alloc: Global, state: FileState, parts: &[u32]) -> Result<FileStat
     ensures { IfOk result (λ new. seen new ≡ endings.with_parts parts.now (seen state)) }
 {
     let mut state = state;
-    let contents = kept_contents(alloc, &state.contents, parts)?;
-    state.contents = contents;
+    let kept = kept_contents(alloc, state.contents.as_slice(), parts)?;
+    state.contents = Contents::of_parts(alloc, kept)?;
     Ok(state)
 }
 
@@ -317,8 +317,7 @@ fn parts_of(alloc: Global, state: &FileState) -> Result<Vec<u32>, OutOfMemory>
     ensures { IfOk result (λ parts.
         parts.items ≡ catalogs.parts_in (files.catalog_of (seen state.now))) }
 {
-    let entries = catalog_of(alloc, state)?;
-    Ok(parts_in(alloc, &entries)?)
+    Ok(parts_in(alloc, catalog_of(state))?)
 }
 
 /// The parts of the catalog that have areas.
@@ -326,8 +325,7 @@ fn laid_of(alloc: Global, state: &FileState) -> Result<Vec<u32>, OutOfMemory>
     ensures { IfOk result (λ parts.
         parts.items ≡ effects.parts_laid (files.catalog_of (seen state.now))) }
 {
-    let entries = catalog_of(alloc, state)?;
-    Ok(parts_laid(alloc, &entries)?)
+    Ok(parts_laid(alloc, catalog_of(state))?)
 }
 
 /// What the catalog hasn't goes, once no unit of the utilities is live.

@@ -15,6 +15,6 @@ mod steps;
 pub use legal::{are_steps, is_legal};
 pub use machine::apply;
 pub use vr_model_state::{
-    FilePosition, FileState, HeldLock, KeptImage, LoggedPlace, OwnedArea, PartContent, PlacedItem,
-    Shape, Stored,
+    Contents, FilePosition, FileState, HeldLock, KeptImage, LoggedPlace, OwnedArea, PartContent,
+    PlacedItem, Shape, Stored,
 };

@@ -8,7 +8,7 @@ ghost use Rattle.vr_history.specs.LogSpace as space;
 ghost use Rattle.vr_history.specs.Names as names;
 ghost use Rattle.vr_history.specs.Step as steps;
 ghost use Rattle.vr_model_state.specs.Items.{item_of};
-ghost use Rattle.vr_model_state.specs.Seen.{case_in, content_in, seen};
+ghost use Rattle.vr_model_state.specs.Seen.{case_in, seen};
 
 use crate::effects::{
     changes, drops_held, holds_at, keeps_before, last_kept, logs, stands_at, takes_locks, takes_out,
@@ -19,8 +19,7 @@ use vr_model_change::{
     PlaceChange, change_of, found, length_of, lock_names, log_need, new_images, place_read,
 };
 use vr_model_state::{
-    FileState, KeptImage, Stored, catalog_of, content_of_part, definition_of, file_of,
-    item_in_slice,
+    FileState, KeptImage, Stored, catalog_of, definition_of, file_of, item_in_slice,
 };
 use vr_types::{
     FileRef, Find, Integrity, Kind, Mode, OutOfMemory, Place, Refusal, Reply, Request, Stand, Unit,
@@ -365,11 +364,10 @@ fn withdrawn_at(
     ensures { IfOk result (λ new.
         option_map item_of new ≡ steps.put_back (seen state.now) kept.now None) }
 {
-    let entries = catalog_of(alloc, state)?;
-    match definition_of(&entries, kept.part) {
+    match definition_of(catalog_of(state), kept.part) {
         None => Ok(None),
         Some(definition) => {
-            let placed = content_of_part(&state.contents, kept.part);
+            let placed = state.content(kept.part);
             Ok(withdrawn_by(definition.kind, item_in_slice(placed, &kept.place)))
         }
     }

@@ -8,7 +8,7 @@ use vr_catalog::{
     CatEntry, EntryKind, FreeSpace, RECORD_LENGTH, ShareOptions, SpaceUnit, write_entry,
 };
 use vr_history::Entry;
-use vr_model::{FileState, OwnedArea, PartContent, PlacedItem, Stored};
+use vr_model::{Contents, FileState, OwnedArea, PartContent, PlacedItem, Stored};
 use vr_types::{AreaNo, Bytes, Geometry, Kind, NAME_LIMIT, NameFault, PartNo, Place, dataset_name};
 
 /// A volume as it was opened, the entries that were taken since, as it stands, and what the next
@@ -34,9 +34,9 @@ impl ModelDesk {
             area: 7,
         };
         ModelDesk {
-            opening: FileState::opening(alloc, geometry, Vec::new(alloc), Vec::new(alloc)),
+            opening: FileState::opening(alloc, geometry, Contents::empty(alloc), Vec::new(alloc)),
             entries: Vec::new(alloc),
-            state: FileState::opening(alloc, geometry, Vec::new(alloc), Vec::new(alloc)),
+            state: FileState::opening(alloc, geometry, Contents::empty(alloc), Vec::new(alloc)),
             stamp: 1,
             geometry,
             contents: Vec::new(alloc),
@@ -69,6 +69,7 @@ impl ModelDesk {
             return Err(Stop::Line);
         }
         let contents = replace(&mut self.contents, Vec::new(alloc));
+        let contents = Contents::of_parts(alloc, contents)?;
         let owned = replace(&mut self.owned, Vec::new(alloc));
         self.opening = FileState::opening(alloc, geometry, contents, owned);
         self.entries.clear();

@@ -8,7 +8,7 @@ ghost use Rattle.vr_history.specs.Case as cases;
 ghost use Rattle.vr_history.specs.Change as moves;
 ghost use Rattle.vr_history.specs.Opened as files;
 ghost use Rattle.vr_model_state.specs.Items.{item_of};
-ghost use Rattle.vr_model_state.specs.Seen.{case_in, content_in, seen};
+ghost use Rattle.vr_model_state.specs.Seen.{case_in, seen};
 
 use crate::address::{next_address, place_of_number};
 use crate::finding::{field_of, first_bytes};
@@ -16,8 +16,8 @@ use std::alloc::Global;
 use std::marker::Model;
 use vr_catalog::Definition;
 use vr_model_state::{
-    AlternateIndex, FileState, Stored, base_of, built_over, content_of_part, definition_in,
-    dropped, is_add, new_record, opened, prepended, record_in_slice,
+    AlternateIndex, FileState, Stored, base_of, built_over, definition_in, dropped, is_add,
+    new_record, opened, prepended, record_in_slice,
 };
 use vr_types::{Bytes, Kind, OutOfMemory, Place, Request, Unit, bytes, place};
 
@@ -56,7 +56,7 @@ fn place_added(
     match definition.kind {
         Kind::Keyed => Ok(place(alloc, key_of(definition, bytes.as_slice()))?),
         Kind::Entry => {
-            let placed = content_of_part(&state.contents, base_of(request));
+            let placed = state.content(base_of(request));
             let address = next_address(state.shape.size(), placed, bytes.len() as u64)?;
             Ok(place_of_number(alloc, address)?)
         }
@@ -167,10 +167,10 @@ pub fn change_of(
 
 /// The record at a place of the base cluster.
 pub fn record_held<'a>(state: &'a FileState, request: &Request, place: &Place) -> Option<&'a [u8]>
-    ensures { option_copied result ≡ record_at (content_in state.now.contents.items
+    ensures { option_copied result ≡ record_at ((seen state.now).contents
         (option_map_or (λ file. file.base.0) (cases.file_of request.now) 0)) place.now }
 {
-    record_in_slice(content_of_part(&state.contents, base_of(request)), place)
+    record_in_slice(state.content(base_of(request)), place)
 }
 
 /// A copy of bytes that there may be.

@@ -9,13 +9,13 @@ ghost use Rattle.vr_history.specs.Found as founds;
 ghost use Rattle.vr_types.specs.Locks.{same_unit};
 ghost use Rattle.vr_model_state.specs.Items.{item_of};
 ghost use Rattle.vr_model_state.specs.OpenedFiles.{as_opened};
-ghost use Rattle.vr_model_state.specs.Seen.{case_in, content_in, seen};
+ghost use Rattle.vr_model_state.specs.Seen.{case_in, seen};
 
 use std::alloc::Global;
 use std::marker::Model;
 use vr_model_state::{
-    AlternateIndex, FileState, KeptImage, OpenedFile, PlacedItem, Stored, base_of, content_of_part,
-    find_of, is_unit, opened, prepended, sees_kept, stand_of,
+    AlternateIndex, FileState, KeptImage, OpenedFile, PlacedItem, Stored, base_of, find_of,
+    is_unit, opened, prepended, sees_kept, stand_of,
 };
 use vr_types::{Bytes, Find, OutOfMemory, Place, Request, Stand, Unit, bytes};
 
@@ -136,7 +136,7 @@ fn seen_records(
         records.items ≡ founds.seen_by (cases.sees_kept request.now) asked) }
 {
     let base = base_of(request);
-    let standing = records_in(alloc, content_of_part(&state.contents, base))?;
+    let standing = records_in(alloc, state.content(base))?;
     if sees_kept(request) {
         let kept = kept_by_others(alloc, unit, base, &state.befores)?;
         Ok(joined(standing, kept)?)

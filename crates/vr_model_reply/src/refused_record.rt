@@ -19,8 +19,8 @@ use vr_model_change::{
     old_record, pair_moves, place_changed, place_read, record_held, records_in,
 };
 use vr_model_state::{
-    FileState, HeldLock, OpenedFile, acts_on_held, base_of, content_of_part, dropped, is_add,
-    mode_asked, opened, stand_of,
+    FileState, HeldLock, OpenedFile, acts_on_held, base_of, dropped, is_add, mode_asked, opened,
+    stand_of,
 };
 use vr_types::{Bytes, Find, Kind, OutOfMemory, PartNo, Place, Refusal, Request, Stand, Unit};
 
@@ -445,7 +445,7 @@ pub(crate) fn is_taken(
     match &moved.taken {
         None => Ok(false),
         Some(key) => {
-            let placed = content_of_part(&state.contents, base_of(request));
+            let placed = state.content(base_of(request));
             let records = records_in(alloc, placed)?;
             let taken = any_has_key(alloc, moved, key, &records)?;
             Ok(taken)

@@ -23,7 +23,7 @@ use vr_model_change::{
     FoundRecord, KeyMove, candidates_in, found, joined, key_of_pair, pair_moves, place_changed,
     place_read, records_in,
 };
-use vr_model_state::{AlternateIndex, FileState, OpenedFile, base_of, content_of_part, opened};
+use vr_model_state::{AlternateIndex, FileState, OpenedFile, base_of, opened};
 use vr_types::{OutOfMemory, Place, Refusal, Reply, Request, Unit};
 
 /// The first of some refusals that has its cause.
@@ -176,7 +176,7 @@ fn pairs_seen(
         ≡ replies.pairs_seen (case_in state.now unit request.now)) }
 {
     let opened = opened(alloc, state, unit, request)?;
-    let records = records_in(alloc, content_of_part(&state.contents, base_of(request)))?;
+    let records = records_in(alloc, state.content(base_of(request)))?;
     let all = candidates_in(alloc, &opened, &records)?;
     Ok(all)
 }

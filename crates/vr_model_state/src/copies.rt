@@ -2,7 +2,7 @@
 ghost use Rattle.std.specs.Prelude.{◌≡◌, [], ◌∷◌, IfOk};
 ghost use Rattle.vr_model_state.specs.Seen.{seen};
 
-use crate::content::{PartContent, prepended};
+use crate::content::prepended;
 use crate::state::{FilePosition, FileState, HeldLock, KeptImage, LoggedPlace, OwnedArea};
 use std::alloc::Global;
 use vr_types::OutOfMemory;
@@ -15,7 +15,7 @@ impl FileState {
     {
         Ok(FileState {
             shape: self.shape.copy(),
-            contents: copy_of_contents(alloc, &self.contents)?,
+            contents: self.contents.copy(alloc)?,
             locks: copy_of_locks(alloc, &self.locks)?,
             befores: copy_of_befores(alloc, &self.befores)?,
             logged: copy_of_logged(alloc, &self.logged)?,
@@ -25,21 +25,6 @@ impl FileState {
             owned: copy_of_owned(alloc, &self.owned)?,
             stopped: self.stopped,
         })
-    }
-}
-
-fn copy_of_contents(
-    alloc: Global,
-    from: &[(u32, PartContent)],
-) -> Result<Vec<(u32, PartContent)>, OutOfMemory>
-    ensures { IfOk result (λ copy. copy.items ≡ from.now) }
-{
-    match from {
-        [] => Ok(Vec::new(alloc)),
-        [first, rest @ ..] => {
-            let others = copy_of_contents(alloc, rest)?;
-            Ok(prepended((first.0, first.1.copy(alloc)?), others)?)
-        }
     }
 }
 

@@ -6,6 +6,7 @@
 #![tactic(auto)]
 
 mod content;
+mod contents;
 mod copies;
 mod look;
 mod opened_file;
@@ -18,10 +19,11 @@ pub use content::{
     PartContent, PlacedItem, Stored, item_in_slice, prepended, record_in_slice, with_item_in_slice,
     without_item_in_slice,
 };
+pub use contents::Contents;
 pub use copies::copy_of_befores;
 pub use look::{
-    areas_of, content_of_part, dropped, is_kept, is_live, is_logged, is_unit, keeps_any,
-    number_of_deck, position_of_file, stand_of,
+    areas_of, dropped, is_kept, is_live, is_logged, is_unit, keeps_any, number_of_deck,
+    position_of_file, stand_of,
 };
 pub use opened_file::{
     AlternateIndex, OpenedFile, built_over, catalog_of, definition_in, definition_of, opened,

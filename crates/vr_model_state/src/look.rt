@@ -8,9 +8,9 @@ ghost use Rattle.vr_history.specs.Case as cases;
 ghost use Rattle.vr_history.specs.Found as founds;
 ghost use Rattle.vr_types.specs.Locks.{same_unit};
 ghost use Rattle.vr_model_state.specs.Items.{item_of};
-ghost use Rattle.vr_model_state.specs.Seen.{case_in, content_in, number_in, position_in, seen};
+ghost use Rattle.vr_model_state.specs.Seen.{case_in, number_in, position_in, seen};
 
-use crate::content::{PartContent, PlacedItem, Stored, item_in_slice};
+use crate::content::{PlacedItem, Stored, item_in_slice};
 use crate::request::file_of;
 use crate::state::{FilePosition, FileState, KeptImage, LoggedPlace, OwnedArea};
 use std::alloc::Global;
@@ -21,7 +21,7 @@ impl FileState {
     pub fn content(&self, part: u32) -> &[PlacedItem]
         ensures { result.now ≡ (seen self.now).contents part }
     {
-        content_of_part(&self.contents, part)
+        self.contents.of_part(part)
     }
 
     /// What stands at a place of a part.
@@ -44,22 +44,6 @@ impl FileState {
         ensures { result ≡ (seen self.now).numbers deck }
     {
         number_of_deck(&self.numbers, deck)
-    }
-}
-
-/// The content of a part.
-pub fn content_of_part(contents: &[(u32, PartContent)], part: u32) -> &[PlacedItem]
-    ensures { result.now ≡ content_in contents.now part }
-{
-    match contents {
-        [] => &[],
-        [first, rest @ ..] => {
-            if part == first.0 {
-                first.1.as_slice()
-            } else {
-                content_of_part(rest, part)
-            }
-        }
     }
 }
 

@@ -2,9 +2,10 @@
 ghost use Rattle.std.specs.Prelude.{◌≡◌};
 ghost use Rattle.vr_types.specs.Geometry.{IsAllowed};
 ghost use Rattle.vr_history.specs.State.{opening_state};
-ghost use Rattle.vr_model_state.specs.Seen.{content_in, seen};
+ghost use Rattle.vr_model_state.specs.Contents.{content_in};
+ghost use Rattle.vr_model_state.specs.Seen.{seen};
 
-use crate::content::PartContent;
+use crate::contents::Contents;
 use crate::shape::Shape;
 use crate::state::{FileState, OwnedArea};
 use std::alloc::Global;
@@ -16,12 +17,12 @@ impl FileState {
     pub fn opening(
         alloc: Global,
         geometry: Geometry,
-        contents: Vec<(u32, PartContent)>,
+        contents: Contents,
         owned: Vec<OwnedArea>,
     ) -> FileState
         requires { IsAllowed geometry }
         ensures shape { result.shape ≡ geometry }
-        ensures state { seen result ≡ opening_state (content_in contents.items) owned.items }
+        ensures state { seen result ≡ opening_state (content_in contents) owned.items }
     {
         FileState {
             shape: Shape::new(geometry),

@@ -3,7 +3,8 @@ ghost use Rattle.std.specs.Prelude.{◌≡◌, ℕ, ◌∷◌, [], List, Bool, I
 ghost use Rattle.std.specs.Option.{option_copied, option_map};
 ghost use Rattle.vr_model_state.specs.Items.{item_of};
 
-use crate::content::{PartContent, Stored, prepended};
+use crate::content::Stored;
+use crate::contents::Contents;
 use crate::shape::Shape;
 use std::alloc::Global;
 use std::marker::Model;
@@ -176,7 +177,7 @@ impl FilePosition {
 #[derive(Drop)]
 pub struct FileState {
     pub shape: Shape,
-    pub contents: Vec<(u32, PartContent)>,
+    pub contents: Contents,
     pub locks: Vec<HeldLock>,
     pub befores: Vec<KeptImage>,
     pub logged: Vec<LoggedPlace>,

@@ -15,12 +15,13 @@ IsFirst (KeyedShape part) now = IsFirstArea (area_of part part.first) now
 IsFirst (NumberedShape part) now = IsFirstRoster part now
 
 -- what it keeps in memory: that area alone, whose ranges go up to the greatest key, and whose head
--- leads to one interval
+-- leads to one interval; it has met nothing, and may keep two places
 abbrev pub known_first : Shape → Known
 known_first (KeyedShape part) = record {
   split = None;
   move = None;
   met = [];
+  most = 2;
   areas = part.first ∷ [];
   ends = replicate part.key 255 ∷ [];
   used = 1;
@@ -31,6 +32,7 @@ known_first (NumberedShape part) = record {
   split = None;
   move = None;
   met = [];
+  most = 2;
   areas = part.first ∷ [];
   ends = [];
   used = 0;

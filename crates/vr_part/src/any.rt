@@ -6,10 +6,11 @@ ghost use Rattle.vr_space.specs.Part.{HasRoom, IsOn, IsPlaceOf, IsRecordOf, Know
 ghost use Rattle.vr_space.specs.Part.{given, part_no};
 ghost use Rattle.vr_part.specs.Any.{known_any, shape_any};
 
+use std::alloc::Global;
 use vr_chained::Chained;
 use vr_keyed::Keyed;
 use vr_space::{Kept, Part, Room, Whence};
-use vr_types::{Blocks, DeviceFault, PartNo, Place, PlaceBuffer, Space, StageKind};
+use vr_types::{Blocks, DeviceFault, OutOfMemory, PartNo, Place, PlaceBuffer, Space, StageKind};
 
 /// A part of a volume, of any kind that one may hold (DFSMS Using Data Sets: key-sequenced,
 /// entry-sequenced and relative record data sets).
@@ -100,6 +101,13 @@ impl Part for AnyPart {
         match self {
             AnyPart::Keyed(part) => part.next(blocks, from, into),
             AnyPart::Chained(part) => part.next(blocks, from, into),
+        }
+    }
+
+    fn keep_places(&mut self, alloc: Global, count: usize) -> Result<(), OutOfMemory> {
+        match self {
+            AnyPart::Keyed(part) => part.keep_places(alloc, count),
+            AnyPart::Chained(part) => part.keep_places(alloc, count),
         }
     }
 

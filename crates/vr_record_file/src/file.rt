@@ -131,21 +131,21 @@ impl RecordFile {
         self.history
     }
 
-    /// Makes room for six entries and one more file. It fails only if memory runs out. All else
-    /// stays, whatever the answer.
-    pub fn reserve(&mut self) -> Result<(), OutOfMemory>
+    /// Makes room for this many entries and one more file. It fails only if memory runs out. All
+    /// else stays, whatever the answer.
+    pub fn reserve(&mut self, entries: usize) -> Result<(), OutOfMemory>
         ensures same { self.new ≡ record self.old {
           room = self.new.room;
           files_room = self.new.files_room;
         } }
-        ensures room { OnOk result (6 ≤ self.new.room) }
+        ensures room { OnOk result (entries ≤ self.new.room) }
         ensures files_room { OnOk result (0 < self.new.files_room) }
         ensures room_kept { self.old.room ≤ self.new.room }
         ensures files_room_kept { self.old.files_room ≤ self.new.files_room }
         ensures state { (opening : State) → IsStateOf opening self.old
             → IsStateOf opening self.new }
     {
-        self.history.reserve(6)?;
+        self.history.reserve(entries)?;
         self.positions.reserve()?;
         Ok(())
     }

@@ -116,7 +116,7 @@ fn renew<B: Blocks>(alloc: Global, blocks: &mut B, log: &mut UndoLog) -> Result<
 {
     match log.renew(alloc, blocks) {
         Ok(()) => Ok(()),
-        Err(LogReadNo::Damaged { .. }) => Err(OpenNo::Memory),
+        Err(LogReadNo::Damaged { .. }) => unreachable!("renewing finds no damage"),
         Err(LogReadNo::Fault(DeviceFault::Read)) => Err(OpenNo::Read),
         Err(LogReadNo::Fault(DeviceFault::Write)) => Err(OpenNo::Write),
         Err(LogReadNo::Memory) => Err(OpenNo::Memory),

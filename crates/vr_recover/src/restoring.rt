@@ -63,7 +63,7 @@ fn clear<B: Blocks>(
 {
     match clear_past(alloc, blocks, geometry, content) {
         Ok(()) => Ok(()),
-        Err(LogReadNo::Damaged { .. }) => Err(OpenNo::Memory),
+        Err(LogReadNo::Damaged { .. }) => unreachable!("clearing finds no damage"),
         Err(LogReadNo::Fault(DeviceFault::Read)) => Err(OpenNo::Read),
         Err(LogReadNo::Fault(DeviceFault::Write)) => Err(OpenNo::Write),
         Err(LogReadNo::Memory) => Err(OpenNo::Memory),

@@ -20,9 +20,7 @@ pub(crate) fn bare_table(alloc: Global) -> Result<Table, AllocError>
 {
     let mut table = LruCache::new(alloc, NonZeroUsize::new(64).unwrap())?;
     for number in 0..64 {
-        if table.put(number, Place::Bare).is_err() {
-            return Err(AllocError);
-        }
+        table.put(number, Place::Bare)?;
     }
     Ok(table)
 }

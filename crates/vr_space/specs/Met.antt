@@ -1,7 +1,6 @@
 -- What a part keeps of the blocks that its last calls of `room` met, so that `set` at one of their
 -- places reads nothing. The rules are this project's own.
-use Rattle.std.specs.Prelude.{◌≡◌, ℕ, List, ◌∷◌, Some, take}
-use Rattle.std.specs.Prelude.{filter, not, bytes_eq}
+use Rattle.std.specs.Prelude.{◌≡◌, ℕ, List, Some}
 use Rattle.vr_types.specs.Image.{Block, Image, block_at}
 use Rattle.vr_seqset.specs.Entry.{Entry}
 use Rattle.vr_space.specs.Room.{Range}
@@ -27,8 +26,3 @@ pub record IsChainMet (part : KeyedChain) (image : Image) (met : Met) : Type 0 w
   pub area : ℕ
   pub there : area_for part image met.place ≡ Some area
   pub is_met : IsMet (area_of part area) image met
-
--- the places after another was met: that one, and the last before it
-abbrev pub met_next : List (List ℕ) → List ℕ → List (List ℕ)
-met_next places place =
-    place ∷ take 1 (filter (λ (other : List ℕ). not (bytes_eq other place)) places)

@@ -1,5 +1,6 @@
 //! The contract of every part of a volume.
-ghost use Rattle.std.specs.Prelude.{◌≡◌, ◌<◌, ◌≤◌, ℕ, List, Option, [], None, Some, IsTrue, length};
+ghost use Rattle.std.specs.Prelude.{◌≡◌, ◌⊎◌, ◌<◌, ◌≤◌, ℕ, List, Option, [], None, Some, IsTrue};
+ghost use Rattle.std.specs.Prelude.{length};
 ghost use Rattle.std.specs.Prelude.{IfOk, OnOk, IfErr, OnErr, MatchOption, All};
 ghost use Rattle.std.specs.Borrow.{sem};
 ghost use Rattle.std.specs.Io.BufRead.{Rests};
@@ -10,8 +11,7 @@ ghost use Rattle.vr_types.specs.Space.{free_count};
 ghost use Rattle.vr_types.specs.declared.fault.DeviceFault.TheVariants.{Read, Write};
 ghost use Rattle.vr_types.specs.declared.unit.StageKind.{StageKind};
 ghost use Rattle.vr_space.specs.declared.room.Room.TheVariants as answers;
-ghost use Rattle.vr_space.specs.Known.{Known, HasMet, places_met};
-ghost use Rattle.vr_space.specs.Met.{met_next};
+ghost use Rattle.vr_space.specs.Known.{Known, HasMet, KeepsMet, MeetsPlace};
 ghost use Rattle.vr_space.specs.Owners.{Owners};
 ghost use Rattle.vr_space.specs.Part.{
   Shape,
@@ -58,11 +58,12 @@ ghost use Rattle.vr_space.specs.Part.{
 use crate::kept::Kept;
 use crate::room::Room;
 use crate::whence::Whence;
-use vr_types::{Blocks, DeviceFault, Place, PlaceBuffer, Space, StageKind};
+use std::alloc::Global;
+use vr_types::{Blocks, DeviceFault, OutOfMemory, Place, PlaceBuffer, Space, StageKind};
 
 /// Records at ascending places, on blocks. Where the device reports its contents, a clause names
-/// the record at a place, what a crash may leave there, and what a call adds to that. No call takes
-/// memory.
+/// the record at a place, what a crash may leave there, and what a call adds to that. Only
+/// `keep_places` takes memory.
 pub trait Part {
     /// Where the part is on its blocks, and how they are spelled.
     ghost shape: { Self → Shape };
@@ -115,6 +116,17 @@ pub trait Part {
         ensures known { known self.new ≡ known self.old }
         ensures put { put self.new ≡ put self.old };
 
+    /// Forgets what it met, and makes room to keep what it will meet at this many places: as many
+    /// calls of `room` and then of `set` at them read each block once. It reads nothing.
+    fn keep_places(&mut self, alloc: Global, count: usize) -> Result<(), OutOfMemory>
+        ensures known { known self.new
+            ≡ record (known self.old) { met = (known self.new).met; most = (known self.new).most } }
+        ensures forgets { (known self.new).met ≡ (known self.old).met ⊎ (known self.new).met ≡ [] }
+        ensures none { OnOk result ((known self.new).met ≡ []) }
+        ensures most { OnOk result (count ≤ (known self.new).most) }
+        ensures shape { shape self.new ≡ shape self.old }
+        ensures put { put self.new ≡ put self.old };
+
     /// Whether a record of this length has room at the place, beside what stands there and what is
     /// kept. The part keeps what it met, so that `set` at the place reads nothing.
     fn room<B: Blocks, K: Kept>(
@@ -138,8 +150,7 @@ pub trait Part {
             (free_count space.now) (K.kept kept.now (part_no (shape self.old))) place.now length) }
         ensures knows { IsTrue B.tells → Knows (shape self.old) (known self.new)
             (B.seen blocks.new) }
-        ensures met { OnOk result
-            (places_met (known self.new) ≡ met_next (places_met (known self.old)) place.now) }
+        ensures met { OnOk result (MeetsPlace place.now (known self.old) (known self.new)) }
         ensures keeps { Keeps B.tells (B.seen blocks.old) (B.seen blocks.new) }
         ensures cause { HasCause (B.faults blocks.old) (B.faults blocks.new) result }
         ensures shape { shape self.new ≡ shape self.old }
@@ -283,8 +294,8 @@ pub trait Part {
         ensures knows { IsTrue B.tells → OnOk result
             (Knows (shape self.old) (known self.new) (B.seen blocks.new)) }
         // Where `room` met the place it reads nothing, and what it met elsewhere stays.
-        ensures met { HasMet (known self.old) place.now → OnOk result
-            (places_met (known self.new) ≡ places_met (known self.old)) }
+        ensures met { HasMet (known self.old) place.now
+            → OnOk result (KeepsMet (known self.old) (known self.new)) }
         ensures reads { HasMet (known self.old) place.now → IfErr result (λ fault. fault ≡ Write) }
         // It reads before it puts.
         ensures unread { IfErr result (λ fault. fault ≡ Read

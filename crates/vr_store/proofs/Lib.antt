@@ -14,6 +14,7 @@ pub mod CatalogParts
 pub mod NobodysBlocks
 pub mod Definitions
 pub mod Recorded
+pub mod Forgotten
 pub mod Rooms
 pub mod Kept
 pub mod SetRecords
@@ -31,7 +32,6 @@ pub mod EntryParts
 pub mod EntryAreas
 pub mod ChangedEntries
 pub mod ManyChanges
-pub mod OneChange
 pub mod Idle
 pub mod StagesLeft
 pub mod CallerLemmas

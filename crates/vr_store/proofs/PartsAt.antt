@@ -85,6 +85,7 @@ part-met number shape split move areas used = part-of number shape (record {
   split = split;
   move = move;
   met = [];
+  most = 0;
   areas = areas;
   ends = [];
   used = used;

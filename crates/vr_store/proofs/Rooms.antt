@@ -3,7 +3,6 @@ use Rattle.std.proofs.Common.{◌≡◌, ◌≢◌, inl, inr, ⊎_elim, ℕ, Boo
 use Rattle.std.proofs.Common.{None, Some, refl, sym, ap, subst, ◌∙◌, arith, if◌then◌else◌, ◌||◌}
 use Rattle.std.proofs.Common.{nat_eq}
 use Rattle.std.specs.Prelude.{IfSome, option_map, slice_index}
-use Rattle.std.specs.List.{Contains}
 use Rattle.std.proofs.lemmas.Bool.{true≢false}
 use Rattle.vr_types.specs.Image.{Image}
 use Rattle.vr_types.specs.Space.{free_count}
@@ -16,10 +15,9 @@ use Rattle.vr_seqset.specs.Entry.{Entry}
 use Rattle.vr_space.specs.Areas.{KeyedChain, area_for, area_of, head_in}
 use Rattle.vr_space.specs.Entries.{Tail}
 use Rattle.vr_space.specs.Keyed.{entry_in}
-use Rattle.vr_space.specs.Known.{HasMet, Known, places_met}
+use Rattle.vr_space.specs.Known.{Known}
 use Rattle.vr_space.specs.Moves.{IsAreaStage, IsPastClaim, IsPastClaimStage}
 use Rattle.vr_space.specs.Numbered.{numbered_room}
-use Rattle.vr_space.specs.Met.{met_next}
 use Rattle.vr_space.specs.Part.{IsStageDue, IsStageOf, IsUnderWay, KeyedShape, NumberedShape}
 use Rattle.vr_space.specs.Part.{OwnersAfter, Shape, part_no, room_of, stage_of}
 use Rattle.vr_space.proofs.CallerLemmas.{interval-owners, room-no-stage, room-stage}
@@ -111,16 +109,6 @@ room-still old new number before after a b found there shapes splits moves tails
     room_by before.shape before.known a s new.undo number place n) spaces
     ∙ ap (λ (u : List KeptRecord). room_by before.shape before.known a old.space u number place n)
     undos))
-
-contains-first : (place : List ℕ) (places : List (List ℕ)) → Contains (place ∷ places) place
-contains-first place places = (0, omega arith, refl)
-
--- a place that was asked for is met
-pub met-first : (known now : Known) (place : List ℕ)
-    → places_met now ≡ met_next (places_met known) place → HasMet now place
-met-first known now place is =
-    subst (λ (places : List (List ℕ)). Contains places place) (sym is)
-    (contains-first place _)
 
 -- ---- where an area is to be claimed first
 

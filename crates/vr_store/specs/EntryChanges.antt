@@ -2,7 +2,7 @@
 -- Commands, ALTER and DELETE, for what is there once the command is done): records of entries are
 -- added, replaced and taken away, and a part of theirs is no longer laid and its areas are free. That
 -- all of it is one event, by a unit of recovery that ends in it, is this project's own rule.
-use Rattle.std.specs.Prelude.{◌≡◌, ℕ, All, IfSome, List, [], map, Option, Some}
+use Rattle.std.specs.Prelude.{◌≡◌, ℕ, All, IfSome, List, [], map, Option}
 use Rattle.std.specs.Option.{option_map}
 use Rattle.vr_types.specs.Content.{Standing, item_at}
 use Rattle.vr_types.specs.Image.{Image}
@@ -22,10 +22,6 @@ use Rattle.vr_volume.specs.Rests.{RestsPastLog}
 use Rattle.vr_volume.specs.declared.setting.EntryChange.{EntryChange}
 use Rattle.vr_store.specs.EntryChange.{number_gone}
 use Rattle.vr_store.specs.Store.{IsStored, PartNow, StoreNow, part_among}
-
--- the change of a record that stands at a place
-abbrev pub one_of : List ℕ → List ℕ → Option (List ℕ) → EntryChange
-one_of place before bytes = record { place = place; before = Some before; bytes = bytes }
 
 -- what the before-images of all of them take of the log
 abbrev pub entries_need : LogNow → UnitOfRecovery → List EntryChange → ℕ

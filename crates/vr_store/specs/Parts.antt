@@ -1,9 +1,8 @@
 -- The parts of a volume by their numbers, and what a call that works on one of them leaves of the
 -- others. The rules are this project's own.
-use Rattle.std.specs.Prelude.{◌≡◌, ◌≢◌, ℕ, cond, List, [], ◌∷◌, map, None, IfSome}
+use Rattle.std.specs.Prelude.{◌≡◌, ◌≢◌, ℕ, ◌≤◌, cond, List, [], ◌∷◌, map, None, IfSome, ◌⊎◌}
 use Rattle.vr_types.specs.declared.unit.StageKind.{StageKind}
-use Rattle.vr_space.specs.Known.{places_met}
-use Rattle.vr_space.specs.Met.{met_next}
+use Rattle.vr_space.specs.Known.{MeetsPlace}
 use Rattle.vr_space.specs.Part.{HasMore}
 use Rattle.vr_store.specs.Store.{PartNow, has_number, part_among}
 
@@ -21,6 +20,7 @@ but_met part = record part {
     split = part.known.split;
     move = part.known.move;
     met = [];
+    most = 0;
     areas = part.known.areas;
     ends = [];
     used = part.known.used;
@@ -34,6 +34,7 @@ but_split part = record part {
     split = None;
     move = None;
     met = [];
+    most = 0;
     areas = [];
     ends = [];
     used = 0;
@@ -53,11 +54,30 @@ HasMoreAt number kind old new free now = IfSome (part_among old number) (λ (bef
     IfSome (part_among new number) (λ (after : PartNow).
     HasMore before.shape kind before.known after.known free now))
 
--- The part of this number met a place, and still keeps the one that it met last before.
+-- The part of this number met a place, and while it has room to keep one more it keeps each place
+-- that it met before.
 abbrev pub MeetsNext : ℕ → List ℕ → List PartNow → List PartNow → Type 0
 MeetsNext number place old new = IfSome (part_among old number) (λ (before : PartNow).
     IfSome (part_among new number) (λ (after : PartNow).
-    places_met after.known ≡ met_next (places_met before.known) place))
+    MeetsPlace place before.known after.known))
+
+-- The part of this number has met no place, and has room to keep what it meets at this many.
+abbrev pub HasRoomToMeet : ℕ → ℕ → List PartNow → Type 0
+HasRoomToMeet number count parts = IfSome (part_among parts number) (λ (part : PartNow).
+    (part.known.met ≡ []) × (count ≤ part.known.most))
+
+-- A part that forgot what it met, or did not, and may have room to keep more: all else stays.
+pub record Forgets (before after : PartNow) : Type 0 where
+  pub number : after.number ≡ before.number
+  pub shape : after.shape ≡ before.shape
+  pub known : after.known
+      ≡ record before.known { met = after.known.met; most = after.known.most }
+  pub met : after.known.met ≡ before.known.met ⊎ after.known.met ≡ []
+
+-- so it is of the part of this number, and each other part stays in its place
+abbrev pub ForgetsAt : ℕ → List PartNow → List PartNow → Type 0
+ForgetsAt number old new = IfSome (part_among old number) (λ (before : PartNow).
+    (after : PartNow) × Forgets before after × (new ≡ with_part number after old))
 
 -- Of the part of this number alone there is something new: what it keeps beside its splits, its
 -- areas and how many intervals they use,

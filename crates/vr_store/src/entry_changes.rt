@@ -156,6 +156,18 @@ impl<P: Part> Store<P> {
 }
 
 impl<P: Part + Drop> Store<P> {
+    /// Takes out a part, where one is given, whose areas become free, and forgets what is kept of
+    /// units: none is live, and what is put back has to be of a part that is laid.
+    fn let_go(&mut self, alloc: Global, gone: Option<PartNo>)
+        ensures { self.new ≡ store_left gone self.old }
+    {
+        self.undo = Undo::new(alloc);
+        if let Some(part) = gone {
+            self.parts.retain(|laid| laid.number.0 != part.0);
+            self.space.release(part);
+        }
+    }
+
     /// Adds, replaces and takes away records of the catalog, each at a place of its own, while no
     /// unit is live, as one event: the unit logs what stands at all places, forces that once, makes
     /// the changes in their order, and commits (DFSMS Access Method Services Commands, ALTER and

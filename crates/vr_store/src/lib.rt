@@ -9,7 +9,6 @@
 mod change;
 mod changed;
 mod define;
-mod entry_change;
 mod entry_changes;
 mod last_image;
 mod look;

@@ -14,7 +14,8 @@ ghost use Rattle.vr_history.specs.State.{State};
 ghost use Rattle.vr_volume.specs.Committed.{committed_by};
 ghost use Rattle.vr_volume.specs.Safe.{IsSafeImage};
 ghost use Rattle.vr_store.specs.Left.{left_for, parts_left};
-ghost use Rattle.vr_store.specs.Parts.{HasMoreAt, MeetsNext, OnlyMet, OnlySplit};
+ghost use Rattle.vr_store.specs.Parts.{ForgetsAt, HasMoreAt, HasRoomToMeet, MeetsNext, OnlyMet};
+ghost use Rattle.vr_store.specs.Parts.{OnlySplit};
 ghost use Rattle.vr_store.specs.Room.{IsDueAt, IsRoomAt};
 ghost use Rattle.vr_store.specs.Store.{IsSet, IsStored, Stands, part_among, part_now, shape_among};
 ghost use Rattle.vr_store.specs.Store.{store_of};
@@ -22,11 +23,33 @@ ghost use Rattle.vr_store.specs.Store.{store_of};
 use crate::changed::UnitBlocks;
 use crate::parts::{Laid, index_of};
 use crate::store::Store;
+use std::alloc::Global;
 use vr_log::UndoLog;
 use vr_space::{Part, Room};
-use vr_types::{Blocks, DeviceFault, PartNo, Place, Space, StageKind};
+use vr_types::{Blocks, DeviceFault, OutOfMemory, PartNo, Place, Space, StageKind};
 use vr_undo::Undo;
 use vr_volume::do_stage;
+
+/// Has a part of a store forget what it met, and makes room to keep what it will meet at this many
+/// places.
+pub(crate) fn keep_at<P: Part>(
+    alloc: Global,
+    parts: &mut Vec<Laid<P>>,
+    number: PartNo,
+    count: usize,
+) -> Result<(), OutOfMemory>
+    requires part { part_among (map (part_now P.shape P.known) parts.old.items) number.0
+        ≢ None }
+    ensures forgets { ForgetsAt number.0 (map (part_now P.shape P.known) parts.old.items)
+        (map (part_now P.shape P.known) parts.new.items) }
+    ensures room { OnOk result (HasRoomToMeet number.0 count
+        (map (part_now P.shape P.known) parts.new.items)) }
+{
+    match index_of(parts, number) {
+        Some(at) => parts[at].part.keep_places(alloc, count),
+        None => unreachable!("the part is laid"),
+    }
+}
 
 /// Asks a part of a store for room, beside what stands there and what units may put back. A fault is
 /// the device's.
@@ -160,6 +183,29 @@ pub(crate) fn advance_at<B: Blocks, P: Part>(
 }
 
 impl<P: Part> Store<P> {
+    /// Has a part forget what it met, and makes room to keep what `ask_room` will meet at this many
+    /// places of it, so that records may be set at them without a read. It reads nothing. Fails only
+    /// if memory runs out; all else stays, whatever the answer.
+    pub fn keep_places<B: Blocks>(
+        &mut self,
+        blocks: &B,
+        alloc: Global,
+        number: PartNo,
+        count: usize,
+    ) -> Result<(), OutOfMemory>
+        requires part { part_among self.old.parts number.0 ≢ None }
+        ensures room { OnOk result (HasRoomToMeet number.0 count self.new.parts) }
+        ensures set { IsSet self.old (B.seen blocks.now) → IsSet self.new (B.seen blocks.now) }
+        ensures stored { (volume : ℕ) (state : State)
+            → IsStored volume self.old state (B.seen blocks.now)
+            → IsStored volume self.new state (B.seen blocks.now) }
+        ensures parts { OnlyMet number.0 self.old.parts self.new.parts }
+        ensures rest { self.new ≡ record self.old { parts = self.new.parts } }
+    {
+        let _ = blocks;
+        keep_at(alloc, &mut self.parts, number, count)
+    }
+
     /// Whether a record of this length has room at a place of a part, beside what stands there and
     /// what units may put back. The part keeps what it met, so that it may be set at the place
     /// without a read. A fault is the device's.
@@ -184,7 +230,7 @@ impl<P: Part> Store<P> {
             IsRoomAt self.new (B.seen blocks.new).cur number.0 place.now length room) }
         ensures met { OnOk result (IfSome (part_among self.new.parts number.0)
             (λ part. HasMet part.known place.now)) }
-        // And it keeps the place that it met last before.
+        // And while it has room for one more it keeps each place that it met before.
         ensures next { OnOk result
             (MeetsNext number.0 place.now self.old.parts self.new.parts) }
         ensures set { IsSet self.new (B.seen blocks.new) }

@@ -5,7 +5,7 @@ use std::alloc::Global;
 use vr_case_volumes::{MAXIMUM, Stop, cluster};
 use vr_catalog::{RECORD_LENGTH, write_entry};
 use vr_history::Entry;
-use vr_model::{FileState, OwnedArea, PartContent, PlacedItem, Stored, is_legal};
+use vr_model::{Contents, FileState, OwnedArea, PartContent, PlacedItem, Stored, is_legal};
 use vr_types::{Bytes, Geometry, NAME_LIMIT, Place};
 
 /// Whether entries are a legal history of the new volume of this number and shape, from its opening on.
@@ -25,7 +25,7 @@ fn opening(alloc: Global, shape: Geometry, volume: u32) -> Result<FileState, Sto
         return Err(Stop::Case);
     }
     let catalog = catalog_of(alloc, volume)?;
-    let contents = Vec::from_array(alloc, [(0, catalog)])?;
+    let contents = Contents::of_parts(alloc, Vec::from_array(alloc, [(0, catalog)])?)?;
     let owned = owned_areas(alloc)?;
     Ok(FileState::opening(alloc, shape, contents, owned))
 }

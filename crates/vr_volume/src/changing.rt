@@ -13,7 +13,7 @@ ghost use Rattle.vr_types.specs.declared.geometry.Geometry.{Geometry};
 ghost use Rattle.vr_space.specs.Owners.{Owners};
 ghost use Rattle.vr_space.specs.declared.room.Room.TheVariants as answers;
 ghost use Rattle.vr_attach.specs.Owning.{claimed_by, owner_of};
-ghost use Rattle.vr_space.specs.Known.{HasMet, Known, places_met};
+ghost use Rattle.vr_space.specs.Known.{HasMet, KeepsMet, Known};
 ghost use Rattle.vr_space.specs.Part.{
   CanSet,
   DueMore,
@@ -104,7 +104,7 @@ pub fn set_free<B: Blocks, P: Part, K: Kept>(
     ensures knows { IsTrue B.tells → OnOk result
         (Knows (P.shape part.old) (P.known part.new) (B.seen blocks.new)) }
     ensures met { HasMet (P.known part.old) place.now → OnOk result
-        (places_met (P.known part.new) ≡ places_met (P.known part.old)) }
+        (KeepsMet (P.known part.old) (P.known part.new)) }
     ensures unread { IfErr result (λ fault. fault ≡ Read
         → Keeps B.tells (B.seen blocks.old) (B.seen blocks.new)
         × (IsTrue B.tells

@@ -6,7 +6,7 @@ ghost use Rattle.vr_types.specs.Moments.{Guards};
 ghost use Rattle.vr_types.specs.Regions.{Touches};
 ghost use Rattle.vr_types.specs.declared.fault.DeviceFault.TheVariants.{Write};
 ghost use Rattle.vr_types.specs.declared.geometry.Geometry.{Geometry};
-ghost use Rattle.vr_space.specs.Known.{HasMet, places_met};
+ghost use Rattle.vr_space.specs.Known.{HasMet, KeepsMet};
 ghost use Rattle.vr_space.specs.Owners.{Owners};
 ghost use Rattle.vr_space.specs.Part.{
   CanSet,
@@ -104,7 +104,7 @@ fn set_forced<B: Blocks, P: Part, K: Kept>(
         → Touches (InPart (P.shape part.old) owners) (λ image. Prim.Unit {0})
         (B.seen blocks.old) (B.seen blocks.new) }
     ensures met { HasMet (P.known part.old) change.now.place → OnOk result
-        (places_met (P.known part.new) ≡ places_met (P.known part.old)) }
+        (KeepsMet (P.known part.old) (P.known part.new)) }
     ensures reads { HasMet (P.known part.old) change.now.place
         → IfErr result (λ fault. fault ≡ Write) }
     ensures count { (B.seen blocks.new).count ≡ (B.seen blocks.old).count }
@@ -171,7 +171,7 @@ pub(crate) fn set_all<B: Blocks, P: Part, K: Kept>(
         → IsAtRest (P.shape part.old) owners (B.seen blocks.old)
         → Touches (InPart (P.shape part.old) owners) (λ image. Prim.Unit {0})
         (B.seen blocks.old) (B.seen blocks.new) }
-    // Where each place is met, no read is made.
+    // Where each place is met, no read is made: each change keeps all that was met.
     ensures reads { All (λ change. HasMet (P.known part.old) change.place) changes.now
         → IfErr result (λ fault. fault ≡ Write) }
     ensures count { (B.seen blocks.new).count ≡ (B.seen blocks.old).count }

@@ -1,11 +1,11 @@
-use Rattle.std.proofs.Common.{All, refl, sym, ap, ◌∙◌, subst, arith}
+use Rattle.std.proofs.Common.{ℕ, All, refl, sym, ap, ◌∙◌, subst, arith}
 use Rattle.std.proofs.lemmas.List.Elements.{All-map, All-weaker}
 use Rattle.vr_types.specs.Seen.{Left}
 use Rattle.vr_types.proofs.CallerLemmas.{all-one, cur-put, keeps-none}
 use Rattle.vr_space.specs.Met.{Met}
 use Rattle.vr_space.specs.Part.{InHeld, NumberedShape, given}
 use Rattle.vr_space.specs.Numbered.{IsIntervalMet}
-use Rattle.vr_chained.specs.Met.{met_in, met_places, mets_in}
+use Rattle.vr_chained.specs.Met.{IsMetOf, met_in, met_places, mets_in}
 use Rattle.vr_chained.specs.Setting.{refreshed}
 use Rattle.vr_chained.proofs.Refreshing.{places-refreshed}
 use Rattle.vr_chained.proofs.Setting.{chain-set, done-set, may-keeps, may-set, past-set}
@@ -150,7 +150,8 @@ returns-clause-met g c told kept known ready =
     let now = cur-put a n c.write_item.new.out
     (omega (arith, c.in-Some.ensures.below, c.requires.on.blocks)) left.length_is b.cur
     (c.in_ok-put.ensures.put told) in
-    subst (All (IsIntervalMet chain.part b.cur)) (sym c.refresh.ensures.met)
+    subst (All (IsIntervalMet chain.part b.cur))
+    (sym c.refresh.ensures.met)
     (All-map (IsIntervalMet chain.part b.cur) (refreshed n c.write_item.new.out)
     (mets_in c.args.mets.now)
     (All-weaker (IsIntervalMet chain.part a.cur)
@@ -166,7 +167,9 @@ pub returns-then-not-write_item-clause-met : goal.returns-then-not-write_item-cl
 returns-then-not-write_item-clause-met g c told kept known ready = c.requires.met told
 
 pub returns-clause-room : goal.returns-clause-room
-returns-clause-room g c = c.refresh.ensures.room c.args.chain.now.part c.requires.room
+returns-clause-room g c =
+    subst (λ (size : ℕ). All (IsMetOf size) c.refresh.new.mets.slots.items)
+    (c.write_item.auto.out ∙ c.requires.out) c.refresh.ensures.room
 
 pub returns-clause-put : goal.returns-clause-put
 returns-clause-put g c = λ known same.

@@ -11,18 +11,18 @@ use Rattle.vr_chained.proofs.set.set_in.Goals as goal
 pub put_set-requires-clause-met : goal.put_set-requires-clause-met
 put_set-requires-clause-met g c told =
     subst (λ (image : Image). All (IsIntervalMet c.args.chain.now.part image)
-    (mets_in c.reach.new.mets)) (sym (c.reach.ensures.keeps.content told))
-    (c.reach.ensures.met told)
+    (mets_in c.meet.new.mets)) (sym (c.meet.ensures.keeps.content told))
+    (c.meet.ensures.met told)
 
-pub returns-in_err-reach-clause-may : goal.returns-in_err-reach-clause-may
-returns-in_err-reach-clause-may g c told kept known ready =
+pub returns-in_err-meet-clause-may : goal.returns-in_err-meet-clause-may
+returns-in_err-meet-clause-may g c told kept known ready =
     let B = g.B.Blocks in
     let part = c.args.chain.now.part in
     let place = c.args.place.now in
     let item = given c.args.bytes in
     let a = B.seen c.args.blocks.now in
-    let m = B.seen c.reach.new.blocks in
-    may-keeps part kept known place item B.tells told a m c.reach.ensures.keeps ready
+    let m = B.seen c.meet.new.blocks in
+    may-keeps part kept known place item B.tells told a m c.meet.ensures.keeps ready
 
 pub returns-clause-may : goal.returns-clause-may
 returns-clause-may g c told kept known ready =
@@ -31,11 +31,11 @@ returns-clause-may g c told kept known ready =
     let place = c.args.place.now in
     let item = given c.args.bytes in
     let a = B.seen c.args.blocks.now in
-    let m = B.seen c.reach.new.blocks in
-    may-then part kept known place item B.tells told a m c.reach.ensures.keeps ready
+    let m = B.seen c.meet.new.blocks in
+    may-then part kept known place item B.tells told a m c.meet.ensures.keeps ready
     (B.seen c.put_set.new.blocks)
     (c.put_set.ensures.may told kept known
-    (ready-keeps part kept known place item B.tells told a m c.reach.ensures.keeps ready))
+    (ready-keeps part kept known place item B.tells told a m c.meet.ensures.keeps ready))
 
 pub returns-clause-done : goal.returns-clause-done
 returns-clause-done g c told =
@@ -44,13 +44,13 @@ returns-clause-done g c told =
     let place = c.args.place.now in
     let item = given c.args.bytes in
     let a = B.seen c.args.blocks.now in
-    let m = B.seen c.reach.new.blocks in
+    let m = B.seen c.meet.new.blocks in
     if-ok-more c.put_set.result _ _
     (λ put done kept known ready.
-    done-then part kept known place item B.tells told a m c.reach.ensures.keeps ready
+    done-then part kept known place item B.tells told a m c.meet.ensures.keeps ready
     (B.seen c.put_set.new.blocks) (put_of put)
     (done kept known
-    (ready-keeps part kept known place item B.tells told a m c.reach.ensures.keeps ready)))
+    (ready-keeps part kept known place item B.tells told a m c.meet.ensures.keeps ready)))
     (c.put_set.ensures.done told)
 
 pub returns-clause-chain : goal.returns-clause-chain
@@ -60,10 +60,10 @@ returns-clause-chain g c told =
     let place = c.args.place.now in
     let item = given c.args.bytes in
     let a = B.seen c.args.blocks.now in
-    let m = B.seen c.reach.new.blocks in
+    let m = B.seen c.meet.new.blocks in
     on-ok-more c.put_set.result _ _
     (λ all kept known ready. all kept known
-    (ready-keeps part kept known place item B.tells told a m c.reach.ensures.keeps ready))
+    (ready-keeps part kept known place item B.tells told a m c.meet.ensures.keeps ready))
     (c.put_set.ensures.chain told)
 
 pub returns-clause-met : goal.returns-clause-met
@@ -73,8 +73,8 @@ returns-clause-met g c told =
     let place = c.args.place.now in
     let item = given c.args.bytes in
     let a = B.seen c.args.blocks.now in
-    let m = B.seen c.reach.new.blocks in
+    let m = B.seen c.meet.new.blocks in
     on-ok-more c.put_set.result _ _
     (λ all kept known ready. all kept known
-    (ready-keeps part kept known place item B.tells told a m c.reach.ensures.keeps ready))
+    (ready-keeps part kept known place item B.tells told a m c.meet.ensures.keeps ready))
     (c.put_set.ensures.met told)

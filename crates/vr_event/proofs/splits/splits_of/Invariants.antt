@@ -6,8 +6,8 @@ use Rattle.vr_event.proofs.splits.splits_of.Given as goal
 -- entries so far
 abbrev pub invariant-loop-entry : goal.invariant-loop-entry
 invariant-loop-entry l = record {
-  left : splits_by l.part.0 l.first l.splits (drop l.entry-index l.entries)
-      ≡ splits_by l.part.0 l.first no_splits l.entries;
+  left : splits_by l.part.0 l.splits (drop l.entry-index l.entries)
+      ≡ splits_by l.part.0 no_splits l.entries;
   intervals : l.splits.intervals ≤ l.entry-index;
   areas : l.splits.areas ≤ l.entry-index;
 }

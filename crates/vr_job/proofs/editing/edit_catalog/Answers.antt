@@ -1,9 +1,10 @@
-use Rattle.std.proofs.Common.{◌∙◌, List, Ok, ap, arith, inr, subst, sym}
+use Rattle.std.proofs.Common.{◌∙◌, ◌≤◌, ℕ, List, Ok, ap, arith, inr, subst, sym}
 use Rattle.vr_history.specs.declared.entry.Entry.{Entry}
 use Rattle.vr_trace.specs.Shown.{Shown}
 use Rattle.vr_ams_define.specs.Edited.{IsShownEdited}
 use Rattle.vr_ams_define.specs.Grown.{HasEntered}
 use Rattle.vr_ams_define.specs.declared.answer.Changed.{Changed}
+use Rattle.vr_event.proofs.CallerLemmas.{few-changes}
 use Rattle.vr_job.specs.Answering.{changed_of}
 use Rattle.vr_job.specs.Going.{went-then}
 use Rattle.vr_job.specs.Serving.{shown_of}
@@ -11,6 +12,12 @@ use Rattle.vr_job.proofs.DefineShown.{none-defined, ready-shown}
 use Rattle.vr_job.proofs.EditShown.{edit-refused, edit-shown, ready-may}
 use Rattle.vr_job.proofs.GoingOn.{less-then}
 use Rattle.vr_job.proofs.editing.edit_catalog.Goals as goal
+
+pub entries_to_edit-requires : goal.entries_to_edit-requires
+entries_to_edit-requires g c = record {
+  few = few-changes c.args.volume.now.file.geometry c.args.volume.now.file.catalog
+      c.args.edit.now c.requires.edit;
+}
 
 pub returns-in_err-make_ready-clause-refused : goal.returns-in_err-make_ready-clause-refused
 returns-in_err-make_ready-clause-refused g c fails =
@@ -27,7 +34,8 @@ pub edit_event-requires-clause-may : goal.edit_event-requires-clause-may
 edit_event-requires-clause-may g c = record {
   whole = c.make_ready.ensures.stays.serving.whole;
   going = c.make_ready.ensures.stopped ∙ c.requires.going;
-  room = c.in_ok-make_ready.ensures.room;
+  room = subst (λ (n : ℕ). n ≤ c.make_ready.new.volume.file.room) c.entries_to_edit.ensures
+      c.in_ok-make_ready.ensures.room;
   last = omega (arith, c.in_ok-make_ready.ensures.last);
   after_is = omega (arith, c.in_ok-make_ready.ensures.after);
   deck = c.in_ok-make_ready.ensures.deck;

@@ -10,9 +10,9 @@ use Rattle.vr_space.specs.Room.{Lengths}
 use Rattle.vr_space.specs.Split.{AreaSplit, MoveNow, SplitNow, area_room, move_stage, split_in}
 use Rattle.vr_space.proofs.CallerLemmas.{ComesTo}
 use Rattle.vr_keyed.specs.Look.{AreaStands, HasEntry}
-use Rattle.vr_keyed.specs.Slots.{IsMetAt, LeavesMet, MeetsAt, mets}
+use Rattle.vr_keyed.specs.Slots.{IsMetAt, LeavesMet, MeetsOne, mets}
 use Rattle.vr_keyed.proofs.Known.{area-at, area-comes, area-known, knows-still, layout-at}
-use Rattle.vr_keyed.proofs.Known.{leaves-met, leaves-mine, meets-places, met-at}
+use Rattle.vr_keyed.proofs.Known.{leaves-met, leaves-mine, met-at}
 use Rattle.vr_keyed.proofs.Known.{area-inside, room-there, room-waits, rooms-of-area}
 use Rattle.vr_keyed.proofs.change.room_over.Goals as goal
 
@@ -157,11 +157,9 @@ returns-clause-knows g c told =
     c.room_at.ensures.leaves)
     knows.blocks.1)
 
-pub returns-clause-places : goal.returns-clause-places
-returns-clause-places g c = on_ok_weaker c.room_at.result
-    (meets-places c.area-layout.result g.B.Blocks.tells (g.B.Blocks.seen c.args.blocks.now).cur
-    c.args.place.now (mets c.args.slots.now) c.room_at.new.slots)
-    c.room_at.ensures.meets
+pub returns-clause-meets : goal.returns-clause-meets
+returns-clause-meets g c =
+    on_ok_weaker c.room_at.result (λ is. is.meets) c.room_at.ensures.meets
 
 -- ---- a place of an area that is being split waits for it
 
@@ -342,12 +340,7 @@ returns-in-Some-clause-knows g c told =
     (subst (λ (one : Keyed). LeavesMet one tells a.cur at old new) layout c.meet.ensures.leaves))
     knows.blocks.1)
 
-pub returns-in-Some-clause-places : goal.returns-in-Some-clause-places
-returns-in-Some-clause-places g c =
-    let tells = g.B.Blocks.tells in
-    let a = g.B.Blocks.seen c.args.blocks.now in
-    let old = mets c.args.slots.now in
-    meets-places c.area-layout.result tells a.cur c.args.place.now old c.meet.new.slots
-    (subst
-    (λ (key : List ℕ). MeetsAt c.area-layout.result tells a.cur key old c.meet.new.slots)
-    c.as_slice-in-Some.ensures c.in_ok-meet.ensures.meets)
+pub returns-in-Some-clause-meets : goal.returns-in-Some-clause-meets
+returns-in-Some-clause-meets g c =
+    subst (λ (key : List ℕ). MeetsOne key c.args.slots.now c.meet.new.slots)
+    c.as_slice-in-Some.ensures c.in_ok-meet.ensures.meets.meets

@@ -1,7 +1,12 @@
-use Rattle.std.proofs.Common.{List, ℕ, All, sym, subst}
+use Rattle.std.proofs.Common.{◌≡◌, List, Option, ℕ, All, sym, subst}
+use Rattle.std.specs.Prelude.{IfOk}
 use Rattle.vr_types.specs.Image.{Image}
 use Rattle.vr_space.specs.AreaCalls.{area_part}
+use Rattle.vr_types.proofs.CallerLemmas.{keeps-then}
 use Rattle.vr_space.specs.Met.{IsMet}
+use Rattle.vr_space.specs.Split.{SplitNow, area_room}
+use Rattle.vr_space.specs.declared.room.Room.{Room}
+use Rattle.vr_keyed.specs.Splits.{IsSplit}
 use Rattle.vr_keyed.specs.Look.{AreaStands, HasEntry}
 use Rattle.vr_keyed.specs.Slots.{IsInside, IsMetAt, LeavesMet, MeetsAt, met_in, mets}
 use Rattle.vr_keyed.proofs.Adding.{on-ok-from}
@@ -55,7 +60,7 @@ returns-clause-meets g c =
     on-ok-from c.room_met.result _
     (subst (λ (q : List ℕ).
     MeetsAt c.args.layout.now g.B.Blocks.tells (g.B.Blocks.seen c.args.blocks.now).cur q
-    (mets c.args.slots.now) c.meet.new.slots)
+    c.args.slots.now c.meet.new.slots)
     c.as_slice.ensures c.in_ok-meet.ensures.meets)
 
 pub returns-clause-leaves : goal.returns-clause-leaves
@@ -64,3 +69,18 @@ returns-clause-leaves g c =
     LeavesMet c.args.layout.now g.B.Blocks.tells (g.B.Blocks.seen c.args.blocks.now).cur q
     (mets c.args.slots.now) (mets c.meet.new.slots))
     c.as_slice.ensures c.meet.ensures.leaves
+
+pub returns-clause-answer : goal.returns-clause-answer
+returns-clause-answer g c told =
+    let part = c.args.layout.now in
+    let kept = g.K.Kept.kept c.args.kept.now (area_part part) in
+    subst (λ (image : Image). IfOk c.room_met.result (λ (room : Room). (now : Option SplitNow)
+    → IsSplit now c.args.split → room ≡ area_room part now c.args.under_way image c.args.free kept
+    c.args.place.now c.args.longest))
+    (c.meet.ensures.keeps.content told) (c.room_met.ensures.answer told)
+
+pub returns-clause-keeps : goal.returns-clause-keeps
+returns-clause-keeps g c =
+    keeps-then g.B.Blocks.tells (g.B.Blocks.seen c.args.blocks.now)
+    (g.B.Blocks.seen c.meet.new.blocks) (g.B.Blocks.seen c.room_met.new.blocks)
+    c.meet.ensures.keeps c.room_met.ensures.keeps

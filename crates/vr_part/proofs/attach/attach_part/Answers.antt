@@ -1,7 +1,7 @@
 use Rattle.std.proofs.Common.{◌≡◌, ℕ, List, Some, ap, subst, sym, ◌∙◌}
 use Rattle.std.specs.Prelude.{Contains, length}
 use Rattle.vr_space.specs.Areas.{KeyedChain, KnowsAreas, intervals_in}
-use Rattle.vr_space.specs.Part.{KeyedShape, owned_count, part_no}
+use Rattle.vr_space.specs.Part.{KeyedShape, NumberedShape, owned_count, part_no}
 use Rattle.vr_space.specs.Rosters.{Numbered}
 use Rattle.vr_part.proofs.Attaching.{free-or-first, held-alone}
 use Rattle.vr_part.proofs.attach.attach_part.Goals as goal
@@ -67,3 +67,8 @@ returns-clause-free g c at has =
     free-or-first c.args.space.now (Some c.args.part) c.args.area c.requires.first at
     (λ other. c.in_ok-chained.ensures.marked.free at has
     (λ first. other (first ∙ ap (λ (p : Numbered). p.first) c.chain_layout_of-layout.ensures)))
+
+pub returns-clause-marked : goal.returns-clause-marked
+returns-clause-marked g c at has =
+    c.in_ok-chained.ensures.marked.marked at has
+    ∙ ap (λ (part : Numbered). Some (part_no (NumberedShape part))) c.chain_layout_of-layout.ensures

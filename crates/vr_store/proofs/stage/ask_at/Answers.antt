@@ -2,8 +2,7 @@ use Rattle.std.proofs.Common.{◌≡◌, refl, ap, map, set, None}
 use Rattle.std.proofs.Common.{IsTrue}
 use Rattle.std.specs.Prelude.{IfSome}
 use Rattle.std.proofs.lemmas.Result.{IfOk-weaker}
-use Rattle.vr_space.specs.Known.{HasMet, places_met}
-use Rattle.vr_space.specs.Met.{met_next}
+use Rattle.vr_space.specs.Known.{HasMet, MeetsPlace}
 use Rattle.vr_space.specs.Part.{IsLengthOf, IsPlaceOf, Shape, part_no}
 use Rattle.vr_space.specs.declared.room.Room.{Room}
 use Rattle.vr_space.proofs.CallerLemmas.{held-same}
@@ -13,7 +12,7 @@ use Rattle.vr_store.specs.Store.{PartNow, StoreNow, changed_by, part_among, part
 use Rattle.vr_store.proofs.PartsAt.{found-new, laid-at, laid-found, none-laid, only-met, part-split}
 use Rattle.vr_store.proofs.PartsAt.{same-met}
 use Rattle.vr_store.proofs.Recorded.{at-part, at-shape, number-at, rested-at, set-at, stand-at}
-use Rattle.vr_store.proofs.Rooms.{met-first, room-at, room-still, room_by}
+use Rattle.vr_store.proofs.Rooms.{room-at, room-still, room_by}
 use Rattle.vr_store.proofs.Worked.{set-unclaimed, stored-met}
 use Rattle.vr_store.proofs.stage.ask_at.Goals as goal
 
@@ -104,20 +103,19 @@ returns g c =
           refl (c.room.ensures.keeps.content told) place length)
           (answer told);
       met = IfOk-weaker c.room.result
-          (λ room. places_met after.known ≡ met_next (places_met before.known) place)
+          (λ room. MeetsPlace place before.known after.known)
           _
           (λ room is. at-part (λ (one : PartNow). HasMet one.known place) parts number after there
-          (met-first before.known after.known place is))
+          is.here)
           c.room.ensures.met;
       next = IfOk-weaker c.room.result
-          (λ room. places_met after.known ≡ met_next (places_met before.known) place)
+          (λ room. MeetsPlace place before.known after.known)
           _
           (λ room is. at-part (λ (one : PartNow). IfSome (part_among parts number)
-          (λ (next : PartNow). places_met next.known ≡ met_next (places_met one.known) place))
+          (λ (next : PartNow). MeetsPlace place one.known next.known))
           store.parts number before at.found
-          (at-part (λ (next : PartNow).
-          places_met next.known ≡ met_next (places_met before.known) place) parts number after
-          there is))
+          (at-part (λ (next : PartNow). MeetsPlace place before.known next.known) parts number
+          after there is))
           c.room.ensures.met;
       set = set-unclaimed store number before after parts store.space at same a b
           c.room.ensures.keeps.count_same c.room.ensures.keeps.size_same

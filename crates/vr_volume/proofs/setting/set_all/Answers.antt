@@ -1,6 +1,5 @@
-use Rattle.std.proofs.Common.{◌≡◌, ◌∷◌, ◌++◌, ◌+◌, [], ℕ, List, All, ap, refl, subst, sym, ◌∙◌}
+use Rattle.std.proofs.Common.{◌≡◌, ◌∷◌, ◌++◌, ◌+◌, [], All, ap, refl, subst, sym, ◌∙◌}
 use Rattle.std.proofs.Common.{None, arith, rules, take}
-use Rattle.std.specs.Prelude.{Contains}
 use Rattle.std.proofs.lemmas.List.{take_all, take_more}
 use Rattle.std.proofs.lemmas.List.Elements.{All-get_or, All-nil}
 use Rattle.vr_types.specs.Regions.{Touches}
@@ -57,7 +56,7 @@ loop-change-init g c =
           (keeps-none B.tells a
           (λ told image left. g.met.B.Blocks.images_may c.args.blocks.now image told left))
           (λ image on. tt);
-      met = λ all. refl;
+      met = λ all place met. met;
     }
 
 pub set_forced-requires-clause-can : goal.set_forced-requires-clause-can
@@ -120,8 +119,7 @@ returns-in_err-set_forced-clause-reads g c all =
     (All-get_or (λ (one : EntryChange). HasMet known one.place) changes i change
     c.loop-change-test.true all) in
     let write = c.in_err-set_forced.ensures.reads
-    (subst (λ (places : List (List ℕ)). Contains places change.place)
-    (sym (c.loop-change.invariant.met all)) has) in
+    (c.loop-change.invariant.met all change.place has) in
     search rules
 
 pub loop-change-preserved : goal.loop-change-preserved
@@ -200,10 +198,10 @@ loop-change-preserved g c =
           (subst (λ (s : Shape). Touches (InPart s owners) Anything b d) is
           (c.set_forced.ensures.touches told owners
           (subst (λ (s : Shape). IsAtRest s owners b) (sym is) (inv.rests told owners still))));
-      met = λ all. c.in_ok-set_forced.ensures.met
-          (subst (λ (places : List (List ℕ)). Contains places change.place) (sym (inv.met all))
+      met = λ all place met. c.in_ok-set_forced.ensures.met
+          (inv.met all change.place
           (at (λ (one : EntryChange). HasMet (g.P.Part.known c.args.part.now) one.place) all))
-          ∙ inv.met all;
+          place (inv.met all place met);
     }
 
 pub returns-clause-elsewhere : goal.returns-clause-elsewhere

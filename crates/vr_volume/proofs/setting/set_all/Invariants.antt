@@ -4,7 +4,7 @@ use Rattle.vr_types.specs.Content.{Content, Item}
 use Rattle.vr_types.specs.Moments.{Guards}
 use Rattle.vr_types.specs.Regions.{Touches}
 use Rattle.vr_types.specs.declared.geometry.Geometry.{Geometry}
-use Rattle.vr_space.specs.Known.{HasMet, places_met}
+use Rattle.vr_space.specs.Known.{HasMet, KeepsMet}
 use Rattle.vr_space.specs.Owners.{Owners}
 use Rattle.vr_space.specs.Part.{HasKeptRoom, InPart, IsAtRest, IsFirm, Knows, MayHold, SameStages}
 use Rattle.vr_space.specs.Part.{part_no}
@@ -68,5 +68,5 @@ invariant-loop-change g l = record {
       → Touches (InPart (g.P.Part.shape l.fn.part) owners) Anything
       (g.B.Blocks.seen l.fn.blocks) (g.B.Blocks.seen l.blocks);
   met : All (λ (change : EntryChange). HasMet (g.P.Part.known l.fn.part) change.place) l.changes
-      → places_met (g.P.Part.known l.part) ≡ places_met (g.P.Part.known l.fn.part);
+      → KeepsMet (g.P.Part.known l.fn.part) (g.P.Part.known l.part);
 }

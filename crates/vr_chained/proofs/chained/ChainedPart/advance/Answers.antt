@@ -9,7 +9,7 @@ use Rattle.vr_space.specs.Rosters.{Numbered, chain_of, used_of}
 use Rattle.vr_space.specs.Numbered.{IsIntervalMet, KnowsTail}
 use Rattle.vr_chained.specs.Chain.{ChainNow, IsChainOf}
 use Rattle.vr_chained.specs.Extended.{IsExtended, IsMoreDue, MayExtend}
-use Rattle.vr_chained.specs.Met.{AreMetsOf}
+use Rattle.vr_chained.specs.Met.{AreMetsOf, IsMetOf}
 use Rattle.vr_chained.specs.Owned.{OwnedChain, known_of}
 use Rattle.vr_chained.specs.Tail.{tail_of}
 use Rattle.vr_chained.proofs.Ending.{tail-further}
@@ -124,9 +124,9 @@ returns-clause-knows g c told =
 
 pub invariant_of-self-2 : goal.invariant_of-self-2
 invariant_of-self-2 g c = (
-  c.forget.ensures.room c.extend.new.chain.part
-      (subst (λ (p : Numbered). AreMetsOf p c.self.inside.mets) (sym c.extend.ensures.part)
-      c.self.invariant.0),
+  subst (λ (p : Numbered). AreMetsOf p c.forget.new.mets) (sym c.extend.ensures.part)
+      (subst (All (IsMetOf c.self.inside.chain.part.geometry.size))
+      (sym (ap (λ slots. slots.items) c.forget.ensures.slots)) c.self.invariant.0),
   tail-further (option_map tail_of c.self.inside.tail) c.self.inside.chain c.extend.new.chain
       c.extend.ensures.part c.extend.ensures.used c.self.invariant.1,
   c.self.invariant.2 ∙ sym (ap (λ (p : Numbered). p.geometry.size) c.extend.ensures.part),

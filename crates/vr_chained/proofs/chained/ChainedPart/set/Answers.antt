@@ -1,6 +1,7 @@
 use Rattle.std.proofs.Common.{◌≡◌, ◌≢◌, ◌∙◌, [], All, IsTrue, List, ℕ, None, Option, ap, refl}
 use Rattle.std.proofs.Common.{rules, sym, subst}
 use Rattle.std.specs.Option.{option_map}
+use Rattle.std.specs.Prelude.{Contains, vec_len}
 use Rattle.vr_types.specs.Seen.{Seen}
 use Rattle.vr_types.specs.declared.fault.DeviceFault.TheVariants.{Write}
 use Rattle.vr_space.specs.Entries.{Tail as TailOf}
@@ -138,8 +139,21 @@ returns-clause-put g c =
       chain = c.self.inside.chain;
       tail = option_map tail_of c.tail_after-self-inside.result;
       met = mets_in c.set_in.new.mets;
+      most = vec_len c.set_in.new.mets.slots;
       put = c.note_put.new.noted.items;
     })
+
+pub returns-clause-met : goal.returns-clause-met
+returns-clause-met g c has place met =
+    let inside : (p : List ℕ) → HasMetPlace c.args.self.now.met p
+    → HasMetPlace (mets_in c.self.inside.mets) p =
+    λ (p : List ℕ) (is : HasMetPlace c.args.self.now.met p).
+    subst (λ (o : OwnedChain). HasMetPlace o.met p) (sym c.self.view_is) is in
+    subst (λ (places : List (List ℕ)). Contains places place)
+    (sym (c.in_ok-put.ensures.places
+    (subst (HasMetPlace (mets_in c.self.inside.mets)) (sym c.as_slice.ensures)
+    (inside c.args.place.now has))))
+    (inside place met)
 
 pub returns-clause-rests : goal.returns-clause-rests
 returns-clause-rests g c told = (done g c told).rests

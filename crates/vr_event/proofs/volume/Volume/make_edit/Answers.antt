@@ -27,6 +27,7 @@ use Rattle.vr_event.proofs.CatalogPart.{catalog-there}
 use Rattle.vr_event.proofs.EditAsked.{met-all}
 use Rattle.vr_event.proofs.EditMade.{failed-come, failed-faults, failed-held, made-apart, made-come, made-entered}
 use Rattle.vr_event.proofs.EditMade.{made-entries, made-few, made-gone, made-held, made-lengths}
+use Rattle.vr_event.proofs.EditMade.{made-stamps}
 use Rattle.vr_event.proofs.EditMade.{made-room, made-settable, made-some, made-stand, read-apart}
 use Rattle.vr_event.proofs.EditMade.{refused-held}
 use Rattle.vr_event.proofs.Recovers.{recovers-keeps}
@@ -346,7 +347,7 @@ enter_edited-requires-clause-last g c =
     let ready : IsEditReady seen c.args.after c.args.unit edit prepared before =
     subst (IsEditReady seen c.args.after c.args.unit edit prepared) (sym c.self.view_is)
     c.requires.ready in
-    let few = made-entries seen c.args.after c.args.line edit before prepared c.args.unit ready in
+    let few = made-stamps seen c.args.after c.args.line edit before prepared c.args.unit ready in
     omega (arith, few, ready.may.last)
 
 pub enter_edited-requires-clause-after : goal.enter_edited-requires-clause-after
@@ -363,7 +364,7 @@ enter_edited-requires-clause-after g c =
     let ready : IsEditReady seen c.args.after c.args.unit edit prepared before =
     subst (IsEditReady seen c.args.after c.args.unit edit prepared) (sym c.self.view_is)
     c.requires.ready in
-    let few = made-entries seen c.args.after c.args.line edit before prepared c.args.unit ready in
+    let few = made-stamps seen c.args.after c.args.line edit before prepared c.args.unit ready in
     omega (arith, few, ready.may.after_is)
 
 pub enter_edit_in_doubt-requires-clause-room : goal.enter_edit_in_doubt-requires-clause-room
@@ -397,7 +398,7 @@ enter_edit_in_doubt-requires-clause-last g c =
     let ready : IsEditReady seen c.args.after c.args.unit edit prepared before =
     subst (IsEditReady seen c.args.after c.args.unit edit prepared) (sym c.self.view_is)
     c.requires.ready in
-    let few = made-entries seen c.args.after c.args.line edit before prepared c.args.unit ready in
+    let few = made-stamps seen c.args.after c.args.line edit before prepared c.args.unit ready in
     omega (arith, few, ready.may.last)
 
 pub enter_edit_in_doubt-requires-clause-after : goal.enter_edit_in_doubt-requires-clause-after
@@ -414,7 +415,7 @@ enter_edit_in_doubt-requires-clause-after g c =
     let ready : IsEditReady seen c.args.after c.args.unit edit prepared before =
     subst (IsEditReady seen c.args.after c.args.unit edit prepared) (sym c.self.view_is)
     c.requires.ready in
-    let few = made-entries seen c.args.after c.args.line edit before prepared c.args.unit ready in
+    let few = made-stamps seen c.args.after c.args.line edit before prepared c.args.unit ready in
     omega (arith, few, ready.may.after_is)
 
 pub returns-in-Fault-clause-cause : goal.returns-in-Fault-clause-cause

@@ -3,8 +3,9 @@ use Rattle.std.specs.Prelude.{IfErr}
 use Rattle.std.proofs.lemmas.Result.{IfErr-weaker}
 use Rattle.vr_types.specs.Blocks.{Keeps}
 use Rattle.vr_types.specs.Seen.{Left}
-use Rattle.vr_types.specs.declared.fault.DeviceFault.TheVariants.{Read}
+use Rattle.vr_types.specs.declared.fault.DeviceFault.TheVariants.{Read, Write}
 use Rattle.vr_space.specs.Areas.{IsChainOn, KeyedChain}
+use Rattle.vr_space.specs.Known.{Known}
 use Rattle.vr_space.specs.Part.{DueMoreAt, InHeld, KeyedShape, Knows, SameStages, Stands, given}
 use Rattle.vr_space.specs.Part.{part_no}
 use Rattle.vr_space.specs.Room.{Lengths}
@@ -13,8 +14,9 @@ use Rattle.vr_attach.specs.Areas.{AreasNow}
 use Rattle.vr_keyed.specs.Changed.{IsReadyIn, IsSetIn, MaySetIn}
 use Rattle.vr_keyed.specs.Owned.{InAreas, Owned, Splitting, known_in, known_of}
 use Rattle.vr_keyed.specs.Ready.{put_of}
-use Rattle.vr_keyed.specs.Slots.{mets}
+use Rattle.vr_keyed.specs.Slots.{HasMetPlace, mets, most_kept}
 use Rattle.vr_keyed.proofs.Known.{blocks-held, ways-still}
+use Rattle.vr_keyed.proofs.Most.{known_less, knows-less, knows-most, ready-less}
 use Rattle.vr_keyed.proofs.keyed.KeyedPart.set.Goals as goal
 
 pub returns-in_err-put-clause-adds : goal.returns-in_err-put-clause-adds
@@ -33,15 +35,15 @@ returns-in_err-put-clause-adds g c told owners still =
     let ready : IsReadyIn chain.part (known_in chain splits old) kept at item a =
     subst (λ (key : List ℕ). IsReadyIn chain.part (known_in chain splits old) kept key item a)
     (sym c.as_slice.ensures)
-    (subst (λ (keyed : Owned). IsReadyIn keyed.part (known_of keyed) kept place item a)
+    (subst (λ (keyed : Owned). IsReadyIn keyed.part (known_less keyed) kept place item a)
     (sym c.self.view_is)
-    (record {
+    (ready-less now kept place item a (record {
       rests = c.requires.rests told;
       room = c.requires.room told;
       knows = c.requires.knows told;
       can = c.requires.can told;
       valid = c.requires.record;
-    })) in
+    }))) in
     let may : MaySetIn now.part kept place item a b =
     subst (λ (part : KeyedChain). MaySetIn part kept place item a b) same
     (subst (λ (key : List ℕ). MaySetIn chain.part kept key item a b) c.as_slice.ensures
@@ -64,15 +66,15 @@ returns-in_err-put-clause-room g c told =
     let ready : IsReadyIn chain.part (known_in chain splits old) kept at item a =
     subst (λ (key : List ℕ). IsReadyIn chain.part (known_in chain splits old) kept key item a)
     (sym c.as_slice.ensures)
-    (subst (λ (keyed : Owned). IsReadyIn keyed.part (known_of keyed) kept place item a)
+    (subst (λ (keyed : Owned). IsReadyIn keyed.part (known_less keyed) kept place item a)
     (sym c.self.view_is)
-    (record {
+    (ready-less now kept place item a (record {
       rests = c.requires.rests told;
       room = c.requires.room told;
       knows = c.requires.knows told;
       can = c.requires.can told;
       valid = c.requires.record;
-    })) in
+    }))) in
     let may : MaySetIn now.part kept place item a b =
     subst (λ (part : KeyedChain). MaySetIn part kept place item a b) same
     (subst (λ (key : List ℕ). MaySetIn chain.part kept key item a b) c.as_slice.ensures
@@ -95,15 +97,15 @@ returns-in_err-put-clause-rooms g c told owners still =
     let ready : IsReadyIn chain.part (known_in chain splits old) kept at item a =
     subst (λ (key : List ℕ). IsReadyIn chain.part (known_in chain splits old) kept key item a)
     (sym c.as_slice.ensures)
-    (subst (λ (keyed : Owned). IsReadyIn keyed.part (known_of keyed) kept place item a)
+    (subst (λ (keyed : Owned). IsReadyIn keyed.part (known_less keyed) kept place item a)
     (sym c.self.view_is)
-    (record {
+    (ready-less now kept place item a (record {
       rests = c.requires.rests told;
       room = c.requires.room told;
       knows = c.requires.knows told;
       can = c.requires.can told;
       valid = c.requires.record;
-    })) in
+    }))) in
     let may : MaySetIn now.part kept place item a b =
     subst (λ (part : KeyedChain). MaySetIn part kept place item a b) same
     (subst (λ (key : List ℕ). MaySetIn chain.part kept key item a b) c.as_slice.ensures
@@ -126,15 +128,15 @@ returns-clause-adds g c told owners still =
     let ready : IsReadyIn chain.part (known_in chain splits old) kept at item a =
     subst (λ (key : List ℕ). IsReadyIn chain.part (known_in chain splits old) kept key item a)
     (sym c.as_slice.ensures)
-    (subst (λ (keyed : Owned). IsReadyIn keyed.part (known_of keyed) kept place item a)
+    (subst (λ (keyed : Owned). IsReadyIn keyed.part (known_less keyed) kept place item a)
     (sym c.self.view_is)
-    (record {
+    (ready-less now kept place item a (record {
       rests = c.requires.rests told;
       room = c.requires.room told;
       knows = c.requires.knows told;
       can = c.requires.can told;
       valid = c.requires.record;
-    })) in
+    }))) in
     let may : MaySetIn now.part kept place item a b =
     subst (λ (part : KeyedChain). MaySetIn part kept place item a b) same
     (subst (λ (key : List ℕ). MaySetIn chain.part kept key item a b) c.as_slice.ensures
@@ -157,15 +159,15 @@ returns-clause-room g c told =
     let ready : IsReadyIn chain.part (known_in chain splits old) kept at item a =
     subst (λ (key : List ℕ). IsReadyIn chain.part (known_in chain splits old) kept key item a)
     (sym c.as_slice.ensures)
-    (subst (λ (keyed : Owned). IsReadyIn keyed.part (known_of keyed) kept place item a)
+    (subst (λ (keyed : Owned). IsReadyIn keyed.part (known_less keyed) kept place item a)
     (sym c.self.view_is)
-    (record {
+    (ready-less now kept place item a (record {
       rests = c.requires.rests told;
       room = c.requires.room told;
       knows = c.requires.knows told;
       can = c.requires.can told;
       valid = c.requires.record;
-    })) in
+    }))) in
     let may : MaySetIn now.part kept place item a b =
     subst (λ (part : KeyedChain). MaySetIn part kept place item a b) same
     (subst (λ (key : List ℕ). MaySetIn chain.part kept key item a b) c.as_slice.ensures
@@ -188,15 +190,15 @@ returns-clause-rooms g c told owners still =
     let ready : IsReadyIn chain.part (known_in chain splits old) kept at item a =
     subst (λ (key : List ℕ). IsReadyIn chain.part (known_in chain splits old) kept key item a)
     (sym c.as_slice.ensures)
-    (subst (λ (keyed : Owned). IsReadyIn keyed.part (known_of keyed) kept place item a)
+    (subst (λ (keyed : Owned). IsReadyIn keyed.part (known_less keyed) kept place item a)
     (sym c.self.view_is)
-    (record {
+    (ready-less now kept place item a (record {
       rests = c.requires.rests told;
       room = c.requires.room told;
       knows = c.requires.knows told;
       can = c.requires.can told;
       valid = c.requires.record;
-    })) in
+    }))) in
     let may : MaySetIn now.part kept place item a b =
     subst (λ (part : KeyedChain). MaySetIn part kept place item a b) same
     (subst (λ (key : List ℕ). MaySetIn chain.part kept key item a b) c.as_slice.ensures
@@ -220,15 +222,15 @@ returns-clause-set g c told =
     let ready : IsReadyIn chain.part (known_in chain splits old) kept at item a =
     subst (λ (key : List ℕ). IsReadyIn chain.part (known_in chain splits old) kept key item a)
     (sym c.as_slice.ensures)
-    (subst (λ (keyed : Owned). IsReadyIn keyed.part (known_of keyed) kept place item a)
+    (subst (λ (keyed : Owned). IsReadyIn keyed.part (known_less keyed) kept place item a)
     (sym c.self.view_is)
-    (record {
+    (ready-less now kept place item a (record {
       rests = c.requires.rests told;
       room = c.requires.room told;
       knows = c.requires.knows told;
       can = c.requires.can told;
       valid = c.requires.record;
-    })) in
+    }))) in
     let put : List ℕ = put_of c.in_ok-put.put in
     let done : IsSetIn now.part (known_in chain splits new) put place item a b =
     subst (λ (part : KeyedChain). IsSetIn part (known_in chain splits new) put place item a b) same
@@ -253,15 +255,15 @@ returns-clause-due g c told =
     let ready : IsReadyIn chain.part (known_in chain splits old) kept at item a =
     subst (λ (key : List ℕ). IsReadyIn chain.part (known_in chain splits old) kept key item a)
     (sym c.as_slice.ensures)
-    (subst (λ (keyed : Owned). IsReadyIn keyed.part (known_of keyed) kept place item a)
+    (subst (λ (keyed : Owned). IsReadyIn keyed.part (known_less keyed) kept place item a)
     (sym c.self.view_is)
-    (record {
+    (ready-less now kept place item a (record {
       rests = c.requires.rests told;
       room = c.requires.room told;
       knows = c.requires.knows told;
       can = c.requires.can told;
       valid = c.requires.record;
-    })) in
+    }))) in
     let put : List ℕ = put_of c.in_ok-put.put in
     let done : IsSetIn now.part (known_in chain splits new) put place item a b =
     subst (λ (part : KeyedChain). IsSetIn part (known_in chain splits new) put place item a b) same
@@ -288,15 +290,15 @@ returns-clause-rests g c told owners still =
     let ready : IsReadyIn chain.part (known_in chain splits old) kept at item a =
     subst (λ (key : List ℕ). IsReadyIn chain.part (known_in chain splits old) kept key item a)
     (sym c.as_slice.ensures)
-    (subst (λ (keyed : Owned). IsReadyIn keyed.part (known_of keyed) kept place item a)
+    (subst (λ (keyed : Owned). IsReadyIn keyed.part (known_less keyed) kept place item a)
     (sym c.self.view_is)
-    (record {
+    (ready-less now kept place item a (record {
       rests = c.requires.rests told;
       room = c.requires.room told;
       knows = c.requires.knows told;
       can = c.requires.can told;
       valid = c.requires.record;
-    })) in
+    }))) in
     let put : List ℕ = put_of c.in_ok-put.put in
     let done : IsSetIn now.part (known_in chain splits new) put place item a b =
     subst (λ (part : KeyedChain). IsSetIn part (known_in chain splits new) put place item a b) same
@@ -321,15 +323,15 @@ returns-clause-stages g c told =
     let ready : IsReadyIn chain.part (known_in chain splits old) kept at item a =
     subst (λ (key : List ℕ). IsReadyIn chain.part (known_in chain splits old) kept key item a)
     (sym c.as_slice.ensures)
-    (subst (λ (keyed : Owned). IsReadyIn keyed.part (known_of keyed) kept place item a)
+    (subst (λ (keyed : Owned). IsReadyIn keyed.part (known_less keyed) kept place item a)
     (sym c.self.view_is)
-    (record {
+    (ready-less now kept place item a (record {
       rests = c.requires.rests told;
       room = c.requires.room told;
       knows = c.requires.knows told;
       can = c.requires.can told;
       valid = c.requires.record;
-    })) in
+    }))) in
     let put : List ℕ = put_of c.in_ok-put.put in
     let done : IsSetIn now.part (known_in chain splits new) put place item a b =
     subst (λ (part : KeyedChain). IsSetIn part (known_in chain splits new) put place item a b) same
@@ -355,21 +357,21 @@ returns-clause-knows g c told =
     let ready : IsReadyIn chain.part (known_in chain splits old) kept at item a =
     subst (λ (key : List ℕ). IsReadyIn chain.part (known_in chain splits old) kept key item a)
     (sym c.as_slice.ensures)
-    (subst (λ (keyed : Owned). IsReadyIn keyed.part (known_of keyed) kept place item a)
+    (subst (λ (keyed : Owned). IsReadyIn keyed.part (known_less keyed) kept place item a)
     (sym c.self.view_is)
-    (record {
+    (ready-less now kept place item a (record {
       rests = c.requires.rests told;
       room = c.requires.room told;
       knows = c.requires.knows told;
       can = c.requires.can told;
       valid = c.requires.record;
-    })) in
+    }))) in
     let put : List ℕ = put_of c.in_ok-put.put in
     let done : IsSetIn now.part (known_in chain splits new) put place item a b =
     subst (λ (part : KeyedChain). IsSetIn part (known_in chain splits new) put place item a b) same
     (subst (λ (key : List ℕ). IsSetIn chain.part (known_in chain splits new) put key item a b)
     c.as_slice.ensures (c.in_ok-put.ensures.done told kept splits ready)) in
-    done.knows
+    knows-most now.part (known_in chain splits new) (most_kept c.set_over.new.slots) b done.knows
 
 pub returns-clause-put : goal.returns-clause-put
 returns-clause-put g c =
@@ -395,8 +397,11 @@ returns-in_err-put-clause-unread g c =
     let splits : Splitting = c.self.inside.splits in
     let old = mets c.self.inside.slots in
     let new = mets c.set_over.new.slots in
+    let known : Known = record (known_in chain splits new) {
+      most = most_kept c.set_over.new.slots;
+    } in
     let unread : IfErr c.set_over.result (λ fault. fault ≡ Read → Keeps tells a b
-    × (IsTrue tells → Knows (KeyedShape now.part) (known_in chain splits new) b)) =
+    × (IsTrue tells → Knows (KeyedShape now.part) known b)) =
     IfErr-weaker c.set_over.result _ _
     (λ fault still is. (
       (still is).0,
@@ -404,9 +409,9 @@ returns-in_err-put-clause-unread g c =
           let quiet = c.requires.rests told in
           let left : Left a a.cur = g.met.B.Blocks.cur_may c.args.blocks.now told in
           let knows : Knows (KeyedShape chain.part) (known_in chain splits old) a =
-          subst (λ (keyed : Owned). Knows (KeyedShape keyed.part) (known_of keyed) a)
-          (sym c.self.view_is) (c.requires.knows told) in
-          subst (λ (part : KeyedChain). Knows (KeyedShape part) (known_in chain splits new) b) same
+          subst (λ (keyed : Owned). Knows (KeyedShape keyed.part) (known_less keyed) a)
+          (sym c.self.view_is) (knows-less now a (c.requires.knows told)) in
+          subst (λ (part : KeyedChain). Knows (KeyedShape part) known b) same
           (record {
             way = ways-still chain tells told a b (still is).0
                 (subst (λ (part : KeyedChain). IsChainOn part a) (sym same) c.requires.on)
@@ -418,3 +423,20 @@ returns-in_err-put-clause-unread g c =
     ))
     c.set_over.ensures.unread in
     search rules
+
+-- ---- where the place was met
+
+pub returns-in_err-put-clause-reads : goal.returns-in_err-put-clause-reads
+returns-in_err-put-clause-reads g c has =
+    let reads : IfErr c.set_over.result (λ fault. fault ≡ Write) =
+    c.set_over.ensures.reads
+    (subst (HasMetPlace (mets c.self.inside.slots)) (sym c.as_slice.ensures)
+    (subst (λ (keyed : Owned). HasMetPlace keyed.met c.args.place.now) (sym c.self.view_is) has)) in
+    search rules
+
+pub returns-clause-met : goal.returns-clause-met
+returns-clause-met g c has place known =
+    c.in_ok-put.ensures.places
+    (subst (HasMetPlace (mets c.self.inside.slots)) (sym c.as_slice.ensures)
+    (subst (λ (keyed : Owned). HasMetPlace keyed.met c.args.place.now) (sym c.self.view_is) has))
+    place (subst (λ (keyed : Owned). HasMetPlace keyed.met place) (sym c.self.view_is) known)

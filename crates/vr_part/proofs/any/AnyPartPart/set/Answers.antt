@@ -26,3 +26,9 @@ returns-in-Keyed-clause-stages g c = rw c.in-Keyed.is c.set.ensures.stages
 
 pub returns-in-Chained-clause-stages : goal.returns-in-Chained-clause-stages
 returns-in-Chained-clause-stages g c = rw c.in-Chained.is c.set-in-Chained.ensures.stages
+
+pub returns-in-Keyed-clause-met : goal.returns-in-Keyed-clause-met
+returns-in-Keyed-clause-met g c = rw c.in-Keyed.is c.set.ensures.met
+
+pub returns-in-Chained-clause-met : goal.returns-in-Chained-clause-met
+returns-in-Chained-clause-met g c = rw c.in-Chained.is c.set-in-Chained.ensures.met

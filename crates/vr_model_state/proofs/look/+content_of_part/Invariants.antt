@@ -1,5 +1,0 @@
-use Rattle.std.proofs.Common.{length}
-use Rattle.vr_model_state.proofs.look.+content_of_part.Given as goal
-
-abbrev pub decreases-content_of_part : goal.decreases-content_of_part
-decreases-content_of_part l = length l.contents.now
