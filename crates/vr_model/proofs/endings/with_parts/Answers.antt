@@ -8,10 +8,8 @@ use Rattle.vr_model.proofs.endings.with_parts.Goals as goal
 
 pub returns : goal.returns
 returns c =
-    let items : c.in_ok-contents.contents.items ≡ endings.kept_in c.args.parts.now
-    c.args.state.contents =
-    c.in_ok-contents.ensures
-    ∙ ap (endings.kept_in c.args.parts.now) c.deref.ensures.value in
     let old = seen c.args.state in
     ap (λ (contents : ℕ → Content). record old { contents = contents })
-    (ap content_in items ∙ contents_kept c.args.parts.now c.args.state.contents)
+    (ap content_in (c.in_ok-state.ensures ∙ c.in_ok-kept.ensures
+        ∙ ap (endings.kept_in c.args.parts.now) c.as_slice.ensures)
+    ∙ contents_kept c.args.parts.now c.args.state.contents)
