@@ -11,5 +11,5 @@ returns c =
     let old = seen c.args.state in
     ap (λ (contents : ℕ → Content). record old { contents = contents })
     (ap content_in (c.in_ok-state.ensures ∙ c.in_ok-kept.ensures
-        ∙ ap (endings.kept_in c.args.parts.now) c.as_slice.ensures)
+    ∙ ap (endings.kept_in c.args.parts.now) c.as_slice.ensures)
     ∙ contents_kept c.args.parts.now c.args.state.contents)
